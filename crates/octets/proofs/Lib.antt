@@ -1,0 +1,5 @@
+pub mod DigitLemmas
+pub mod FrontLemmas
+pub mod IdentifierLemmas
+pub mod LengthLemmas
+pub mod SpellingLemmas

@@ -1,0 +1,23 @@
+-- Contents octets of an INTEGER and of an ENUMERATED number (X.690 8.3 and 8.4): two's complement in
+-- the fewest octets, under every rule.
+use Rattle.std.specs.Prelude.{◌≡◌, ℕ, ◌*◌, ◌/◌, ◌%◌, ◌^◌, ◌<◌, ◌≤◌, List, [], ◌∷◌, length, All, ⊤, ℤ, pos, ◌-ℤ◌}
+use Rattle.octets.specs.Digits.{number_of}
+
+-- 8.3.3: the sum of the place values of the bits that are set, less that of bit 8 of the first octet
+-- where it is set
+abbrev pub integer_of : List ℕ → ℤ
+integer_of [] = pos 0
+integer_of (first ∷ rest) = pos (number_of 256 (first % 128 ∷ rest)) -ℤ pos (first / 128 * (128 * 256 ^ length rest))
+
+-- 8.3.2: the first nine bits are neither all 0 nor all 1
+abbrev pub NineBitsDiffer : List ℕ → Type 0
+NineBitsDiffer [] = ⊤
+NineBitsDiffer (first ∷ []) = ⊤
+NineBitsDiffer (first ∷ second ∷ rest) = (first ≡ 0 → 128 ≤ second) × (first ≡ 255 → second < 128)
+
+-- these are the contents octets of the number
+pub record IsInteger (number : ℤ) (contents : List ℕ) : Type 0 where
+  pub at_least_one : 1 ≤ length contents
+  pub below_256 : All (λ octet. octet < 256) contents
+  pub shortest : NineBitsDiffer contents
+  pub value : integer_of contents ≡ number

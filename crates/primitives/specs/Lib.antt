@@ -1,0 +1,3 @@
+pub mod Boolean
+pub mod Integer
+pub mod Null
