@@ -1,6 +1,6 @@
 -- Contents octets of an INTEGER and of an ENUMERATED number (X.690 8.3 and 8.4): two's complement in
 -- the fewest octets, under every rule.
-use Rattle.std.specs.Prelude.{◌≡◌, ℕ, ◌*◌, ◌/◌, ◌%◌, ◌^◌, ◌<◌, ◌≤◌, List, [], ◌∷◌, length, All, ⊤, ℤ, pos, ◌-ℤ◌}
+use Rattle.std.specs.Prelude.{◌≡◌, ℕ, ◌*◌, ◌/◌, ◌%◌, ◌^◌, ◌<◌, ◌≤◌, List, [], ◌∷◌, length, All, ⊤, ℤ, pos, negsuc, ◌-ℤ◌, ◌-◌, Bool, true, false}
 use Rattle.octets.specs.Digits.{number_of}
 
 -- 8.3.3: the sum of the place values of the bits that are set, less that of bit 8 of the first octet
@@ -21,3 +21,13 @@ pub record IsInteger (number : ℤ) (contents : List ℕ) : Type 0 where
   pub below_256 : All (λ octet. octet < 256) contents
   pub shortest : NineBitsDiffer contents
   pub value : integer_of contents ≡ number
+
+-- the number that stands at this distance above 0, or below -1
+abbrev pub signed : Bool → ℕ → ℤ
+signed false distance = pos distance
+signed true distance = negsuc distance
+
+-- its last octet
+abbrev pub signed_octet : Bool → ℕ → ℕ
+signed_octet false distance = distance % 256
+signed_octet true distance = 255 - distance % 256

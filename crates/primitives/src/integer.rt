@@ -1,8 +1,103 @@
 //! Contents octets of an INTEGER and of an ENUMERATED number (X.690 8.3 and 8.4).
 
-ghost use Rattle.std.specs.Prelude.{◌≡◌, ℤ, FitsSigned, IfSome, IfNone, OnOk, OnErr};
+ghost use Rattle.std.specs.Prelude.{◌≡◌, ◌+◌, ◌*◌, ◌^◌, ◌<◌, ◌≤◌, ◌↔◌, ℤ, length, FitsSigned, IsTrue, IfSome, IfNone, OnOk, OnErr};
 ghost use Rattle.std.specs.Int.{w128};
+ghost use Rattle.octets.specs.Digits.{number_of};
 ghost use Rattle.octets.specs.Front.{Appends};
-ghost use Rattle.primitives.specs.Integer.{IsInteger};
+ghost use Rattle.primitives.specs.Integer.{IsInteger, NineBitsDiffer, signed, signed_octet};
 
 use octets::NoMemory;
+
+/// The number of an INTEGER's contents octets, from -2^127 to 2^127 - 1. Takes no memory.
+pub fn read_integer(contents: &[u8]) -> Option<i128>
+    ensures value { IfSome result (λ number. IsInteger number contents.now) }
+    ensures none { IfNone result ((number : ℤ) → FitsSigned w128 number → ¬ IsInteger number contents.now) }
+{
+    let Some((&first, _)) = contents.split_first() else {
+        return None;
+    };
+    if contents.len() > 16 || !is_shortest(contents) {
+        return None;
+    }
+    if first < 0x80 {
+        Some(number_above(contents) as i128)
+    } else {
+        Some(-1 - number_below(contents) as i128)
+    }
+}
+
+// Whether the first nine bits are neither all 0 nor all 1.
+fn is_shortest(contents: &[u8]) -> bool
+    ensures { IsTrue result ↔ NineBitsDiffer contents.now }
+{
+    match contents {
+        [0x00, second, ..] => *second >= 0x80,
+        [0xFF, second, ..] => *second < 0x80,
+        _ => true,
+    }
+}
+
+// The number that the octets spell without a sign.
+fn number_above(contents: &[u8]) -> u128
+    requires { length contents.now ≤ 16 }
+    ensures { result ≡ number_of 256 contents.now }
+{
+    let mut number = 0u128;
+    for octet in contents {
+        number = number * 256 + u128::from(*octet);
+    }
+    number
+}
+
+// How far below -1 the octets stand, by the bits that are not set.
+fn number_below(contents: &[u8]) -> u128
+    requires { length contents.now ≤ 16 }
+    ensures { result + number_of 256 contents.now + 1 ≡ 256 ^ length contents.now }
+{
+    let mut number = 0u128;
+    for octet in contents {
+        number = number * 256 + u128::from(0xFF - *octet);
+    }
+    number
+}
+
+/// Appends the contents octets of `number`.
+pub fn put_integer(out: &mut Vec<u8>, number: i128) -> Result<(), NoMemory>
+    ensures appended { OnOk result (Appends (IsInteger number) out.old.items out.new.items) }
+    ensures unchanged { OnErr result (out.new.items ≡ out.old.items) }
+{
+    if number < 0 {
+        put_signed(out, true, (-1 - number) as u128)
+    } else {
+        put_signed(out, false, number as u128)
+    }
+}
+
+// Appends the contents octets of the number that stands `distance` above 0, or below -1.
+fn put_signed(out: &mut Vec<u8>, negative: bool, distance: u128) -> Result<(), NoMemory>
+    requires { distance < 2 ^ 127 }
+    ensures appended { OnOk result (Appends (IsInteger (signed negative distance)) out.old.items out.new.items) }
+    ensures unchanged { OnErr result (out.new.items ≡ out.old.items) }
+{
+    // The octets come from the last to the first, and stand at the end of the room for sixteen.
+    let mut spelt = [0u8; 16];
+    let mut start = 16usize;
+    let mut rest = distance;
+    while rest >= 0x80 {
+        start -= 1;
+        spelt[start] = last_octet(negative, rest);
+        rest /= 256;
+    }
+    start -= 1;
+    spelt[start] = last_octet(negative, rest);
+    out.extend_from_slice(&spelt[start..])?;
+    Ok(())
+}
+
+// The last octet of that number.
+fn last_octet(negative: bool, distance: u128) -> u8
+    ensures { result ≡ signed_octet negative distance }
+{
+    let digit = (distance % 256) as u8;
+    if negative { 0xFF - digit } else { digit }
+}

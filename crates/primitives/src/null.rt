@@ -1,6 +1,6 @@
 //! Contents octets of a NULL (X.690 8.8).
 
-ghost use Rattle.std.specs.Prelude.{◌≡◌, ◌↔◌, IsSome, OnOk, OnErr};
+ghost use Rattle.std.specs.Prelude.{◌≡◌, ◌↔◌, IsSome, IsOk, OnOk, OnErr};
 ghost use Rattle.octets.specs.Front.{Appends};
 ghost use Rattle.primitives.specs.Null.{IsNull};
 
@@ -17,6 +17,7 @@ pub fn read_null(contents: &[u8]) -> Option<()>
 pub fn put_null(out: &mut Vec<u8>) -> Result<(), NoMemory>
     ensures appended { OnOk result (Appends IsNull out.old.items out.new.items) }
     ensures unchanged { OnErr result (out.new.items ≡ out.old.items) }
+    ensures always { IsOk result }
 {
     let _ = out;
     Ok(())

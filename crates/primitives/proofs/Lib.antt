@@ -1,0 +1,7 @@
+pub mod BooleanLemmas
+pub mod DigitLemmas
+pub mod IntegerLemmas
+pub mod SubidentifierLemmas
+pub mod OidLemmas
+pub mod BitsLemmas
+mod Instances

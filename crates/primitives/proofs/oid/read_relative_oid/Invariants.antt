@@ -1,0 +1,9 @@
+use Rattle.std.proofs.Common.{length, ◌-◌}
+use Rattle.primitives.proofs.OidLemmas.{AreRead}
+use Rattle.primitives.proofs.oid.read_relative_oid.Given as goal
+
+abbrev pub invariant-loop-start : goal.invariant-loop-start
+invariant-loop-start l = AreRead l.contents l.start l.arcs.items
+
+abbrev pub decreases-loop-start : goal.decreases-loop-start
+decreases-loop-start l = length l.contents - l.start

@@ -1,0 +1,114 @@
+//! A BIT STRING value, and its contents octets in a primitive encoding (X.690 8.6.2 and 11.2.1).
+
+ghost use Rattle.std.specs.Prelude.{◌≡◌, ℕ, ◌-◌, ◌≤◌, ◌↔◌, Bool, false, List, ◌++◌, take, replicate, IfSome, IsSome, IfOk, OnOk, OnErr, IsErrOf};
+ghost use Rattle.std.specs.Cmp.{partial_equiv_from_equiv, bool_eq_equiv};
+ghost use Rattle.std.specs.Cmp.Lexicographic.{pointwise, lists_equiv};
+ghost use mathlib.Core.Bool.{beq};
+ghost use Rattle.octets.specs.Front.{Appends};
+ghost use Rattle.octets.specs.Rule.{ber, der};
+ghost use Rattle.primitives.specs.Bits.{bits_of_octet, bits_before, CanBeUnused, IsBits, IsFrontOf, IsPadded};
+
+use crate::Fault;
+use octets::NoMemory;
+use std::alloc::Global;
+use std::marker::Model;
+
+/// A list of bits, eight to an octet, bit 8 first.
+#[derive(Debug, Drop)]
+pub struct Bits {
+    octets: Vec<u8>,
+    unused: u8,
+}
+
+impl Model for Bits {
+    ghost Value = { List Bool };
+
+    ghost view = { λ bits. bits_before bits.octets.items bits.unused };
+
+    ghost invariant = { λ bits. IsPadded (bits_before bits.octets.items bits.unused) bits.octets.items bits.unused };
+}
+
+impl Bits {
+    /// The bits of `octets` but the last `unused`, which are cleared. Takes no memory.
+    pub fn new(mut octets: Vec<u8>, unused: u8) -> Option<Bits>
+        ensures value { IfSome result (λ bits. IsFrontOf bits unused octets.items) }
+        ensures some { IsSome result ↔ CanBeUnused unused octets.items }
+    {
+        if unused > 7 {
+            return None;
+        }
+        if unused == 0 {
+            return Some(Bits { octets, unused });
+        }
+        if octets.is_empty() {
+            return None;
+        }
+        let last = octets.len() - 1;
+        octets[last] = cleared(octets[last], unused);
+        Some(Bits { octets, unused })
+    }
+
+    /// The octets that `new` would take for these bits. The unused bits are zero.
+    pub fn octets(&self) -> &[u8]
+        ensures { (unused : ℕ) × IsPadded self.now result.now unused }
+    {
+        &self.octets
+    }
+
+    /// How many bits of the last octet are unused.
+    pub fn unused(&self) -> u8
+        ensures { (octets : List ℕ) × IsPadded self.now octets result }
+    {
+        self.unused
+    }
+}
+
+impl PartialEq for Bits {
+    ghost eq = { pointwise beq };
+
+    ghost laws = { partial_equiv_from_equiv (lists_equiv bool_eq_equiv) };
+
+    fn eq(&self, other: &Bits) -> bool {
+        self.unused == other.unused && self.octets == other.octets
+    }
+}
+
+impl Eq for Bits {
+    ghost laws = { lists_equiv bool_eq_equiv };
+}
+
+// The octet with its last `unused` bits zero.
+#[tactic(auto, using(crate::proofs::BitsLemmas::shifted_octet))]
+fn cleared(octet: u8, unused: u8) -> u8
+    requires { unused ≤ 7 }
+    ensures { bits_of_octet result ≡ take (8 - unused) (bits_of_octet octet) ++ replicate unused false }
+{
+    octet >> unused << unused
+}
+
+/// The value of a BIT STRING's contents octets in a primitive encoding under BER. That unused bits are
+/// zero under CER and DER is tested by their readers.
+pub fn read_bits(alloc: Global, contents: &[u8]) -> Result<Bits, Fault>
+    ensures value { IfOk result (λ bits. IsBits ber bits contents.now) }
+    ensures none { IsErrOf result Fault.Contents → (bits : List Bool) → ¬ IsBits ber bits contents.now }
+{
+    let Some((&unused, data)) = contents.split_first() else {
+        return Err(Fault::Contents);
+    };
+    let octets = Vec::from_slice(alloc, data)?;
+    Bits::new(octets, unused).ok_or(Fault::Contents)
+}
+
+/// Appends the contents octets of a BIT STRING in a primitive encoding under CER and DER.
+pub fn put_bits(out: &mut Vec<u8>, bits: &Bits) -> Result<(), NoMemory>
+    ensures appended { OnOk result (Appends (IsBits der bits.now) out.old.items out.new.items) }
+    ensures unchanged { OnErr result (out.new.items ≡ out.old.items) }
+{
+    let before = out.len();
+    out.push(bits.unused)?;
+    if out.extend_from_slice(&bits.octets).is_err() {
+        out.truncate(before);
+        return Err(NoMemory);
+    }
+    Ok(())
+}

@@ -1,0 +1,106 @@
+//! Contents octets of an OBJECT IDENTIFIER and of a RELATIVE-OID (X.690 8.19 and 8.20).
+//!
+//! The limits on the number and the size of subidentifiers are this project's own (`docs/PROFILE.md`).
+
+ghost use Rattle.std.specs.Prelude.{◌≡◌, ℕ, List, ◌∷◌, ◌++◌, IfOk, OnOk, OnErr, IsErrOf};
+ghost use Rattle.octets.specs.Front.{Appends};
+ghost use Rattle.primitives.specs.Oid.{AreSubidentifiers, IsFirstArc, IsOid, IsOidValue, IsRelativeOid, IsRelativeOidValue};
+
+use crate::subidentifier::{put_subidentifier, read_subidentifier};
+use crate::{Fault, MAX_SUBIDENTIFIERS};
+use octets::NoMemory;
+use std::alloc::Global;
+
+/// The arcs of an OBJECT IDENTIFIER's contents octets.
+pub fn read_oid(alloc: Global, contents: &[u8]) -> Result<Vec<u128>, Fault>
+    ensures value { IfOk result (λ arcs. IsOid arcs.items contents.now) }
+    ensures within { IfOk result (λ arcs. IsOidValue arcs.items) }
+    ensures none { IsErrOf result Fault.Contents → (arcs : List ℕ) → IsOidValue arcs → ¬ IsOid arcs contents.now }
+{
+    let mut arcs = read_relative_oid(alloc, contents)?;
+    let shared = arcs[0];
+    let first = first_arc(shared);
+    arcs[0] = shared - 40 * first;
+    arcs.insert(0, first)?;
+    Ok(arcs)
+}
+
+// The first arc of the two that share a subidentifier.
+fn first_arc(shared: u128) -> u128
+    ensures { IsFirstArc shared result }
+{
+    if shared < 40 {
+        0
+    } else if shared < 80 {
+        1
+    } else {
+        2
+    }
+}
+
+/// The arcs of a RELATIVE-OID's contents octets.
+pub fn read_relative_oid(alloc: Global, contents: &[u8]) -> Result<Vec<u128>, Fault>
+    ensures value { IfOk result (λ arcs. IsRelativeOid arcs.items contents.now) }
+    ensures within { IfOk result (λ arcs. IsRelativeOidValue arcs.items) }
+    ensures none { IsErrOf result Fault.Contents → (arcs : List ℕ) → IsRelativeOidValue arcs → ¬ IsRelativeOid arcs contents.now }
+{
+    let mut arcs = Vec::new(alloc);
+    let mut start = 0usize;
+    while start < contents.len() {
+        if arcs.len() == MAX_SUBIDENTIFIERS {
+            return Err(Fault::Contents);
+        }
+        let Some((arc, used)) = read_subidentifier(&contents[start..]) else {
+            return Err(Fault::Contents);
+        };
+        arcs.push(arc)?;
+        start += used;
+    }
+    if arcs.is_empty() {
+        return Err(Fault::Contents);
+    }
+    Ok(arcs)
+}
+
+/// Appends the contents octets of an OBJECT IDENTIFIER.
+pub fn put_oid(out: &mut Vec<u8>, arcs: &[u128]) -> Result<(), NoMemory>
+    requires { IsOidValue arcs.now }
+    ensures appended { OnOk result (Appends (IsOid arcs.now) out.old.items out.new.items) }
+    ensures unchanged { OnErr result (out.new.items ≡ out.old.items) }
+{
+    put_subidentifiers(out, 40 * arcs[0] + arcs[1], &arcs[2..])
+}
+
+/// Appends the contents octets of a RELATIVE-OID.
+pub fn put_relative_oid(out: &mut Vec<u8>, arcs: &[u128]) -> Result<(), NoMemory>
+    requires { IsRelativeOidValue arcs.now }
+    ensures appended { OnOk result (Appends (IsRelativeOid arcs.now) out.old.items out.new.items) }
+    ensures unchanged { OnErr result (out.new.items ≡ out.old.items) }
+{
+    put_subidentifiers(out, arcs[0], &arcs[1..])
+}
+
+// Appends the octets of subidentifiers.
+fn put_subidentifiers(out: &mut Vec<u8>, first: u128, others: &[u128]) -> Result<(), NoMemory>
+    ensures appended { OnOk result (Appends (AreSubidentifiers (first ∷ others.now)) out.old.items out.new.items) }
+    ensures unchanged { OnErr result (out.new.items ≡ out.old.items) }
+{
+    let before = out.len();
+    let put = try_put_subidentifiers(out, first, others);
+    if put.is_err() {
+        out.truncate(before);
+    }
+    put
+}
+
+// The same, but some may stand where memory was refused.
+fn try_put_subidentifiers(out: &mut Vec<u8>, first: u128, others: &[u128]) -> Result<(), NoMemory>
+    ensures appended { OnOk result (Appends (AreSubidentifiers (first ∷ others.now)) out.old.items out.new.items) }
+    ensures kept { (more : List ℕ) × (out.new.items ≡ out.old.items ++ more) }
+{
+    put_subidentifier(out, first)?;
+    for number in others {
+        put_subidentifier(out, *number)?;
+    }
+    Ok(())
+}
