@@ -1,0 +1,2 @@
+pub mod AlphabetLemmas
+pub mod TimeLemmas
