@@ -1,0 +1,26 @@
+//! Values.
+
+use primitives::Bits;
+
+/// A value of some type.
+#[derive(Debug, Drop)]
+pub enum Value {
+    /// A value of BOOLEAN.
+    Boolean(bool),
+    /// A value of INTEGER.
+    Integer(i128),
+    /// A value of ENUMERATED: the number of an item.
+    Enumerated(i128),
+    /// The value of NULL.
+    Null,
+    /// The arcs of an OBJECT IDENTIFIER.
+    Oid(Vec<u128>),
+    /// The arcs of a RELATIVE-OID.
+    RelativeOid(Vec<u128>),
+    /// The bits of a BIT STRING.
+    Bits(Bits),
+    /// The octets of an OCTET STRING.
+    Octets(Vec<u8>),
+    /// The octets of a character string or a time.
+    Text(Vec<u8>),
+}
