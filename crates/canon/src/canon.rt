@@ -1,0 +1,34 @@
+//! What a writer of canonical encodings promises.
+
+ghost use Rattle.std.specs.Prelude.{◌≡◌, ◌↔◌, ℕ, List, OnOk, OnErr, IfErr};
+ghost use Rattle.octets.specs.Front.{Appends};
+ghost use Rattle.octets.specs.Rule.{Rule};
+ghost use Rattle.types.specs.Conforms.{Conforms};
+ghost use Rattle.types.specs.Encoding.{IsAccepted};
+ghost use Rattle.types.specs.Refusal.{IsOfWriting};
+ghost use Rattle.types.specs.View.{ty_view, value_view};
+
+use std::alloc::Global;
+use types::{Refusal, Value, WellTyped};
+
+/// Writes values by an encoding rule that gives each of them one encoding.
+pub trait Canon {
+    ghost rule: { Rule };
+
+    /// Appends the encoding of `value`, which conforms to `ty`: `conforms` tells. `OutputTooLong` says
+    /// that it would have more than `MAX_ENCODING` octets, and no want of memory hides that.
+    fn put(
+        &self,
+        alloc: Global,
+        ty: &WellTyped,
+        value: &Value,
+        out: &mut Vec<u8>,
+    ) -> Result<(), Refusal>
+        requires { Conforms (ty_view ty.now) (value_view value.now) }
+        ensures appended { OnOk result
+            (Appends (IsAccepted rule (ty_view ty.now) (value_view value.now)) out.old.items out.new.items) }
+        ensures unchanged { OnErr result (out.new.items ≡ out.old.items) }
+        ensures too_long { (result ≡ Err Refusal.OutputTooLong) ↔
+            ((b : List ℕ) → ¬ IsAccepted rule (ty_view ty.now) (value_view value.now) b) }
+        ensures numbers { IfErr result IsOfWriting };
+}
