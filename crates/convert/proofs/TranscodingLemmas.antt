@@ -1,0 +1,50 @@
+-- Lemmas on the conversion of one value.
+use Rattle.std.proofs.Common.{◌≡◌, ℕ, ◌≤◌, ◌<◌, ◌⊎◌, List, [], ◌++◌, inl, inr, length, take, drop, refl, sym, ◌∙◌, ap, arith, append-nil, length-append}
+use Rattle.std.proofs.lemmas.List.{length-take-le}
+use Rattle.octets.specs.Rule as encoding
+use Rattle.types.specs.declared.refusal.Refusal.{Refusal}
+use Rattle.types.specs.declared.refusal.Refusal.TheVariants.{Truncated, NotCanonical, OutputTooLong, NoMemory}
+use Rattle.types.specs.Encoding.{IsAccepted, IsSomeAccepted}
+use Rattle.types.specs.Refusal.{IsFinal, IsOfReading, IsOfWriting}
+use Rattle.types.specs.Shape.{Shape, Val}
+use Rattle.types.specs.WellFormed.{IsWellFormed}
+use Rattle.types.specs.Same.{IsSame}
+use Rattle.types.proofs.EncodingLemmas.{encoding_unique}
+use Rattle.convert.specs.declared.rule.Rule.{Rule}
+use Rattle.convert.specs.declared.rule.Rule.TheVariants.{Ber}
+use Rattle.convert.specs.Rule.{rule_of}
+use Rattle.convert.proofs.ReadingLemmas.{front_of_more}
+
+pub rule_of-is : (r : Rule) → rule_of r ≡ encoding.ber
+rule_of-is Ber = refl
+
+-- what a reader refuses with says that octets are missing, that they are wrong, or that memory was refused
+pub cases_of_reading : (refusal : Refusal) → IsOfReading refusal → (refusal ≡ Truncated) ⊎ (IsFinal refusal ⊎ (refusal ≡ NoMemory))
+cases_of_reading Truncated h = inl refl
+cases_of_reading NoMemory h = inr (inr refl)
+cases_of_reading NotCanonical h = absurd h
+cases_of_reading refusal h = inr (inl h)
+
+pub cases_of_writing : (refusal : Refusal) → IsOfWriting refusal → (refusal ≡ OutputTooLong) ⊎ (refusal ≡ NoMemory)
+cases_of_writing OutputTooLong h = inl refl
+cases_of_writing NoMemory h = inr refl
+cases_of_writing refusal h = absurd h
+
+-- the encoding at the front is the one that fills what begins so
+pub front_is_whole : (shape : Shape) (v : Val) (n : ℕ) (octets more : List ℕ) → IsWellFormed shape → n ≤ length octets → IsAccepted encoding.ber shape v (take n octets) → (h : IsSomeAccepted encoding.ber shape (octets ++ more))
+    → (n ≡ length (octets ++ more)) × IsSame shape v h.0
+front_is_whole shape v n octets more well there read h =
+    let whole = octets ++ more in
+    let same = encoding_unique shape v h.0 (take n octets) whole (drop n octets ++ more) [] well read.encoding h.1.encoding (sym (front_of_more n octets more) ∙ sym (append-nil whole)) in
+    (sym (length-take-le n octets there) ∙ ap length same.octets, same.values)
+
+-- what is left over belongs to no encoding
+pub none_left_over : (shape : Shape) (v : Val) (n : ℕ) (octets more : List ℕ) → IsWellFormed shape → n < length octets → IsAccepted encoding.ber shape v (take n octets) → IsSomeAccepted encoding.ber shape (octets ++ more) → ⊥
+none_left_over shape v n octets more well left read h =
+    let same = front_is_whole shape v n octets more well (omega arith) read h in
+    absurd (omega (arith, same.0, length-append octets more))
+
+-- values without parts are the same where they are equal
+pub IsSame-equal : (shape : Shape) (v w : Val) → IsSame shape v w → v ≡ w
+IsSame-equal (Shape.simple tag type) v w h = h
+IsSame-equal (Shape.string tag type) v w h = h
