@@ -1,0 +1,33 @@
+//! BOOLEAN (X.690 8.2 and 11.1).
+
+use crate::answers::{Answer, check, universal};
+use std::test::Fail;
+use types::{Refusal, Ty, WellTyped};
+
+#[test]
+fn boolean_encodings(rt: HostRuntime) -> Result<(), Fail> {
+    let ty = WellTyped::new(Ty::Boolean(universal(1)))?;
+    // (octets, under DER)
+    let cases: [(&[u8], Answer); 16] = [
+        (&[0x01, 0x01, 0x2A], Ok(&[0x01, 0x01, 0xFF])),
+        (&[0x01, 0x01, 0x01], Ok(&[0x01, 0x01, 0xFF])),
+        (&[0x01, 0x01, 0x00], Ok(&[0x01, 0x01, 0x00])),
+        (&[0x01, 0x01, 0xFF], Ok(&[0x01, 0x01, 0xFF])),
+        (&[0x01, 0x81, 0x01, 0x2A], Ok(&[0x01, 0x01, 0xFF])),
+        (&[0x01, 0x82, 0x00, 0x01, 0x00], Ok(&[0x01, 0x01, 0x00])),
+        (&[], Err(Refusal::Truncated)),
+        (&[0x01, 0x01], Err(Refusal::Truncated)),
+        (&[0x01, 0x02, 0xFF], Err(Refusal::Contents)),
+        (&[0x01, 0x01, 0xFF, 0x02], Err(Refusal::Identifier)),
+        (&[0x01, 0x01, 0xFF, 0x00, 0x00], Err(Refusal::Identifier)),
+        (&[0x02, 0x01, 0xFF], Err(Refusal::Identifier)),
+        (&[0x21, 0x03, 0x01, 0x01, 0xFF], Err(Refusal::Form)),
+        (&[0x00, 0x00], Err(Refusal::EndOfContents)),
+        (&[0x01, 0x00], Err(Refusal::Contents)),
+        (&[0x01, 0x02, 0xFF, 0xFF], Err(Refusal::Contents)),
+    ];
+    for (octets, want) in cases {
+        check(&rt, &ty, octets, want);
+    }
+    Ok(())
+}
