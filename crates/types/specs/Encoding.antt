@@ -1,10 +1,10 @@
 -- The encodings of a value (X.690 clauses 8 to 11).
-use Rattle.types.specs.Strings.{IsStringEncoding, bit_segment, octet_segment, IsWholeOctets, AreOctets, AlwaysWhole}
+use Rattle.types.specs.Strings.{IsOneEncoding, IsStringEncoding, bit_segment, octet_segment, IsWholeOctets, AreOctets, AlwaysWhole}
 use Rattle.primitives.specs.Bits.{IsBits}
 use Rattle.std.specs.Prelude.{◌≡◌, ℕ, ◌≤◌, List, length, Bool}
 use Rattle.octets.specs.declared.TheConstants.{MAX_ENCODING}
 use Rattle.octets.specs.declared.tag.Tag.{Tag}
-use Rattle.octets.specs.Rule.{Rule}
+use Rattle.octets.specs.Rule.{Rule, ber, cer, der}
 use Rattle.types.specs.Shape.{SimpleType, StringType, SimpleValue, StringValue, Shape, Val}
 use Rattle.types.specs.Conforms.{Conforms}
 use Rattle.types.specs.Form.{IsPrimitive}
@@ -35,11 +35,18 @@ pub record EncodesOctets (rule : Rule) (tag : Tag) (v : Val) (octets : List ℕ)
   pub is : v ≡ Val.string (StringValue.octets string_octets)
   pub string : IsStringEncoding rule tag octet_segment AreOctets AlwaysWhole string_octets octets
 
--- an encoding of a character string or a time, as of an OCTET STRING (8.23 and 8.25)
+-- the encodings of a character string or a time are those of an OCTET STRING (8.23 and 8.25), under BER
+-- the primitive ones
+abbrev pub IsTextEncoding : Rule → Tag → List ℕ → List ℕ → Type 0
+IsTextEncoding ber tag string octets = IsOneEncoding ber tag AreOctets string octets
+IsTextEncoding cer tag string octets = IsStringEncoding cer tag octet_segment AreOctets AlwaysWhole string octets
+IsTextEncoding der tag string octets = IsStringEncoding der tag octet_segment AreOctets AlwaysWhole string octets
+
+-- an encoding of a character string or a time
 pub record EncodesText (rule : Rule) (tag : Tag) (v : Val) (octets : List ℕ) : Type 0 where
   pub text_octets : List ℕ
   pub is : v ≡ Val.string (StringValue.text text_octets)
-  pub string : IsStringEncoding rule tag octet_segment AreOctets AlwaysWhole text_octets octets
+  pub string : IsTextEncoding rule tag text_octets octets
 
 abbrev pub EncodesString : Rule → Tag → StringType → Val → List ℕ → Type 0
 EncodesString rule tag StringType.bit_string v octets = EncodesBits rule tag v octets

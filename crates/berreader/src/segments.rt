@@ -1,0 +1,286 @@
+//! A constructed string, read part by part.
+
+ghost use Rattle.std.specs.Prelude.{◌≡◌, ◌+◌, ◌<◌, ◌≤◌, ◌++◌, ℕ, List, true, false, take, length, slice_range, IfOk, IfErr, OnOk, MatchOption, ◌⊎◌};
+ghost use Rattle.octets.specs.declared.TheConstants.{MAX_ENCODING};
+ghost use Rattle.octets.specs.declared.tag.Tag.{Tag};
+ghost use Rattle.octets.specs.Identifier.{IsIdentifier};
+ghost use Rattle.octets.specs.Rule.{ber};
+ghost use Rattle.types.specs.Form.{IsPrimitive};
+ghost use Rattle.types.specs.Refusal.{IsFinal, IsOfReading};
+ghost use Rattle.berreader.specs.Completing.{IsEndOf, Opens};
+ghost use Rattle.berreader.specs.Head.{IsExtentWithin, IsPrimitiveWithin, IsReadTag, IsTagWithin};
+ghost use Rattle.berreader.specs.Joined.{segment_of};
+ghost use Rattle.berreader.specs.Segments.{CanComplete, EndsAt, IsOpened, IsSound, IsTaken, IsTop};
+
+use crate::MAX_NESTED;
+use crate::frame::{Frame, close, open, past_end};
+use crate::head::{Extent, cut, read_extent, read_tag};
+use crate::joined::{Joined, Kind, segment_tag};
+use std::alloc::Global;
+use types::Refusal;
+
+/// A constructed string whose parts are being read.
+#[derive(Debug, Drop)]
+pub struct Segments {
+    /// The open encodings, the outermost first.
+    pub frames: Vec<Frame>,
+    /// How many octets have been taken, counted from the front of the outermost encoding.
+    pub taken: usize,
+    /// The string so far.
+    pub joined: Joined,
+}
+
+impl Segments {
+    // A string of which only this encoding's identifier octets and length octets have been taken.
+    pub fn new(alloc: Global, frame: Frame, taken: usize) -> Result<Segments, Refusal>
+        ensures opened { IfOk result (λ segments. IsOpened frame taken segments) }
+        ensures numbers { IfErr result (λ refusal. refusal ≡ Refusal.NoMemory) }
+    {
+        let mut frames = Vec::new(alloc);
+        match open(&mut frames, frame) {
+            Ok(()) => Ok(Segments {
+                frames,
+                taken,
+                joined: Joined::new(alloc),
+            }),
+            Err(_) => Err(Refusal::NoMemory),
+        }
+    }
+
+    // Takes what stands next in the innermost open encoding, and answers how many octets it has: its
+    // end, a primitive segment, or the identifier octets and length octets of a constructed one.
+    pub fn step(&mut self, kind: Kind, frame: Frame, octets: &[u8]) -> Result<usize, Refusal>
+        requires top { IsTop frame self.old.frames.items }
+        requires sound { IsSound kind self.old }
+        ensures taken { IfOk result (λ used. IsTaken kind self.old self.new octets.now used) }
+        ensures sound { OnOk result (IsSound kind self.new) }
+        ensures smaller { IfOk result (λ used.
+            length self.new.frames.items < length self.old.frames.items + used) }
+        ensures truncated { result ≡ Err Refusal.Truncated →
+            ¬ CanComplete kind self.old octets.now }
+        ensures never { IfErr result (λ refusal. IsFinal refusal → (more : List ℕ) →
+            ¬ CanComplete kind self.old (octets.now ++ more)) }
+        ensures numbers { IfErr result IsOfReading }
+    {
+        match read_end(frame, self.taken, octets) {
+            Ok(Some(used)) => {
+                close(&mut self.frames);
+                self.taken += used;
+                Ok(used)
+            }
+            Ok(None) => self.segment(kind, frame, octets),
+            Err(refusal) => Err(refusal),
+        }
+    }
+
+    // Takes a segment, or the beginning of a constructed one.
+    fn segment(&mut self, kind: Kind, frame: Frame, octets: &[u8]) -> Result<usize, Refusal>
+        requires top { IsTop frame self.old.frames.items }
+        requires sound { IsSound kind self.old }
+        requires no_end { (more : List ℕ) →
+            ¬ EndsAt frame self.old.taken (octets.now ++ more) }
+        ensures taken { IfOk result (λ used. IsTaken kind self.old self.new octets.now used) }
+        ensures sound { OnOk result (IsSound kind self.new) }
+        ensures smaller { IfOk result (λ used.
+            length self.new.frames.items < length self.old.frames.items + used) }
+        ensures truncated { result ≡ Err Refusal.Truncated →
+            ¬ CanComplete kind self.old octets.now }
+        ensures never { IfErr result (λ refusal. IsFinal refusal → (more : List ℕ) →
+            ¬ CanComplete kind self.old (octets.now ++ more)) }
+        ensures numbers { IfErr result IsOfReading }
+    {
+        let (constructed, identifier) = match read_tag(
+            segment_tag(kind),
+            frame.end,
+            self.taken,
+            octets,
+        ) {
+            Ok(found) => found,
+            Err(refusal) => return Err(refusal),
+        };
+        if self.joined.unused != 0 {
+            return Err(Refusal::Contents);
+        }
+        if constructed {
+            self.constructed(kind, frame, identifier, octets)
+        } else {
+            self.primitive(kind, frame, identifier, octets)
+        }
+    }
+
+    // Takes the length octets of a constructed segment, and opens it.
+    fn constructed(
+        &mut self,
+        kind: Kind,
+        frame: Frame,
+        identifier: usize,
+        octets: &[u8],
+    ) -> Result<usize, Refusal>
+        requires top { IsTop frame self.old.frames.items }
+        requires sound { IsSound kind self.old }
+        requires no_end { (more : List ℕ) →
+            ¬ EndsAt frame self.old.taken (octets.now ++ more) }
+        requires whole { self.old.joined.unused ≡ 0 }
+        requires tagged { IsReadTag (segment_of kind) frame.end self.old.taken octets.now true identifier }
+        ensures taken { IfOk result (λ used. IsTaken kind self.old self.new octets.now used) }
+        ensures sound { OnOk result (IsSound kind self.new) }
+        ensures smaller { IfOk result (λ used.
+            length self.new.frames.items < length self.old.frames.items + used) }
+        ensures truncated { result ≡ Err Refusal.Truncated →
+            ¬ CanComplete kind self.old octets.now }
+        ensures never { IfErr result (λ refusal. IsFinal refusal → (more : List ℕ) →
+            ¬ CanComplete kind self.old (octets.now ++ more)) }
+        ensures numbers { IfErr result IsOfReading }
+    {
+        if self.frames.len() >= MAX_NESTED {
+            return Err(Refusal::TooDeep);
+        }
+        let after = self.taken + identifier;
+        let (used, opened) = match read_opening(frame.end, after, &octets[identifier..]) {
+            Ok(found) => found,
+            Err(refusal) => return Err(refusal),
+        };
+        match open(&mut self.frames, opened) {
+            Ok(()) => {
+                self.taken = after + used;
+                Ok(identifier + used)
+            }
+            Err(_) => Err(Refusal::NoMemory),
+        }
+    }
+
+    // Takes the rest of a primitive segment.
+    fn primitive(
+        &mut self,
+        kind: Kind,
+        frame: Frame,
+        identifier: usize,
+        octets: &[u8],
+    ) -> Result<usize, Refusal>
+        requires top { IsTop frame self.old.frames.items }
+        requires sound { IsSound kind self.old }
+        requires no_end { (more : List ℕ) →
+            ¬ EndsAt frame self.old.taken (octets.now ++ more) }
+        requires whole { self.old.joined.unused ≡ 0 }
+        requires tagged { IsReadTag (segment_of kind) frame.end self.old.taken octets.now false identifier }
+        ensures taken { IfOk result (λ used. IsTaken kind self.old self.new octets.now used) }
+        ensures sound { OnOk result (IsSound kind self.new) }
+        ensures smaller { IfOk result (λ used.
+            length self.new.frames.items < length self.old.frames.items + used) }
+        ensures truncated { result ≡ Err Refusal.Truncated →
+            ¬ CanComplete kind self.old octets.now }
+        ensures never { IfErr result (λ refusal. IsFinal refusal → (more : List ℕ) →
+            ¬ CanComplete kind self.old (octets.now ++ more)) }
+        ensures numbers { IfErr result IsOfReading }
+    {
+        let (start, end) = match read_contents_place(frame.end, self.taken, identifier, octets) {
+            Ok(place) => place,
+            Err(refusal) => return Err(refusal),
+        };
+        match self.joined.join(kind, &octets[start..end]) {
+            Ok(()) => {
+                self.taken += end;
+                Ok(end)
+            }
+            Err(refusal) => Err(refusal),
+        }
+    }
+}
+
+// How many octets the end of the encoding has, if it ends here.
+fn read_end(frame: Frame, taken: usize, octets: &[u8]) -> Result<Option<usize>, Refusal>
+    ensures value { IfOk result (λ found. MatchOption found
+        ((more : List ℕ) → ¬ EndsAt frame taken (octets.now ++ more))
+        (λ used. (used ≤ length octets.now) × IsEndOf frame taken (take used octets.now))) }
+    ensures truncated { result ≡ Err Refusal.Truncated → (kind : Kind) →
+        ¬ (EndsAt frame taken octets.now ⊎ IsTagWithin (segment_of kind) frame.end taken octets.now) }
+    ensures never { IfErr result (λ refusal. IsFinal refusal → (more : List ℕ) (kind : Kind) →
+        ¬ (EndsAt frame taken (octets.now ++ more)
+        ⊎ IsTagWithin (segment_of kind) frame.end taken (octets.now ++ more))) }
+    ensures numbers { IfErr result IsOfReading }
+{
+    if frame.definite {
+        return Ok(if taken == frame.end { Some(0) } else { None });
+    }
+    let room = frame.end.saturating_sub(taken);
+    let Some((&first, others)) = octets.split_first() else {
+        return Err(cut(0, room, frame.end));
+    };
+    if first != 0 {
+        return Ok(None);
+    }
+    if room < 2 {
+        return Err(past_end(frame.end));
+    }
+    match others.first() {
+        Some(0) => Ok(Some(2)),
+        Some(_) => Err(Refusal::EndOfContents),
+        None => Err(Refusal::Truncated),
+    }
+}
+
+// How many length octets stand at the front, and what they open.
+pub fn read_opening(end: usize, taken: usize, octets: &[u8]) -> Result<(usize, Frame), Refusal>
+    requires { end ≤ MAX_ENCODING }
+    ensures value { IfOk result (λ p.
+        (p.0 ≤ length octets.now) × Opens end taken p.1 (take p.0 octets.now)) }
+    ensures truncated { result ≡ Err Refusal.Truncated → ¬ IsExtentWithin true end taken octets.now }
+    ensures never { IfErr result (λ refusal. IsFinal refusal → (more : List ℕ) →
+        ¬ IsExtentWithin true end taken (octets.now ++ more)) }
+    ensures numbers { IfErr result IsOfReading }
+{
+    match read_extent(true, end, taken, octets) {
+        Ok(Extent::Definite { octets: size, used }) => Ok((
+            used,
+            Frame {
+                definite: true,
+                end: taken + used + size,
+            },
+        )),
+        Ok(Extent::Indefinite { used }) => Ok((
+            used,
+            Frame {
+                definite: false,
+                end,
+            },
+        )),
+        Err(refusal) => Err(refusal),
+    }
+}
+
+// Where the contents octets of the primitive encoding at the front begin and end, by its identifier
+// octets.
+pub fn read_contents_place(
+    end: usize,
+    taken: usize,
+    identifier: usize,
+    octets: &[u8],
+) -> Result<(usize, usize), Refusal>
+    requires within { end ≤ MAX_ENCODING }
+    requires there { identifier ≤ length octets.now }
+    requires fits { taken + identifier ≤ end }
+    ensures bounds { IfOk result (λ p.
+        (p.0 ≤ p.1) × (p.1 ≤ length octets.now) × (taken + p.1 ≤ end)) }
+    ensures value { IfOk result (λ p. (tag : Tag) →
+        IsIdentifier tag false (take identifier octets.now) →
+        IsPrimitive ber tag (slice_range octets.now p.0 p.1) (take p.1 octets.now)) }
+    ensures truncated { result ≡ Err Refusal.Truncated → (tag : Tag) →
+        IsIdentifier tag false (take identifier octets.now) →
+        ¬ IsPrimitiveWithin tag end taken octets.now }
+    ensures never { IfErr result (λ refusal. IsFinal refusal → (more : List ℕ) (tag : Tag) →
+        IsIdentifier tag false (take identifier octets.now) →
+        ¬ IsPrimitiveWithin tag end taken (octets.now ++ more)) }
+    ensures numbers { IfErr result IsOfReading }
+{
+    match read_extent(false, end, taken + identifier, &octets[identifier..]) {
+        Ok(Extent::Definite { octets: size, used }) => {
+            let start = identifier + used;
+            if size > octets.len() - start {
+                return Err(Refusal::Truncated);
+            }
+            Ok((start, start + size))
+        }
+        Ok(Extent::Indefinite { .. }) => Err(Refusal::Form),
+        Err(refusal) => Err(refusal),
+    }
+}
