@@ -1,5 +1,4 @@
 pub mod ResultLemmas
-pub mod ReadingLemmas
-pub mod AcceptedLemmas
+pub mod FrontLemmas
 pub mod TranscodingLemmas
 pub mod HexLemmas

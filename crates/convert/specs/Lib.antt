@@ -1,5 +1,4 @@
 pub mod Rule
-pub mod Primitive
 pub mod Transcoding
 pub mod HexText
 pub mod Line

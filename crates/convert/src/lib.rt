@@ -4,7 +4,6 @@
 mod command_line;
 mod fault;
 mod hex_text;
-mod primitive_reading;
 mod rule;
 mod running;
 mod transcoding;

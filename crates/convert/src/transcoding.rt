@@ -9,8 +9,8 @@ ghost use Rattle.types.specs.View.{ty_view, value_view};
 ghost use Rattle.convert.specs.Rule.{rule_of, canonical_rule_of};
 ghost use Rattle.convert.specs.Transcoding.{IsTranscoded, HasNoShortEncoding};
 
-use crate::primitive_reading::read;
 use crate::{Canonical, Rule};
+use berreader::read;
 use canon::{Canon, Cer, Der};
 use std::alloc::Global;
 use types::{Refusal, Value, WellTyped};

@@ -80,7 +80,7 @@ octets_cut_once = record {
 }
 
 -- how many bits there are in so many contents octets
-bits_count : (rule : Rule) (bits : List Bool) (contents : List ℕ) → (h : IsBits rule bits contents) → 8 * length contents ≡ length bits + h.unused + 8
+pub bits_count : (rule : Rule) (bits : List Bool) (contents : List ℕ) → (h : IsBits rule bits contents) → 8 * length contents ≡ length bits + h.unused + 8
 bits_count rule bits contents h = omega (arith, ap length h.contents_are, length-bits_of h.octets, ap length h.bits_are, length-append bits h.tail, h.tail_is)
 
 -- CER and DER have the same contents octets

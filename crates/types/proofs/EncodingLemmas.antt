@@ -1,5 +1,5 @@
 -- Lemmas on the encodings of values.
-use Rattle.std.proofs.Common.{◌≡◌, ℕ, List, Bool, true, false, refl, sym, ◌∙◌, ap, subst, ◌++◌}
+use Rattle.std.proofs.Common.{◌≡◌, ℕ, List, Bool, true, false, refl, sym, ◌∙◌, ap, subst, ◌++◌, arith}
 use Rattle.types.specs.Encoding.{EncodesText}
 use Rattle.octets.specs.declared.tag.Tag.{Tag}
 use Rattle.octets.specs.Rule.{ber, der}
@@ -14,7 +14,9 @@ use Rattle.types.specs.Shape.{SimpleType, StringType, SimpleValue, StringValue, 
 use Rattle.types.specs.Form.{IsPrimitive}
 use Rattle.types.specs.Contents.{IsContents, IsStringContents}
 use Rattle.types.specs.Laws.{NoEncodingBeginsAnother, OneCanonicalEncoding}
+use Rattle.types.specs.Strings.{bit_segment, octet_segment, IsWholeOctets, AreOctets, AlwaysWhole}
 use Rattle.types.proofs.FormLemmas.{definite_unique, one_definite}
+use Rattle.types.proofs.SegmentLemmas.{string_unique}
 
 boolean_value : (v w : Bool) (c : List ℕ) → IsBoolean ber v c → IsBoolean ber w c → v ≡ w
 boolean_value true true c h k = refl
@@ -31,18 +33,11 @@ contents_value SimpleType.null v w c h k = h.is ∙ sym k.is
 contents_value SimpleType.oid v w c h k = h.is ∙ (ap SimpleValue.oid (one_oid_value h.arcs k.arcs c h.spelt k.spelt) ∙ sym k.is)
 contents_value SimpleType.relative_oid v w c h k = h.is ∙ (ap SimpleValue.relative_oid (one_relative_oid_value h.arcs k.arcs c h.spelt k.spelt) ∙ sym k.is)
 
-string_value : (type : StringType) (v w : StringValue) (c : List ℕ) → IsStringContents ber type v c → IsStringContents ber type w c → v ≡ w
-string_value StringType.bit_string v w c h k = h.is ∙ (ap StringValue.bits (one_bits_value ber ber h.bits k.bits c h.spelt k.spelt) ∙ sym k.is)
-string_value StringType.octet_string v w c h k = h ∙ sym k
-string_value (StringType.text kind) v w c h k = h ∙ sym k
-string_value (StringType.time kind) v w c h k = h ∙ sym k
-
 -- of two texts at the front of one list
 text_unique : (tag : Tag) (v w : Val) (a b r s : List ℕ) → EncodesText ber tag v a → EncodesText ber tag w b → a ++ r ≡ b ++ s → (v ≡ w) × (a ≡ b) × (r ≡ s)
 text_unique tag v w a b r s x y whole =
-    let same = definite_unique ber ber tag tag false false x.string.contents y.string.contents a b r s x.string.primitive y.string.primitive whole in
-    let octets : x.text_octets ≡ y.text_octets = sym x.string.holds ∙ (same.contents ∙ y.string.holds) in
-    (x.is ∙ (ap (λ z. Val.string (StringValue.text z)) octets ∙ sym y.is), same.octets, same.rest)
+    let same = string_unique octet_segment AreOctets AlwaysWhole (λ p q c h k. sym h ∙ k) (λ u. omega arith) tag x.text_octets y.text_octets a b r s x.string y.string whole in
+    (x.is ∙ (ap (λ z. Val.string (StringValue.text z)) same.string ∙ sym y.is), same.octets, same.rest)
 
 pub encoding_unique : NoEncodingBeginsAnother
 encoding_unique (Shape.simple tag type) v w a b r s well f g whole =
@@ -54,15 +49,13 @@ encoding_unique (Shape.simple tag type) v w a b r s well f g whole =
 encoding_unique (Shape.string tag StringType.bit_string) v w a b r s well f g whole =
     let x = f.encodes in
     let y = g.encodes in
-    let same = definite_unique ber ber tag tag false false x.string.contents y.string.contents a b r s x.string.primitive y.string.primitive whole in
-    let bits : x.bits ≡ y.bits = one_bits_value ber ber x.bits y.bits x.string.contents x.string.holds (subst (IsBits ber y.bits) (sym same.contents) y.string.holds) in
-    record { values = x.is ∙ (ap (λ z. Val.string (StringValue.bits z)) bits ∙ sym y.is); octets = same.octets; rest = same.rest }
+    let same = string_unique bit_segment (IsBits ber) IsWholeOctets (λ p q c h k. one_bits_value ber ber p q c h k) (λ u. omega arith) tag x.bits y.bits a b r s x.string y.string whole in
+    record { values = x.is ∙ (ap (λ z. Val.string (StringValue.bits z)) same.string ∙ sym y.is); octets = same.octets; rest = same.rest }
 encoding_unique (Shape.string tag StringType.octet_string) v w a b r s well f g whole =
     let x = f.encodes in
     let y = g.encodes in
-    let same = definite_unique ber ber tag tag false false x.string.contents y.string.contents a b r s x.string.primitive y.string.primitive whole in
-    let octets : x.string_octets ≡ y.string_octets = sym x.string.holds ∙ (same.contents ∙ y.string.holds) in
-    record { values = x.is ∙ (ap (λ z. Val.string (StringValue.octets z)) octets ∙ sym y.is); octets = same.octets; rest = same.rest }
+    let same = string_unique octet_segment AreOctets AlwaysWhole (λ p q c h k. sym h ∙ k) (λ u. omega arith) tag x.string_octets y.string_octets a b r s x.string y.string whole in
+    record { values = x.is ∙ (ap (λ z. Val.string (StringValue.octets z)) same.string ∙ sym y.is); octets = same.octets; rest = same.rest }
 encoding_unique (Shape.string tag (StringType.text kind)) v w a b r s well f g whole =
     let same = text_unique tag v w a b r s f.encodes g.encodes whole in
     record { values = same.0; octets = same.1; rest = same.2 }

@@ -22,13 +22,13 @@ use Rattle.types.proofs.FormLemmas.{definite_unique, one_definite}
 use Rattle.types.proofs.EncodingLemmas.{canonical_unique}
 use Rattle.types.proofs.ListLemmas.{first_differs, contains_first, contains_later}
 
-abbrev universal : ℕ → Tag
+abbrev pub universal : ℕ → Tag
 universal number = record { class = Universal; number = number }
 
-low_tag : (class : Class) (number : ℕ) (form : Bool) → number ≤ 30 → IsIdentifier record { class = class; number = number } form ((class_bits class + form_bit form + number) ∷ [])
+pub low_tag : (class : Class) (number : ℕ) (form : Bool) → number ≤ 30 → IsIdentifier record { class = class; number = number } form ((class_bits class + form_bit form + number) ∷ [])
 low_tag class number form low = inl record { low = low; spelt = refl }
 
-short : (rule : Rule) (n : ℕ) → n < 128 → IsLengthUnder rule n (n ∷ [])
+pub short : (rule : Rule) (n : ℕ) → n < 128 → IsLengthUnder rule n (n ∷ [])
 short ber n low = (IsShortestLength-short n low).form
 short cer n low = IsShortestLength-short n low
 short der n low = IsShortestLength-short n low
@@ -48,7 +48,7 @@ octet_string_41 : (rule : Rule) → IsPrimitive rule (universal 4) (0x41 ∷ [])
 octet_string_41 rule = primitive rule 4 (0x41 ∷ []) (omega arith) (omega arith)
 
 -- 04 81 01 41 under BER, and not under DER
-octet_string_41-long : IsPrimitive ber (universal 4) (0x41 ∷ []) (0x04 ∷ 0x81 ∷ 0x01 ∷ 0x41 ∷ [])
+pub octet_string_41-long : IsPrimitive ber (universal 4) (0x41 ∷ []) (0x04 ∷ 0x81 ∷ 0x01 ∷ 0x41 ∷ [])
 octet_string_41-long = record {
   identifier = 0x04 ∷ [];
   size = 0x81 ∷ 0x01 ∷ [];

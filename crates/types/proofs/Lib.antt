@@ -1,4 +1,6 @@
 pub mod FormLemmas
+pub mod NestingLemmas
+pub mod SegmentLemmas
 pub mod EncodingLemmas
 pub mod CanonicalLemmas
 pub mod CerLemmas

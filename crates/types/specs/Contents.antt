@@ -1,5 +1,9 @@
 -- Contents octets of the types without parts.
-use Rattle.std.specs.Prelude.{◌≡◌, ℕ, ℤ, Bool, List, ◌≤◌, ⊤}
+use Rattle.std.specs.Prelude.{◌≡◌, ◌⊎◌, ℕ, ℤ, Bool, List, ◌%◌, ◌≤◌, ⊤}
+use Rattle.strings.specs.declared.text.TextKind.{TextKind}
+use Rattle.strings.specs.declared.text.TextKind.TheVariants.{Bmp}
+use Rattle.strings.specs.declared.time.TimeKind.{TimeKind}
+use Rattle.strings.specs.declared.time.TimeKind.TheVariants.{Utc, Generalized}
 use Rattle.octets.specs.Rule.{Rule}
 use Rattle.primitives.specs.Boolean.{IsBoolean}
 use Rattle.primitives.specs.Integer.{IsInteger}
@@ -69,11 +73,21 @@ SimpleLength SimpleType.null n = n ≡ 0
 SimpleLength SimpleType.oid n = (1 ≤ n) × (n ≤ 2432)
 SimpleLength SimpleType.relative_oid n = (1 ≤ n) × (n ≤ 2432)
 
+-- a BMPString has two octets for each character
+abbrev pub TextLength : TextKind → ℕ → Type 0
+TextLength Bmp n = n % 2 ≡ 0
+TextLength _ n = ⊤
+
+-- YYMMDDhhmmssZ; and YYYYMMDDhhmmssZ, with perhaps a point and 1 to 12 digits before the Z
+abbrev pub TimeLength : TimeKind → ℕ → Type 0
+TimeLength Utc n = n ≡ 13
+TimeLength Generalized n = (n ≡ 15) ⊎ ((17 ≤ n) × (n ≤ 28))
+
 abbrev pub StringLength : StringType → ℕ → Type 0
 StringLength StringType.bit_string n = 1 ≤ n
 StringLength StringType.octet_string n = ⊤
-StringLength (StringType.text kind) n = ⊤
-StringLength (StringType.time kind) n = ⊤
+StringLength (StringType.text kind) n = TextLength kind n
+StringLength (StringType.time kind) n = TimeLength kind n
 
 abbrev pub CanHaveLength : Shape → ℕ → Type 0
 CanHaveLength (Shape.simple tag type) n = SimpleLength type n

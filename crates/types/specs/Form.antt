@@ -14,7 +14,7 @@ pub record IsDefinite (rule : Rule) (tag : Tag) (constructed : Bool) (contents o
   pub sized : IsLengthUnder rule (length contents) size
   pub joined : octets ≡ identifier ++ (size ++ contents)
 
--- 8.1.1.4: the indefinite form, the octet 80 and the contents octets up to 00 00
+-- 8.1.3.6: the indefinite form, the octet 80 and the contents octets up to 00 00
 pub record IsIndefinite (tag : Tag) (contents octets : List ℕ) : Type 0 where
   pub identifier : List ℕ
   pub tagged : IsIdentifier tag true identifier
@@ -24,7 +24,7 @@ pub record IsIndefinite (tag : Tag) (contents octets : List ℕ) : Type 0 where
 abbrev pub IsPrimitive : Rule → Tag → List ℕ → List ℕ → Type 0
 IsPrimitive rule tag contents octets = IsDefinite rule tag false contents octets
 
--- a constructed encoding has either form under BER (8.1.3.2 c), the indefinite form under CER (9.1) and
+-- a constructed encoding has either form under BER (8.1.3.2 b and c), the indefinite form under CER (9.1) and
 -- the definite form under DER (10.1)
 abbrev pub IsConstructed : Rule → Tag → List ℕ → List ℕ → Type 0
 IsConstructed ber tag contents octets = IsDefinite ber tag true contents octets ⊎ IsIndefinite tag contents octets

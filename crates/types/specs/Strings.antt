@@ -5,7 +5,7 @@ use Rattle.std.specs.Prelude.{◌≡◌, ◌≢◌, ◌⊎◌, ℕ, ◌*◌, ◌
 use Rattle.octets.specs.declared.tag.Class.TheVariants.{Universal}
 use Rattle.octets.specs.declared.tag.Tag.{Tag}
 use Rattle.octets.specs.Rule.{Rule, ber, cer, der}
-use Rattle.types.specs.Form.{IsPrimitive, IsIndefinite}
+use Rattle.types.specs.Form.{IsPrimitive, IsConstructed, IsIndefinite}
 
 -- the most contents octets of a primitive encoding of a string under CER (9.2)
 abbrev pub segment_octets : ℕ
@@ -16,6 +16,21 @@ pub record IsOneEncoding {A : Type 0} (rule : Rule) (tag : Tag) (Holds : List A 
   pub contents : List ℕ
   pub holds : Holds string contents
   pub primitive : IsPrimitive rule tag contents octets
+
+-- 8.6.4 and 8.7.3: zero or more encodings under the segments' tag, one after another, each primitive or
+-- constructed of segments again, and the pieces that they hold; each but the last at its level is Whole
+pub data AreSegments {A : Type 0} (inner : Tag) (Holds : List A → List ℕ → Type 0) (Whole : List A → Type 0) : List A → List ℕ → Type 0 where
+  none : AreSegments inner Holds Whole [] []
+  primitive : {others : List A} {rest : List ℕ} (piece : List A) (contents segment : List ℕ) → Holds piece contents → IsPrimitive ber inner contents segment
+      → AreSegments inner Holds Whole others rest → (rest ≢ [] → Whole piece) → AreSegments inner Holds Whole (piece ++ others) (segment ++ rest)
+  constructed : {others : List A} {rest : List ℕ} (piece : List A) (contents segment : List ℕ) → AreSegments inner Holds Whole piece contents → IsConstructed ber inner contents segment
+      → AreSegments inner Holds Whole others rest → (rest ≢ [] → Whole piece) → AreSegments inner Holds Whole (piece ++ others) (segment ++ rest)
+
+-- a constructed encoding of segments
+pub record IsInSegments {A : Type 0} (tag inner : Tag) (Holds : List A → List ℕ → Type 0) (Whole : List A → Type 0) (string : List A) (octets : List ℕ) : Type 0 where
+  pub contents : List ℕ
+  pub segments : AreSegments inner Holds Whole string contents
+  pub constructed : IsConstructed ber tag contents octets
 
 -- 9.2: primitive segments under the segments' tag, each but the last of 1000 contents octets. That the
 -- last carries at least one bit or octet is this project's own rule
@@ -39,13 +54,13 @@ pub record IsShort {A : Type 0} (tag : Tag) (Holds : List A → List ℕ → Typ
   pub short : length contents ≤ segment_octets
   pub primitive : IsPrimitive cer tag contents octets
 
--- the encodings of a string under a rule; BER is primitive here
+-- the encodings of a string under a rule
 abbrev pub IsStringEncoding : {A : Type 0} → Rule → Tag → Tag → (List A → List ℕ → Type 0) → (List A → Type 0) → List A → List ℕ → Type 0
-IsStringEncoding ber tag inner Holds Whole string octets = IsOneEncoding ber tag Holds string octets
+IsStringEncoding ber tag inner Holds Whole string octets = IsOneEncoding ber tag Holds string octets ⊎ IsInSegments tag inner Holds Whole string octets
 IsStringEncoding cer tag inner Holds Whole string octets = IsShort tag Holds string octets ⊎ IsCut tag inner Holds Whole string octets
 IsStringEncoding der tag inner Holds Whole string octets = IsOneEncoding der tag Holds string octets
 
--- 8.6.4.1 and 8.7.3.2: the tags of the segments, whatever the tag of the string
+-- 8.6.4 and 8.7.3: the tags of the segments, whatever the tag of the string
 abbrev pub bit_segment : Tag
 bit_segment = record { class = Universal; number = 3 }
 

@@ -12,7 +12,7 @@ pub enum Refusal {
     Identifier = 2,
     /// Primitive or constructed against the type; the indefinite form on a primitive encoding.
     Form = 3,
-    /// Malformed length octets, a length above the limit, or one that does not fit what holds it.
+    /// Malformed length octets, a length above the limit, or a part that passes the end of what holds it.
     Length = 4,
     /// End-of-contents octets where none can stand, or malformed ones.
     EndOfContents = 5,

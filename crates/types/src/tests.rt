@@ -1,6 +1,7 @@
 use crate::{Refusal, Ty, TypeFault, Value, WellTyped, can_have_length, conforms};
 use octets::{Class, Tag};
 use std::test::Fail;
+use strings::{TextKind, TimeKind};
 
 #[test]
 fn well_formed_types(rt: HostRuntime) {
@@ -50,7 +51,7 @@ fn lengths_of_contents(rt: HostRuntime) {
         number: 0,
     };
     // (type, octets, whether some value has so many)
-    let cases: [(Ty, usize, bool); 12] = [
+    let cases: [(Ty, usize, bool); 21] = [
         (Ty::Boolean(tag), 0, false),
         (Ty::Boolean(tag), 1, true),
         (Ty::Integer(tag), 0, false),
@@ -63,6 +64,15 @@ fn lengths_of_contents(rt: HostRuntime) {
         (Ty::Bits(tag), 0, false),
         (Ty::Bits(tag), 1, true),
         (Ty::Octets(tag), 0, true),
+        (Ty::Text(tag, TextKind::Utf8), 1, true),
+        (Ty::Text(tag, TextKind::Bmp), 2, true),
+        (Ty::Text(tag, TextKind::Bmp), 3, false),
+        (Ty::Time(tag, TimeKind::Utc), 13, true),
+        (Ty::Time(tag, TimeKind::Utc), 15, false),
+        (Ty::Time(tag, TimeKind::Generalized), 15, true),
+        (Ty::Time(tag, TimeKind::Generalized), 16, false),
+        (Ty::Time(tag, TimeKind::Generalized), 28, true),
+        (Ty::Time(tag, TimeKind::Generalized), 29, false),
     ];
     for (ty, octets, want) in cases {
         assert_eq!(rt; can_have_length(&ty, octets), want, "{octets} octets");

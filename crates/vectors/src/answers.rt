@@ -1,7 +1,9 @@
 //! What the tables' rows are compared with.
 
+use berreader::read;
 use convert::{Canonical, Rule, transcode};
 use octets::{Class, Tag};
+use std::alloc::{AllocError, Global};
 use std::process::Abort;
 use types::{Refusal, WellTyped};
 
@@ -17,25 +19,55 @@ pub fn universal(number: u32) -> Tag {
     Tag { class, number }
 }
 
-/// Checks one row, and where its octets are accepted that no octet of them can be done without.
+/// Checks one row, and where its octets are accepted that these and no others are taken.
 pub fn check<R: Abort + AllocGlobal>(
     rt: &R,
     ty: &WellTyped,
     octets: &[u8],
     want: Result<&[u8], Refusal>,
-) {
+) -> Result<(), AllocError> {
     compare(rt, ty, Canonical::Der, octets, want);
-    if want.is_err() || octets.len() > MAX_CUT {
-        return;
+    if want.is_err() {
+        return Ok(());
     }
+    if octets.len() <= MAX_CUT {
+        check_cuts(rt, ty, octets);
+    }
+    check_end(rt, ty, octets)
+}
+
+// Checks that no octet of an accepted encoding can be done without.
+fn check_cuts<R: Abort + AllocGlobal>(rt: &R, ty: &WellTyped, octets: &[u8]) {
     for end in 0..octets.len() {
-        compare(
-            rt,
-            ty,
-            Canonical::Der,
-            &octets[..end],
-            Err(Refusal::Truncated),
-        );
+        let cut = &octets[..end];
+        compare(rt, ty, Canonical::Der, cut, Err(Refusal::Truncated));
+        let got = taken(rt.alloc(), ty, cut);
+        assert_eq!(rt; got, Err(Refusal::Truncated), "at {cut:?}");
+    }
+}
+
+// Checks that an accepted encoding is read whole, and not what follows it: octets that begin an end of
+// contents, a segment and a constructed one.
+fn check_end<R: Abort + AllocGlobal>(
+    rt: &R,
+    ty: &WellTyped,
+    octets: &[u8],
+) -> Result<(), AllocError> {
+    let size = octets.len();
+    for next in [0x00, 0x04, 0x24] {
+        let mut more = Vec::from_slice(rt.alloc(), octets)?;
+        more.push(next)?;
+        let got = taken(rt.alloc(), ty, more.as_slice());
+        assert_eq!(rt; got, Ok(size), "before {next} after {size} octets");
+    }
+    Ok(())
+}
+
+// How many octets are taken of those there.
+fn taken(alloc: Global, ty: &WellTyped, octets: &[u8]) -> Result<usize, Refusal> {
+    match read(alloc, ty, octets) {
+        Ok((_, used)) => Ok(used),
+        Err(refusal) => Err(refusal),
     }
 }
 
@@ -55,4 +87,15 @@ pub fn compare<R: Abort + AllocGlobal>(
     let front = &octets[..octets.len().min(20)];
     let size = octets.len();
     assert!(rt; got == want, "at {front:?} of {size} octets under {to:?}");
+}
+
+/// The octets of the pieces, each as many times over as it says.
+pub fn repeated(alloc: Global, pieces: &[(&[u8], usize)]) -> Result<Vec<u8>, AllocError> {
+    let mut octets = Vec::new(alloc);
+    for (piece, times) in pieces {
+        for _ in 0..*times {
+            octets.extend_from_slice(piece)?;
+        }
+    }
+    Ok(octets)
 }

@@ -27,7 +27,7 @@ fn boolean_encodings(rt: HostRuntime) -> Result<(), Fail> {
         (&[0x01, 0x02, 0xFF, 0xFF], Err(Refusal::Contents)),
     ];
     for (octets, want) in cases {
-        check(&rt, &ty, octets, want);
+        check(&rt, &ty, octets, want)?;
     }
     Ok(())
 }

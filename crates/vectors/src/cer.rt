@@ -1,18 +1,17 @@
-//! What CER writes (X.690 clause 9): strings of more than 1000 contents octets are cut (9.2), all else is
-//! as under DER.
+//! What CER writes of all types (X.690 clause 9): strings that are not cut, and all else as under DER.
 
 use crate::answers::{Answer, compare, universal};
-use convert::{Canonical, Rule, transcode};
-use octets::{Class, Tag};
-use std::alloc::{AllocError, Global};
-use std::process::Abort;
+use convert::Canonical;
 use std::test::Fail;
-use types::{Refusal, Ty, WellTyped};
+use strings::{TextKind, TimeKind};
+use types::{Item, Ty, WellTyped};
 
 #[test]
 fn short_encodings(rt: HostRuntime) -> Result<(), Fail> {
+    let name = String::from_str(rt.alloc(), "i")?;
+    let items = Vec::from_array(rt.alloc(), [Item { name, number: 300 }])?;
     // (type, octets, under CER)
-    let cases: [(Ty, &[u8], Answer); 7] = [
+    let cases: [(Ty, &[u8], Answer); 11] = [
         (
             Ty::Boolean(universal(1)),
             &[0x01, 0x01, 0x2A],
@@ -22,6 +21,11 @@ fn short_encodings(rt: HostRuntime) -> Result<(), Fail> {
             Ty::Integer(universal(2)),
             &[0x02, 0x81, 0x02, 0xFF, 0x7F],
             Ok(&[0x02, 0x02, 0xFF, 0x7F]),
+        ),
+        (
+            Ty::Enumerated(universal(10), items),
+            &[0x0A, 0x81, 0x02, 0x01, 0x2C],
+            Ok(&[0x0A, 0x02, 0x01, 0x2C]),
         ),
         (
             Ty::Null(universal(5)),
@@ -34,6 +38,11 @@ fn short_encodings(rt: HostRuntime) -> Result<(), Fail> {
             Ok(&[0x06, 0x03, 0x81, 0x34, 0x03]),
         ),
         (
+            Ty::RelativeOid(universal(13)),
+            &[0x0D, 0x81, 0x02, 0x81, 0x34],
+            Ok(&[0x0D, 0x02, 0x81, 0x34]),
+        ),
+        (
             Ty::Bits(universal(3)),
             &[0x03, 0x02, 0x07, 0xFF],
             Ok(&[0x03, 0x02, 0x07, 0x80]),
@@ -44,180 +53,19 @@ fn short_encodings(rt: HostRuntime) -> Result<(), Fail> {
             Ok(&[0x03, 0x01, 0x00]),
         ),
         (Ty::Octets(universal(4)), &[0x04, 0x00], Ok(&[0x04, 0x00])),
+        (
+            Ty::Text(universal(12), TextKind::Utf8),
+            b"\x0C\x81\x02\xC3\xA9",
+            Ok(b"\x0C\x02\xC3\xA9"),
+        ),
+        (
+            Ty::Time(universal(23), TimeKind::Utc),
+            b"\x17\x81\x0D240229120000Z",
+            Ok(b"\x17\x0D240229120000Z"),
+        ),
     ];
     for (ty, octets, want) in cases {
         compare(&rt, &WellTyped::new(ty)?, Canonical::Cer, octets, want);
     }
     Ok(())
-}
-
-// Encodings are told in pieces: octets, and how many octets 41 follow them.
-type Pieces = &'static [(&'static [u8], usize)];
-
-#[test]
-fn octet_strings_by_size(rt: HostRuntime) -> Result<(), Fail> {
-    // (octets, under CER)
-    let cases: [(Pieces, Pieces); 4] = [
-        (
-            &[(&[0x04, 0x82, 0x03, 0xE8], 1_000)],
-            &[(&[0x04, 0x82, 0x03, 0xE8], 1_000)],
-        ),
-        (
-            &[(&[0x04, 0x82, 0x03, 0xE9], 1_001)],
-            &[
-                (&[0x24, 0x80, 0x04, 0x82, 0x03, 0xE8], 1_000),
-                (&[0x04, 0x01], 1),
-                (&[0x00, 0x00], 0),
-            ],
-        ),
-        (
-            &[(&[0x04, 0x82, 0x07, 0xD0], 2_000)],
-            &[
-                (&[0x24, 0x80, 0x04, 0x82, 0x03, 0xE8], 1_000),
-                (&[0x04, 0x82, 0x03, 0xE8], 1_000),
-                (&[0x00, 0x00], 0),
-            ],
-        ),
-        (
-            &[(&[0x04, 0x82, 0x08, 0x50], 2_128)],
-            &[
-                (&[0x24, 0x80, 0x04, 0x82, 0x03, 0xE8], 1_000),
-                (&[0x04, 0x82, 0x03, 0xE8], 1_000),
-                (&[0x04, 0x81, 0x80], 128),
-                (&[0x00, 0x00], 0),
-            ],
-        ),
-    ];
-    check(&rt, &WellTyped::new(Ty::Octets(universal(4)))?, &cases)?;
-    Ok(())
-}
-
-#[test]
-fn bit_strings_by_size(rt: HostRuntime) -> Result<(), Fail> {
-    // (octets, under CER)
-    let cases: [(Pieces, Pieces); 5] = [
-        (
-            &[(&[0x03, 0x82, 0x03, 0xE8, 0x00], 999)],
-            &[(&[0x03, 0x82, 0x03, 0xE8, 0x00], 999)],
-        ),
-        (
-            &[(&[0x03, 0x82, 0x03, 0xE9, 0x00], 1_000)],
-            &[
-                (&[0x23, 0x80, 0x03, 0x82, 0x03, 0xE8, 0x00], 999),
-                (&[0x03, 0x02, 0x00], 1),
-                (&[0x00, 0x00], 0),
-            ],
-        ),
-        (
-            &[(&[0x03, 0x82, 0x07, 0xCF, 0x00], 1_998)],
-            &[
-                (&[0x23, 0x80, 0x03, 0x82, 0x03, 0xE8, 0x00], 999),
-                (&[0x03, 0x82, 0x03, 0xE8, 0x00], 999),
-                (&[0x00, 0x00], 0),
-            ],
-        ),
-        // 7,993 bits, the last 1.
-        (
-            &[(&[0x03, 0x82, 0x03, 0xE9, 0x07], 999), (&[0x80], 0)],
-            &[
-                (&[0x23, 0x80, 0x03, 0x82, 0x03, 0xE8, 0x00], 999),
-                (&[0x03, 0x02, 0x07, 0x80], 0),
-                (&[0x00, 0x00], 0),
-            ],
-        ),
-        (
-            &[(&[0x03, 0x82, 0x03, 0xE9, 0x07], 999), (&[0xFF], 0)],
-            &[
-                (&[0x23, 0x80, 0x03, 0x82, 0x03, 0xE8, 0x00], 999),
-                (&[0x03, 0x02, 0x07, 0x80], 0),
-                (&[0x00, 0x00], 0),
-            ],
-        ),
-    ];
-    check(&rt, &WellTyped::new(Ty::Bits(universal(3)))?, &cases)?;
-    Ok(())
-}
-
-#[test]
-fn strings_of_another_tag(rt: HostRuntime) -> Result<(), Fail> {
-    let class = Class::Context;
-    let number = 0;
-    // (octets, under CER)
-    let octets: [(Pieces, Pieces); 1] = [(
-        &[(&[0x80, 0x82, 0x03, 0xE9], 1_001)],
-        &[
-            (&[0xA0, 0x80, 0x04, 0x82, 0x03, 0xE8], 1_000),
-            (&[0x04, 0x01], 1),
-            (&[0x00, 0x00], 0),
-        ],
-    )];
-    let bits: [(Pieces, Pieces); 1] = [(
-        &[(&[0x80, 0x82, 0x03, 0xE9, 0x00], 1_000)],
-        &[
-            (&[0xA0, 0x80, 0x03, 0x82, 0x03, 0xE8, 0x00], 999),
-            (&[0x03, 0x02, 0x00], 1),
-            (&[0x00, 0x00], 0),
-        ],
-    )];
-    check(
-        &rt,
-        &WellTyped::new(Ty::Octets(Tag { class, number }))?,
-        &octets,
-    )?;
-    check(
-        &rt,
-        &WellTyped::new(Ty::Bits(Tag { class, number }))?,
-        &bits,
-    )?;
-    Ok(())
-}
-
-#[test]
-fn longest_octet_string(rt: HostRuntime) -> Result<(), Fail> {
-    let ty = WellTyped::new(Ty::Octets(universal(4)))?;
-    // 1,044 full segments of 1,004 octets, and 396 octets for the last.
-    let octets = joined(rt.alloc(), &[(&[0x04, 0x83, 0x0F, 0xEF, 0xA8], 1_044_392)])?;
-    let written = transcode(
-        rt.alloc(),
-        &ty,
-        Rule::Ber,
-        Canonical::Cer,
-        octets.as_slice(),
-    )?;
-    assert_eq!(rt; written.len(), 1_048_576);
-    let octets = joined(rt.alloc(), &[(&[0x04, 0x83, 0x0F, 0xEF, 0xA9], 1_044_393)])?;
-    let too_long = Err(Refusal::OutputTooLong);
-    compare(&rt, &ty, Canonical::Cer, octets.as_slice(), too_long);
-    Ok(())
-}
-
-// Compares what the octets of each row become under CER.
-fn check<R: Abort + AllocGlobal>(
-    rt: &R,
-    ty: &WellTyped,
-    cases: &[(Pieces, Pieces)],
-) -> Result<(), AllocError> {
-    for (octets, want) in cases {
-        let octets = joined(rt.alloc(), octets)?;
-        let want = joined(rt.alloc(), want)?;
-        compare(
-            rt,
-            ty,
-            Canonical::Cer,
-            octets.as_slice(),
-            Ok(want.as_slice()),
-        );
-    }
-    Ok(())
-}
-
-fn joined(alloc: Global, pieces: &[(&[u8], usize)]) -> Result<Vec<u8>, AllocError> {
-    let mut octets = Vec::new(alloc);
-    for (front, count) in pieces {
-        octets.extend_from_slice(front)?;
-        for _ in 0..*count {
-            octets.push(0x41)?;
-        }
-    }
-    Ok(octets)
 }

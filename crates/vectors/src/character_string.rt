@@ -8,7 +8,7 @@ use types::{Refusal, Ty, WellTyped};
 #[test]
 fn character_string_encodings(rt: HostRuntime) -> Result<(), Fail> {
     // (octets, universal tag number, kind, whether the alphabet allows the contents octets)
-    let cases: [(&[u8], u32, TextKind, bool); 14] = [
+    let cases: [(&[u8], u32, TextKind, bool); 16] = [
         (b"\x1A\x05Jones", 26, TextKind::Visible, true),
         (b"\x1A\x00", 26, TextKind::Visible, true),
         (b"\x1A\x01\x7F", 26, TextKind::Visible, false),
@@ -23,6 +23,8 @@ fn character_string_encodings(rt: HostRuntime) -> Result<(), Fail> {
         (b"\x1E\x02\x00\x41", 30, TextKind::Bmp, true),
         (b"\x1E\x02\xD8\x00", 30, TextKind::Bmp, false),
         (b"\x1E\x03\x00\x41\x00", 30, TextKind::Bmp, false),
+        (b"\x1E\x03", 30, TextKind::Bmp, false),
+        (b"\x1E\x04\x00\x41\x00\x42", 30, TextKind::Bmp, true),
     ];
     for (octets, number, kind, allowed) in cases {
         let ty = WellTyped::new(Ty::Text(universal(number), kind))?;
@@ -31,7 +33,7 @@ fn character_string_encodings(rt: HostRuntime) -> Result<(), Fail> {
         } else {
             Err(Refusal::Alphabet)
         };
-        check(&rt, &ty, octets, want);
+        check(&rt, &ty, octets, want)?;
     }
     Ok(())
 }
@@ -39,7 +41,7 @@ fn character_string_encodings(rt: HostRuntime) -> Result<(), Fail> {
 #[test]
 fn time_encodings(rt: HostRuntime) -> Result<(), Fail> {
     // (octets, universal tag number, kind, whether they are a time)
-    let cases: [(&[u8], u32, TimeKind, bool); 9] = [
+    let cases: [(&[u8], u32, TimeKind, bool); 12] = [
         (b"\x18\x0F20240229120000Z", 24, TimeKind::Generalized, true),
         (b"\x18\x0F20000229000000Z", 24, TimeKind::Generalized, true),
         (
@@ -59,6 +61,9 @@ fn time_encodings(rt: HostRuntime) -> Result<(), Fail> {
         (b"\x17\x0D240229120000Z", 23, TimeKind::Utc, true),
         (b"\x17\x0D230229120000Z", 23, TimeKind::Utc, false),
         (b"\x17\x0B2402291200Z", 23, TimeKind::Utc, false),
+        (b"\x17\x05", 23, TimeKind::Utc, false),
+        (b"\x18\x10", 24, TimeKind::Generalized, false),
+        (b"\x18\x1D", 24, TimeKind::Generalized, false),
     ];
     for (octets, number, kind, is_time) in cases {
         let ty = WellTyped::new(Ty::Time(universal(number), kind))?;
@@ -67,7 +72,7 @@ fn time_encodings(rt: HostRuntime) -> Result<(), Fail> {
         } else {
             Err(Refusal::Alphabet)
         };
-        check(&rt, &ty, octets, want);
+        check(&rt, &ty, octets, want)?;
     }
     Ok(())
 }

@@ -37,7 +37,7 @@ fn enumerated_encodings(rt: HostRuntime) -> Result<(), Fail> {
         (&[], Err(Refusal::Truncated)),
     ];
     for (octets, want) in cases {
-        check(&rt, &ty, octets, want);
+        check(&rt, &ty, octets, want)?;
     }
     Ok(())
 }

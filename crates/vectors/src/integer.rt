@@ -38,7 +38,7 @@ fn integer_encodings(rt: HostRuntime) -> Result<(), Fail> {
         (&BEYOND, Err(Refusal::Contents)),
     ];
     for (octets, want) in cases {
-        check(&rt, &ty, octets, want);
+        check(&rt, &ty, octets, want)?;
     }
     Ok(())
 }

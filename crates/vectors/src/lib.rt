@@ -13,6 +13,8 @@ mod boolean;
 #[cfg(test)]
 mod cer;
 #[cfg(test)]
+mod cer_cut;
+#[cfg(test)]
 mod character_string;
 #[cfg(test)]
 mod enumerated;
@@ -21,10 +23,16 @@ mod integer;
 #[cfg(test)]
 mod library_use;
 #[cfg(test)]
+mod nesting;
+#[cfg(test)]
 mod null;
 #[cfg(test)]
 mod object_identifier;
 #[cfg(test)]
 mod octet_string;
 #[cfg(test)]
+mod segments;
+#[cfg(test)]
 mod tags;
+#[cfg(test)]
+mod text_segments;

@@ -19,7 +19,7 @@ fn null_encodings(rt: HostRuntime) -> Result<(), Fail> {
         (&[0x05, 0x01, 0x00], Err(Refusal::Contents)),
     ];
     for (octets, want) in cases {
-        check(&rt, &ty, octets, want);
+        check(&rt, &ty, octets, want)?;
     }
     Ok(())
 }

@@ -42,7 +42,7 @@ fn object_identifier_encodings(rt: HostRuntime) -> Result<(), Fail> {
         (&[0x06, 0x82, 0x09, 0x81], Err(Refusal::Contents)),
     ];
     for (octets, want) in cases {
-        check(&rt, &ty, octets, want);
+        check(&rt, &ty, octets, want)?;
     }
     Ok(())
 }
@@ -67,7 +67,7 @@ fn relative_oid_encodings(rt: HostRuntime) -> Result<(), Fail> {
         (&[0x06, 0x03, 0x81, 0x34, 0x03], Err(Refusal::Identifier)),
     ];
     for (octets, want) in cases {
-        check(&rt, &ty, octets, want);
+        check(&rt, &ty, octets, want)?;
     }
     Ok(())
 }
@@ -80,9 +80,9 @@ fn most_subidentifiers(rt: HostRuntime) -> Result<(), Fail> {
     octets[1] = 0x81;
     octets[2] = 0x80;
     // 128 subidentifiers in 131 octets
-    check(&rt, &ty, &octets[..131], Ok(&octets[..131]));
+    check(&rt, &ty, &octets[..131], Ok(&octets[..131]))?;
     octets[2] = 0x81;
-    check(&rt, &ty, &octets, Err(Refusal::Contents));
+    check(&rt, &ty, &octets, Err(Refusal::Contents))?;
     Ok(())
 }
 

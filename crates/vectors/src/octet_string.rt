@@ -1,8 +1,7 @@
 //! OCTET STRING in the primitive form (X.690 8.7.2), of at most 1,048,576 octets with identifier and
 //! length.
 
-use crate::answers::{Answer, check, universal};
-use std::alloc::{AllocError, Global};
+use crate::answers::{Answer, check, repeated, universal};
 use std::test::Fail;
 use types::{Refusal, Ty, WellTyped};
 
@@ -10,7 +9,7 @@ use types::{Refusal, Ty, WellTyped};
 fn octet_string_encodings(rt: HostRuntime) -> Result<(), Fail> {
     let ty = WellTyped::new(Ty::Octets(universal(4)))?;
     // (octets, under DER)
-    let cases: [(&[u8], Answer); 15] = [
+    let cases: [(&[u8], Answer); 13] = [
         (&[0x04, 0x00], Ok(&[0x04, 0x00])),
         (&[0x04, 0x02, 0x00, 0xFF], Ok(&[0x04, 0x02, 0x00, 0xFF])),
         (
@@ -21,11 +20,6 @@ fn octet_string_encodings(rt: HostRuntime) -> Result<(), Fail> {
         (&[0x04, 0x02, 0x41], Err(Refusal::Truncated)),
         (&[0x05, 0x00], Err(Refusal::Identifier)),
         (&[0x04, 0x01, 0x41, 0x41], Err(Refusal::Identifier)),
-        (
-            &[0x24, 0x80, 0x04, 0x01, 0x41, 0x00, 0x00],
-            Err(Refusal::Form),
-        ),
-        (&[0x24, 0x00], Err(Refusal::Form)),
         (&[0x04, 0x80], Err(Refusal::Form)),
         (&[0x04, 0xFF], Err(Refusal::Length)),
         (&[0x04, 0x84, 0x00, 0x10, 0x00, 0x01], Err(Refusal::Length)),
@@ -34,7 +28,7 @@ fn octet_string_encodings(rt: HostRuntime) -> Result<(), Fail> {
         (&[0x04, 0x83, 0x10, 0x00, 0x00], Err(Refusal::TooLong)),
     ];
     for (octets, want) in cases {
-        check(&rt, &ty, octets, want);
+        check(&rt, &ty, octets, want)?;
     }
     Ok(())
 }
@@ -85,25 +79,14 @@ fn octet_strings_by_size(rt: HostRuntime) -> Result<(), Fail> {
         ),
     ];
     for (head, count, want) in cases {
-        let octets = with_zeros(rt.alloc(), head, count)?;
+        let octets = repeated(rt.alloc(), &[(head, 1), (&[0x00], count)])?;
         match want {
-            Ok(head) => check(
-                &rt,
-                &ty,
-                octets.as_slice(),
-                Ok(with_zeros(rt.alloc(), head, count)?.as_slice()),
-            ),
-            Err(refusal) => check(&rt, &ty, octets.as_slice(), Err(refusal)),
+            Ok(head) => {
+                let want = repeated(rt.alloc(), &[(head, 1), (&[0x00], count)])?;
+                check(&rt, &ty, octets.as_slice(), Ok(want.as_slice()))?;
+            }
+            Err(refusal) => check(&rt, &ty, octets.as_slice(), Err(refusal))?,
         }
     }
     Ok(())
-}
-
-// The octets of `head`, and then `count` octets 00.
-fn with_zeros(alloc: Global, head: &[u8], count: usize) -> Result<Vec<u8>, AllocError> {
-    let mut octets = Vec::from_slice(alloc, head)?;
-    for _ in 0..count {
-        octets.push(0)?;
-    }
-    Ok(octets)
 }

@@ -44,7 +44,7 @@ fn encodings_under_other_tags(rt: HostRuntime) -> Result<(), Fail> {
         ),
     ];
     for (octets, ty, want) in cases {
-        check(&rt, &WellTyped::new(ty)?, octets, want);
+        check(&rt, &WellTyped::new(ty)?, octets, want)?;
     }
     Ok(())
 }
@@ -64,7 +64,7 @@ fn encodings_under_wrong_tags(rt: HostRuntime) -> Result<(), Fail> {
         (&[0x00, 0x00], Refusal::EndOfContents),
     ];
     for (octets, refusal) in cases {
-        check(&rt, &ty, octets, Err(refusal));
+        check(&rt, &ty, octets, Err(refusal))?;
     }
     Ok(())
 }
@@ -118,7 +118,7 @@ fn encodings_under_high_tags(rt: HostRuntime) -> Result<(), Fail> {
     ];
     for (octets, class, number, want) in cases {
         let ty = WellTyped::new(Ty::Null(Tag { class, number }))?;
-        check(&rt, &ty, octets, want);
+        check(&rt, &ty, octets, want)?;
     }
     Ok(())
 }

@@ -1,0 +1,10 @@
+pub mod ResultLemmas
+pub mod HeadLemmas
+pub mod DepthLemmas
+pub mod CompletingLemmas
+pub mod StepLemmas
+pub mod JoinedLemmas
+pub mod SegmentsLemmas
+pub mod AcceptedLemmas
+pub mod TypedLemmas
+pub mod ReadingLemmas

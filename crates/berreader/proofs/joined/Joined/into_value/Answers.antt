@@ -1,0 +1,40 @@
+use Rattle.std.proofs.Common.{◌≡◌, List, Bool, sym, ap, ◌∙◌, subst}
+use Rattle.primitives.proofs.BitsLemmas.{bits_before-parts}
+use Rattle.types.specs.Conforms.{Conforms}
+use Rattle.types.specs.Refusal.{IsFinal}
+use Rattle.types.specs.Shape.{StringValue, Val}
+use Rattle.types.specs.View.{ty_view, value_view}
+use Rattle.types.specs.declared.refusal.Refusal.{Refusal}
+use Rattle.types.specs.declared.ty.Ty.{Ty}
+use Rattle.types.specs.declared.value.Value.{Value}
+use Rattle.berreader.specs.Contents.{text_view}
+use Rattle.berreader.specs.Joined.{value_of}
+use Rattle.berreader.proofs.ResultLemmas.{IfOk-map, IfErr-all}
+use Rattle.berreader.proofs.TypedLemmas.{octets_value, text_value}
+use Rattle.berreader.proofs.joined.Joined.into_value.Goals as goal
+
+pub returns-in-Some-clause-value : goal.returns-in-Some-clause-value
+returns-in-Some-clause-value c =
+    let f = c.in-Some.ensures.value in
+    let bits : List Bool = c.in-Some.bits in
+    let v = Val.string (StringValue.bits bits) in
+    subst (λ (t : Ty). (v ≡ value_of (ty_view t) c.args.self) × Conforms (ty_view t) v) (sym c.in-Bits.is)
+    (ap (λ x. Val.string (StringValue.bits x)) (sym (bits_before-parts c.args.self.octets.items c.args.self.unused bits f.tail f.bits_are f.tail_is)), tt)
+
+pub returns-in_default : goal.returns-in_default
+returns-in_default c = record {
+  value = octets_value c.args.ty.now c.args.self c.in_default.not-Bits c.in_default.not-Text c.in_default.not-Time c.requires.held.0 c.requires.held.1;
+  none = tt;
+  numbers = tt;
+}
+
+pub returns-in-Text-clause-value : goal.returns-in-Text-clause-value
+returns-in-Text-clause-value c =
+    IfOk-map c.text_of.result (λ (value : Value). (value_view value ≡ text_view c.args.self.octets.items) × Conforms (ty_view c.args.ty.now) (value_view value))
+    (λ (value : Value). (value_view value ≡ value_of (ty_view c.args.ty.now) c.args.self) × Conforms (ty_view c.args.ty.now) (value_view value))
+    (λ value h. (h.0 ∙ text_value c.args.ty.now c.args.self c.in-Text.is, h.1)) c.text_of.ensures.value
+
+pub returns-in-Text-clause-none : goal.returns-in-Text-clause-none
+returns-in-Text-clause-none c =
+    IfErr-all c.text_of.result (λ (refusal : Refusal). IsFinal refusal → Conforms (ty_view c.args.ty.now) (value_of (ty_view c.args.ty.now) c.args.self) → ⊥)
+    (λ err refusal final conforms. c.text_of.ensures.none err (subst (Conforms (ty_view c.args.ty.now)) (sym (text_value c.args.ty.now c.args.self c.in-Text.is)) conforms))

@@ -1,0 +1,5 @@
+pub mod Contents
+pub mod Head
+pub mod Joined
+pub mod Completing
+pub mod Segments

@@ -1,0 +1,54 @@
+-- What is known of a constructed string whose parts are being read.
+use Rattle.std.specs.Prelude.{◌≡◌, ℕ, ◌≤◌, List, [], ◌∷◌, ◌++◌, length, drop, reverse, All}
+use Rattle.octets.specs.declared.TheConstants.{MAX_ENCODING}
+use Rattle.berreader.specs.declared.frame.Frame.{Frame}
+use Rattle.berreader.specs.declared.joined.Kind.{Kind}
+use Rattle.berreader.specs.declared.segments.Segments.{Segments}
+use Rattle.berreader.specs.Completing.{Completes, IsEndOf}
+use Rattle.berreader.specs.Joined.{Element, segment_of, HoldsPiece, IsWholePiece, string_of, IsHeld}
+
+-- the open encodings, the innermost first
+abbrev pub stack : List Frame → List Frame
+stack frames = reverse frames
+
+-- the octets complete the string, and leave a rest
+abbrev pub Completion : (kind : Kind) → Segments → List ℕ → List (Element kind) → List ℕ → Type 0
+Completion kind segments octets total rest =
+    Completes (segment_of kind) (HoldsPiece kind) (IsWholePiece kind) (stack segments.frames.items) segments.taken (string_of kind segments.joined) octets total rest
+
+-- the octets begin with some that complete a string
+abbrev pub CanComplete : Kind → Segments → List ℕ → Type 0
+CanComplete kind segments octets = (total : List (Element kind)) × (rest : List ℕ) × Completion kind segments octets total rest
+
+-- what completes the old one by the first octets is what completes the new one by the second
+pub record IsAlike (kind : Kind) (old new : Segments) (first second : List ℕ) : Type 0 where
+  pub forth : (total : List (Element kind)) (rest : List ℕ) → Completion kind old first total rest → Completion kind new second total rest
+  pub back : (total : List (Element kind)) (rest : List ℕ) → Completion kind new second total rest → Completion kind old first total rest
+
+-- so many of the octets were taken
+pub record IsTaken (kind : Kind) (old new : Segments) (octets : List ℕ) (used : ℕ) : Type 0 where
+  pub there : used ≤ length octets
+  pub alike : (more : List ℕ) → IsAlike kind old new (octets ++ more) (drop used octets ++ more)
+
+-- no encoding ends past the limit, and the octets hold a string
+pub record IsSound (kind : Kind) (segments : Segments) : Type 0 where
+  pub within : All (λ frame. frame.end ≤ MAX_ENCODING) (stack segments.frames.items)
+  pub held : IsHeld kind segments.joined
+
+-- this is the innermost open encoding
+abbrev pub IsTop : Frame → List Frame → Type 0
+IsTop frame frames = (others : List Frame) × (stack frames ≡ frame ∷ others)
+
+-- the open encoding ends at the front of the octets
+pub record EndsAt (frame : Frame) (taken : ℕ) (octets : List ℕ) : Type 0 where
+  pub mark : List ℕ
+  pub others : List ℕ
+  pub ends : IsEndOf frame taken mark
+  pub parts : octets ≡ mark ++ others
+
+-- one encoding is open, and nothing of the string has come
+pub record IsOpened (frame : Frame) (taken : ℕ) (segments : Segments) : Type 0 where
+  pub frames : stack segments.frames.items ≡ frame ∷ []
+  pub place : segments.taken ≡ taken
+  pub octets : segments.joined.octets.items ≡ []
+  pub unused : segments.joined.unused ≡ 0

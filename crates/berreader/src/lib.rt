@@ -1,0 +1,22 @@
+//! Reads values of a type under the basic encoding rules (X.690 clause 8).
+//!
+//! An encoding may have either form, and lengths any spelling; the limits on depth and size are this
+//! project's own (`docs/PROFILE.md`). The segments of a constructed string, at whatever depth, are
+//! appended to one vector, and open encodings are held on a stack, so that no call nests.
+#![tactic(auto)]
+
+mod contents;
+mod frame;
+mod head;
+mod joined;
+mod parts;
+mod reading;
+mod segments;
+
+pub use reading::read;
+
+/// How many constructed encodings may nest.
+pub const MAX_NESTED: usize = 64;
+
+#[cfg(test)]
+mod tests;
