@@ -8,3 +8,7 @@ pub mod ListLemmas
 pub mod OidLemmas
 pub mod Instances
 pub mod ContentsLengthLemmas
+pub mod SegmentInstances
+pub mod StringInstances
+pub mod CutInstances
+pub mod DepthInstances
