@@ -9,7 +9,7 @@ use octets::{Class, Tag};
 use std::alloc::Global;
 use types::{Refusal, Value, WellTyped};
 
-// The tags of segments, whatever the tag of the string (X.690 8.6.4.1 and 8.7.3.2).
+// The tags of segments, whatever the tag of the string (X.690 8.6.4 and 8.7.3).
 const BIT_SEGMENT: Tag = Tag {
     class: Class::Universal,
     number: 3,
