@@ -6,35 +6,35 @@ use Rattle.std.proofs.lemmas.List.Elements.{All-append, All-cons, All-nil}
 use Rattle.std.proofs.Math.Nat.{pow-le-pow_right, mul-le-mul_right, mul-le-mul_left}
 use Rattle.std.proofs.lemmas.Grind.{pow_more}
 use Rattle.std.proofs.lemmas.Bool.{cases_lt}
-use Rattle.octets.specs.Base128.{continued, IsBase128}
+use Rattle.octets.specs.Base128.{base_128_octets, IsBase128}
 use Rattle.octets.specs.Digits.{number_of}
 use Rattle.octets.specs.Front.{HasFront}
 use Rattle.octets.proofs.DigitLemmas.{number_of-snoc, number_of-append, number_of-below, All-tail}
-use Rattle.octets.proofs.IdentifierLemmas.{continued_unique}
+use Rattle.octets.proofs.IdentifierLemmas.{base_128_octets_unique}
 use Rattle.primitives.proofs.DigitLemmas.{number_of-injective}
 
 -- the octets of digits that others follow
-abbrev pub higher : List ℕ → List ℕ
-higher [] = []
-higher (digit ∷ digits) = (128 + digit) ∷ higher digits
+abbrev pub continuing_octets : List ℕ → List ℕ
+continuing_octets [] = []
+continuing_octets (digit ∷ digits) = (128 + digit) ∷ continuing_octets digits
 
-length-higher : (ds : List ℕ) → length (higher ds) ≡ length ds
-length-higher [] = refl
-length-higher (d ∷ ds) = omega (arith, length-higher ds)
+length-continuing_octets : (ds : List ℕ) → length (continuing_octets ds) ≡ length ds
+length-continuing_octets [] = refl
+length-continuing_octets (d ∷ ds) = omega (arith, length-continuing_octets ds)
 
-pub length-continued : (ds : List ℕ) → length (continued ds) ≡ length ds
-length-continued [] = refl
-length-continued (d ∷ []) = refl
-length-continued (d ∷ e ∷ ds) = omega (arith, length-continued (e ∷ ds))
+pub length-base_128_octets : (ds : List ℕ) → length (base_128_octets ds) ≡ length ds
+length-base_128_octets [] = refl
+length-base_128_octets (d ∷ []) = refl
+length-base_128_octets (d ∷ e ∷ ds) = omega (arith, length-base_128_octets (e ∷ ds))
 
-higher-snoc : (ds : List ℕ) (d : ℕ) → higher (ds ++ d ∷ []) ≡ higher ds ++ (128 + d) ∷ []
-higher-snoc [] d = refl
-higher-snoc (c ∷ ds) d = ap (λ t. (128 + c) ∷ t) (higher-snoc ds d)
+continuing_octets-snoc : (ds : List ℕ) (d : ℕ) → continuing_octets (ds ++ d ∷ []) ≡ continuing_octets ds ++ (128 + d) ∷ []
+continuing_octets-snoc [] d = refl
+continuing_octets-snoc (c ∷ ds) d = ap (λ t. (128 + c) ∷ t) (continuing_octets-snoc ds d)
 
-pub continued-snoc : (ds : List ℕ) (d : ℕ) → continued (ds ++ d ∷ []) ≡ higher ds ++ d ∷ []
-continued-snoc [] d = refl
-continued-snoc (c ∷ []) d = refl
-continued-snoc (c ∷ e ∷ ds) d = ap (λ t. (128 + c) ∷ t) (continued-snoc (e ∷ ds) d)
+pub base_128_octets-snoc : (ds : List ℕ) (d : ℕ) → base_128_octets (ds ++ d ∷ []) ≡ continuing_octets ds ++ d ∷ []
+base_128_octets-snoc [] d = refl
+base_128_octets-snoc (c ∷ []) d = refl
+base_128_octets-snoc (c ∷ e ∷ ds) d = ap (λ t. (128 + c) ∷ t) (base_128_octets-snoc (e ∷ ds) d)
 
 All-one : (d : ℕ) → d < 128 → All (λ x. x < 128) (d ∷ [])
 All-one d h = All-cons (λ x. x < 128) d [] h (All-nil (λ x. x < 128))
@@ -59,14 +59,14 @@ AreDigits-snoc number d ds h below first = record {
   value = number_of-snoc 128 ds d ∙ ap (λ n. n * 128 + d) h.value;
 }
 
-IsBase128-snoc : (number d : ℕ) (ds : List ℕ) → AreDigits number ds → d < 128 → IsBase128 (number * 128 + d) (higher ds ++ d ∷ [])
+IsBase128-snoc : (number d : ℕ) (ds : List ℕ) → AreDigits number ds → d < 128 → IsBase128 (number * 128 + d) (continuing_octets ds ++ d ∷ [])
 IsBase128-snoc number d ds h below = record {
   digits = ds ++ d ∷ [];
   below_128 = All-snoc ds d h.below_128 below;
   at_least_one = omega (arith, length-append ds (d ∷ []));
   no_leading_zero = λ two. leading-snoc ds d h.no_leading_zero (λ none. absurd (omega (arith, none, length-append ds (d ∷ []))));
   value = number_of-snoc 128 ds d ∙ ap (λ n. n * 128 + d) h.value;
-  spelt = sym (continued-snoc ds d);
+  spelt = sym (base_128_octets-snoc ds d);
 }
 
 -- the first i octets are digits that others follow
@@ -74,7 +74,7 @@ pub record IsBegun (octets : List ℕ) (i number : ℕ) : Type 0 where
   pub digits : List ℕ
   pub size : length digits ≡ i
   pub are_digits : AreDigits number digits
-  pub spelt : take i octets ≡ higher digits
+  pub spelt : take i octets ≡ continuing_octets digits
 
 pub IsBegun-more : (octets : List ℕ) (i number octet : ℕ) → IsBegun octets i number → i < length octets → get_or octets i 0 ≡ octet → 128 ≤ octet → octet < 256 → (i ≡ 0 → octet ≢ 128) → IsBegun octets (i + 1) (number * 128 + octet % 128)
 IsBegun-more octets i number octet h below item high low first =
@@ -85,7 +85,7 @@ IsBegun-more octets i number octet h below item high low first =
       digits = h.digits ++ d ∷ [];
       size = omega (arith, length-append h.digits (d ∷ []), h.size);
       are_digits = AreDigits-snoc number d h.digits h.are_digits (omega arith) (λ none is_zero. first (omega (arith, none, h.size)) (omega (arith, whole, is_zero)));
-      spelt = take_more octets i 0 below ∙ (ap (λ t. t ++ get_or octets i 0 ∷ []) h.spelt ∙ (ap (λ t. higher h.digits ++ t) last ∙ sym (higher-snoc h.digits d)));
+      spelt = take_more octets i 0 below ∙ (ap (λ t. t ++ get_or octets i 0 ∷ []) h.spelt ∙ (ap (λ t. continuing_octets h.digits ++ t) last ∙ sym (continuing_octets-snoc h.digits d)));
     }
 
 pub IsBase128-from_begun : (octets : List ℕ) (i number octet : ℕ) → IsBegun octets i number → i < length octets → get_or octets i 0 ≡ octet → octet < 128 → IsBase128 (number * 128 + octet % 128) (take (i + 1) octets)
@@ -93,7 +93,7 @@ IsBase128-from_begun octets i number octet h below item low =
     let d = octet % 128 in
     let whole : octet ≡ d = omega arith in
     let last : get_or octets i 0 ∷ [] ≡ d ∷ [] = ap (λ n. n ∷ []) (item ∙ whole) in
-    let spelt : take (i + 1) octets ≡ higher h.digits ++ d ∷ [] = take_more octets i 0 below ∙ (ap (λ t. t ++ get_or octets i 0 ∷ []) h.spelt ∙ ap (λ t. higher h.digits ++ t) last) in
+    let spelt : take (i + 1) octets ≡ continuing_octets h.digits ++ d ∷ [] = take_more octets i 0 below ∙ (ap (λ t. t ++ get_or octets i 0 ∷ []) h.spelt ∙ ap (λ t. continuing_octets h.digits ++ t) last) in
     subst (IsBase128 (number * 128 + d)) (sym spelt) (IsBase128-snoc number d h.digits h.are_digits (omega arith))
 
 -- digits that go on from others
@@ -105,7 +105,7 @@ record GoOn (ds es : List ℕ) : Type 0 where
 GoOn-cons : (d e : ℕ) (ds es : List ℕ) → d ≡ e → GoOn ds es → GoOn (d ∷ ds) (e ∷ es)
 GoOn-cons d e ds es first h = record { more = h.more; some = h.some; whole = ap (λ n. n ∷ es) (sym first) ∙ ap (λ t. d ∷ t) h.whole }
 
-go_on : (ds es r s : List ℕ) → All (λ d. d < 128) es → 1 ≤ length es → higher ds ++ r ≡ continued es ++ s → GoOn ds es
+go_on : (ds es r s : List ℕ) → All (λ d. d < 128) es → 1 ≤ length es → continuing_octets ds ++ r ≡ base_128_octets es ++ s → GoOn ds es
 go_on [] es r s low some whole = record { more = es; some = some; whole = refl }
 go_on (d ∷ ds) [] r s low some whole = absurd (omega arith)
 go_on (d ∷ ds) (e ∷ []) r s low some whole =
@@ -115,14 +115,14 @@ go_on (d ∷ ds) (e ∷ []) r s low some whole =
 go_on (d ∷ ds) (e ∷ f ∷ es) r s low some whole =
     let firsts : 128 + d ≡ 128 + e = cc in
     let first : d ≡ e = omega arith in
-    let rests : higher ds ++ r ≡ continued (f ∷ es) ++ s = cc in
+    let rests : continuing_octets ds ++ r ≡ base_128_octets (f ∷ es) ++ s = cc in
     let h = go_on ds (f ∷ es) r s (All-tail (λ x. x < 128) e (f ∷ es) low) (omega arith) rests in
     GoOn-cons d e ds (f ∷ es) first h
 
 begun_goes_on : (octets : List ℕ) (i number n m : ℕ) (h : IsBegun octets i number) (g : IsBase128 m (take n octets)) → GoOn h.digits g.digits
 begun_goes_on octets i number n m h g =
-    let left : higher h.digits ++ drop i octets ≡ octets = ap (λ t. t ++ drop i octets) (sym h.spelt) ∙ take-append-drop i octets in
-    let right : continued g.digits ++ drop n octets ≡ octets = ap (λ t. t ++ drop n octets) (sym g.spelt) ∙ take-append-drop n octets in
+    let left : continuing_octets h.digits ++ drop i octets ≡ octets = ap (λ t. t ++ drop i octets) (sym h.spelt) ∙ take-append-drop i octets in
+    let right : base_128_octets g.digits ++ drop n octets ≡ octets = ap (λ t. t ++ drop n octets) (sym g.spelt) ∙ take-append-drop n octets in
     go_on h.digits g.digits (drop i octets) (drop n octets) g.below_128 g.at_least_one (left ∙ sym right)
 
 -- digits that go on make a number too great
@@ -142,7 +142,7 @@ pub no_subidentifier-open : (octets : List ℕ) (begun number : ℕ) → IsBegun
 no_subidentifier-open octets begun number h f =
     let g = f.2 in
     let on = begun_goes_on octets (length octets) begun f.0 number h g in
-    omega (arith, ap length on.whole, length-append h.digits on.more, on.some, h.size, ap length g.spelt, length-continued g.digits, length-take-le f.0 octets f.1, f.1)
+    omega (arith, ap length on.whole, length-append h.digits on.more, on.some, h.size, ap length g.spelt, length-base_128_octets g.digits, length-take-le f.0 octets f.1, f.1)
 
 -- two subidentifiers at the front of one list are the same
 pub record IsSameSubidentifier (m n : ℕ) (a b r s : List ℕ) : Type 0 where
@@ -152,11 +152,11 @@ pub record IsSameSubidentifier (m n : ℕ) (a b r s : List ℕ) : Type 0 where
 
 pub subidentifier_unique : (m n : ℕ) (a b r s : List ℕ) → IsBase128 m a → IsBase128 n b → a ++ r ≡ b ++ s → IsSameSubidentifier m n a b r s
 subidentifier_unique m n a b r s f g whole =
-    let fronts : continued f.digits ++ r ≡ continued g.digits ++ s = ap (λ t. t ++ r) (sym f.spelt) ∙ (whole ∙ ap (λ t. t ++ s) g.spelt) in
-    let h = continued_unique f.digits g.digits r s f.below_128 g.below_128 f.at_least_one g.at_least_one fronts in
+    let fronts : base_128_octets f.digits ++ r ≡ base_128_octets g.digits ++ s = ap (λ t. t ++ r) (sym f.spelt) ∙ (whole ∙ ap (λ t. t ++ s) g.spelt) in
+    let h = base_128_octets_unique f.digits g.digits r s f.below_128 g.below_128 f.at_least_one g.at_least_one fronts in
     record {
       value = sym f.value ∙ (ap (number_of 128) h.digits ∙ g.value);
-      octets = f.spelt ∙ (ap continued h.digits ∙ sym g.spelt);
+      octets = f.spelt ∙ (ap base_128_octets h.digits ∙ sym g.spelt);
       rest = h.rest;
     }
 
@@ -187,17 +187,17 @@ one_subidentifier n a b f g =
     let one = not_longer f.digits g.digits g.below_128 g.at_least_one f.no_leading_zero same in
     let two = not_longer g.digits f.digits f.below_128 f.at_least_one g.no_leading_zero (sym same) in
     let digits = number_of-injective 128 f.digits g.digits f.below_128 g.below_128 (omega (arith, one, two)) same in
-    f.spelt ∙ (ap continued digits ∙ sym g.spelt)
+    f.spelt ∙ (ap base_128_octets digits ∙ sym g.spelt)
 
 pub some_octets : (n : ℕ) (a : List ℕ) → IsBase128 n a → 1 ≤ length a
-some_octets n a h = omega (arith, ap length h.spelt, length-continued h.digits, h.at_least_one)
+some_octets n a h = omega (arith, ap length h.spelt, length-base_128_octets h.digits, h.at_least_one)
 
 -- the last octets stand at the end of nineteen places, and `rest` is left to be spelt before them
 pub record IsSubspelling (number rest start : ℕ) (spelt : List ℕ) : Type 0 where
   pub within : start ≤ 18
   pub size : length spelt ≡ 19
   pub room : rest < 128 ^ start
-  pub joined : (digits : List ℕ) → AreDigits rest digits → IsBase128 number (higher digits ++ drop start spelt)
+  pub joined : (digits : List ℕ) → AreDigits rest digits → IsBase128 number (continuing_octets digits ++ drop start spelt)
 
 drop_past : (spelt : List ℕ) → length spelt ≡ 19 → drop 19 spelt ≡ []
 drop_past spelt size = nil_from_length (drop 19 spelt) (omega (arith, length-drop 19 spelt, size))
@@ -213,7 +213,7 @@ IsSubspelling-last number spelt small size =
       within = omega arith;
       size = length-set spelt 18 d ∙ size;
       room = omega (arith, limit);
-      joined = λ digits h. subst (λ t. IsBase128 number (higher digits ++ t)) (sym last) (subst (λ n. IsBase128 n (higher digits ++ d ∷ [])) whole (IsBase128-snoc (number / 128) d digits h (omega arith)));
+      joined = λ digits h. subst (λ t. IsBase128 number (continuing_octets digits ++ t)) (sym last) (subst (λ n. IsBase128 n (continuing_octets digits ++ d ∷ [])) whole (IsBase128-snoc (number / 128) d digits h (omega arith)));
     }
 
 some_room : (rest start : ℕ) → rest < 128 ^ start → 0 < rest → 1 ≤ start
@@ -240,8 +240,8 @@ IsSubspelling-step number rest start spelt h some =
       joined = λ digits k.
           let first : length digits ≡ 0 → d ≢ 0 = λ none is_zero. no_digits digits (rest / 128) k none (omega arith) in
           let longer : AreDigits rest (digits ++ d ∷ []) = subst (λ n. AreDigits n (digits ++ d ∷ [])) value (AreDigits-snoc (rest / 128) d digits k (omega arith) first) in
-          let whole : higher (digits ++ d ∷ []) ++ drop start spelt ≡ higher digits ++ drop at (set spelt at (128 + d)) =
-          ap (λ t. t ++ drop start spelt) (higher-snoc digits d) ∙ (append_assoc (higher digits) ((128 + d) ∷ []) (drop start spelt) ∙ ap (λ t. higher digits ++ t) (sym more)) in
+          let whole : continuing_octets (digits ++ d ∷ []) ++ drop start spelt ≡ continuing_octets digits ++ drop at (set spelt at (128 + d)) =
+          ap (λ t. t ++ drop start spelt) (continuing_octets-snoc digits d) ∙ (append_assoc (continuing_octets digits) ((128 + d) ∷ []) (drop start spelt) ∙ ap (λ t. continuing_octets digits ++ t) (sym more)) in
           subst (IsBase128 number) whole (h.joined (digits ++ d ∷ []) longer);
     }
 
