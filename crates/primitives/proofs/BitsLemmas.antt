@@ -11,9 +11,9 @@ use Rattle.std.specs.Cmp.Lexicographic.{pointwise, pointwise_decides}
 use mathlib.Core.Bool.{beq}
 use Rattle.std.specs.Prelude.{Option, Some, None, Err, IfSome, IsSome, IfOk}
 use Rattle.std.specs.Option.{ok_or}
-use Rattle.octets.specs.Rule.{Rule, ber, der}
+use Rattle.octets.specs.Rule.{Rule, ber, cer, der, IsCanonical}
 use Rattle.octets.proofs.DigitLemmas.{All-tail}
-use Rattle.primitives.specs.Bits.{bit_of, bits_of_octet, bits_of, bits_before, IsBits, CanBeUnused, IsFrontOf, IsPadded}
+use Rattle.primitives.specs.Bits.{bit_of, bits_of_octet, bits_of, bits_before, AreUnused, IsBits, CanBeUnused, IsFrontOf, IsPadded}
 use Rattle.primitives.specs.Laws.{OneBitsValue, CanonicalBitsAreBer, OneCanonicalBits}
 
 pub length-bits_of_octet : (o : ℕ) → length (bits_of_octet o) ≡ 8
@@ -259,9 +259,15 @@ IsPadded-from_tail bits tail octets unused low below parts size clear =
     let same : tail ≡ replicate unused false = clear-replicate tail clear ∙ ap (λ n. replicate n false) size in
     record { at_most_7 = low; below_256 = below; bits_are = parts ∙ ap (λ t. bits ++ t) same }
 
--- the octets that `new` would take are the canonical contents octets
-pub IsBits-from_padded : (bits : List Bool) (octets : List ℕ) (unused : ℕ) → IsPadded bits octets unused → IsBits der bits (unused ∷ octets)
-IsBits-from_padded bits octets unused h = record {
+-- zero bits may be unused under every rule
+zeros_are_unused : (rule : Rule) (unused : ℕ) → AreUnused rule (replicate unused false)
+zeros_are_unused ber unused = tt
+zeros_are_unused cer unused = All-replicate (λ bit. bit ≡ false) unused false refl
+zeros_are_unused der unused = All-replicate (λ bit. bit ≡ false) unused false refl
+
+-- the octets that `new` would take are contents octets under every rule
+pub IsBits-from_padded : (rule : Rule) (bits : List Bool) (octets : List ℕ) (unused : ℕ) → IsPadded bits octets unused → IsBits rule bits (unused ∷ octets)
+IsBits-from_padded rule bits octets unused h = record {
   unused = unused;
   octets = octets;
   tail = replicate unused false;
@@ -270,7 +276,7 @@ IsBits-from_padded bits octets unused h = record {
   below_256 = h.below_256;
   bits_are = h.bits_are;
   tail_is = length-replicate unused false;
-  free = All-replicate (λ bit. bit ≡ false) unused false refl;
+  free = zeros_are_unused rule unused;
 }
 
 -- the count of unused bits and the octets of some contents octets
@@ -318,10 +324,20 @@ canonical_bits_are_ber rule bits c h = record {
   free = tt;
 }
 
+-- under the canonical rules unused bits are zero
+canonical_zeros : (rule : Rule) (tail : List Bool) → IsCanonical rule → AreUnused rule tail → All (λ bit. bit ≡ false) tail
+canonical_zeros ber tail canonical h = absurd (canonical refl)
+canonical_zeros cer tail canonical h = h
+canonical_zeros der tail canonical h = h
+
+canonical_padding : (rule : Rule) (bits : List Bool) (c : List ℕ) → IsCanonical rule → (h : IsBits rule bits c) → IsPadded bits h.octets h.unused
+canonical_padding rule bits c canonical h =
+    IsPadded-from_tail bits h.tail h.octets h.unused h.at_most_7 h.below_256 h.bits_are h.tail_is (canonical_zeros rule h.tail canonical h.free)
+
 pub one_canonical_bits : OneCanonicalBits
-one_canonical_bits bits c d f g =
-    let one = IsPadded-from_tail bits f.tail f.octets f.unused f.at_most_7 f.below_256 f.bits_are f.tail_is f.free in
-    let two = IsPadded-from_tail bits g.tail g.octets g.unused g.at_most_7 g.below_256 g.bits_are g.tail_is g.free in
+one_canonical_bits r s bits c d canonical canonical' f g =
+    let one = canonical_padding r bits c canonical f in
+    let two = canonical_padding s bits d canonical' g in
     let same = one_padding bits f.octets g.octets f.unused g.unused one two in
     f.contents_are ∙ (ap (λ n. n ∷ f.octets) same.unused ∙ (ap (λ t. g.unused ∷ t) same.octets ∙ sym g.contents_are))
 
@@ -348,7 +364,7 @@ unequal_padding b d o p u v f g differ =
     let one = one_padding d o p u v (subst (λ t. IsPadded t o u) same f) g in
     differ one.octets one.unused)
 
--- what is read where `new` answers some bits, or none
+-- what is read where `new` returns some bits, or none
 pub read_bits-value : {E : Type 0} (o : Option (List Bool)) (e : E) (unused : ℕ) (octets contents : List ℕ) → contents ≡ unused ∷ octets → All (λ x. x < 256) octets → (IsSome o → CanBeUnused unused octets) → IfSome o (λ bits. IsFrontOf bits unused octets)
     → IfOk (ok_or o e) (λ bits. IsBits ber bits contents)
 read_bits-value None e unused octets contents whole below can front = tt

@@ -1,6 +1,6 @@
 -- Lemmas on the contents octets of a BOOLEAN.
 use Rattle.std.proofs.Common.{◌≡◌, ◌≢◌, ℕ, true, false, List, [], ◌∷◌, refl, sym, ◌∙◌, arith}
-use Rattle.octets.specs.Rule.{Rule, ber, cer, der}
+use Rattle.octets.specs.Rule.{Rule, ber, cer, der, IsCanonical}
 use Rattle.primitives.specs.Boolean.{IsBoolean}
 use Rattle.primitives.specs.Laws.{OneBooleanValue, CanonicalBooleanIsBer, OneCanonicalBoolean}
 
@@ -23,6 +23,11 @@ one_boolean_value r s false false c h k = refl
 one_boolean_value r s true false c h k = absurd (true_not_false r s c h k)
 one_boolean_value r s false true c h k = absurd (true_not_false s r c k h)
 
+canonical_true : (rule : Rule) (c : List ℕ) → IsCanonical rule → IsBoolean rule true c → c ≡ 255 ∷ []
+canonical_true ber c canonical h = absurd (canonical refl)
+canonical_true cer c canonical h = h
+canonical_true der c canonical h = h
+
 pub one_canonical_boolean : OneCanonicalBoolean
-one_canonical_boolean false c d h k = h ∙ sym k
-one_canonical_boolean true c d h k = h ∙ sym k
+one_canonical_boolean r s false c d f g h k = h ∙ sym k
+one_canonical_boolean r s true c d f g h k = canonical_true r c f h ∙ sym (canonical_true s d g k)

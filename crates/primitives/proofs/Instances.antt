@@ -4,14 +4,15 @@ use Rattle.std.specs.Prelude.{ℤ, pos, negsuc}
 use Rattle.std.proofs.lemmas.List.{length-replicate}
 use Rattle.std.proofs.lemmas.List.Elements.{All-cons, All-nil, All-replicate}
 use Rattle.octets.specs.Base128.{IsBase128}
-use Rattle.octets.specs.Rule.{Rule, ber, cer, der}
+use Rattle.octets.specs.Rule.{Rule, ber, cer, der, IsCanonical}
+use Rattle.octets.proofs.RuleLemmas.{der_is_canonical}
 use Rattle.primitives.specs.Bits.{bits_of_octet, IsBits}
 use Rattle.primitives.specs.Boolean.{IsBoolean}
 use Rattle.primitives.specs.Integer.{IsInteger}
 use Rattle.primitives.specs.Null.{IsNull}
 use Rattle.primitives.specs.Oid.{AreOfArcs, IsOid, IsOidValue, IsRelativeOid, IsRelativeOidValue}
 use Rattle.primitives.proofs.BitsLemmas.{CanBeUnused-from, one_bits_value, one_canonical_bits}
-use Rattle.primitives.proofs.BooleanLemmas.{one_boolean_value}
+use Rattle.primitives.proofs.BooleanLemmas.{one_boolean_value, one_canonical_boolean}
 use Rattle.primitives.proofs.OidLemmas.{one_oid_value, one_oid_encoding}
 
 not_same : (a b : ℕ) → a < b → a ≡ b → ⊥
@@ -26,8 +27,10 @@ true_is_FF der = refl
 true_is_2A : IsBoolean ber true (42 ∷ [])
 true_is_2A = record { octet = 42; below_256 = omega arith; not_zero = omega arith; is = refl }
 
-true_is_2A_in_ber_alone : IsBoolean der true (42 ∷ []) → ⊥
-true_is_2A_in_ber_alone h = not_same 42 255 (omega arith) (ap (λ t. get_or t 0 0) h)
+true_is_2A_in_ber_alone : (rule : Rule) → IsCanonical rule → IsBoolean rule true (42 ∷ []) → ⊥
+true_is_2A_in_ber_alone rule canonical h =
+    let same = one_canonical_boolean rule der true (42 ∷ []) (255 ∷ []) canonical der_is_canonical h (true_is_FF der) in
+    not_same 42 255 (omega arith) (ap (λ t. get_or t 0 0) same)
 
 false_is_00 : (rule : Rule) → IsBoolean rule false (0 ∷ [])
 false_is_00 rule = refl
@@ -120,28 +123,28 @@ arcs_2_100_3 : IsOid (2 ∷ 100 ∷ 3 ∷ []) (129 ∷ 52 ∷ 3 ∷ [])
 arcs_2_100_3 = record {
   numbers = 180 ∷ 3 ∷ [];
   of_arcs = record { first = 2; second = 100; others = 3 ∷ []; arcs_are = refl; at_most_2 = omega arith; at_most_39 = λ h. omega arith; numbers_are = refl };
-  spelt = record { pieces = (129 ∷ 52 ∷ []) ∷ (3 ∷ []) ∷ []; each = (subidentifier_180, (subidentifier_3, tt)); joined = refl };
+  spelt = record { spellings = (129 ∷ 52 ∷ []) ∷ (3 ∷ []) ∷ []; each = (subidentifier_180, (subidentifier_3, tt)); joined = refl };
 }
 
 arcs_2_0 : IsOid (2 ∷ 0 ∷ []) (80 ∷ [])
 arcs_2_0 = record {
   numbers = 80 ∷ [];
   of_arcs = record { first = 2; second = 0; others = []; arcs_are = refl; at_most_2 = omega arith; at_most_39 = λ h. omega arith; numbers_are = refl };
-  spelt = record { pieces = (80 ∷ []) ∷ []; each = (subidentifier_80, tt); joined = refl };
+  spelt = record { spellings = (80 ∷ []) ∷ []; each = (subidentifier_80, tt); joined = refl };
 }
 
 arcs_2_40 : IsOid (2 ∷ 40 ∷ []) (120 ∷ [])
 arcs_2_40 = record {
   numbers = 120 ∷ [];
   of_arcs = record { first = 2; second = 40; others = []; arcs_are = refl; at_most_2 = omega arith; at_most_39 = λ h. omega arith; numbers_are = refl };
-  spelt = record { pieces = (120 ∷ []) ∷ []; each = (subidentifier_120, tt); joined = refl };
+  spelt = record { spellings = (120 ∷ []) ∷ []; each = (subidentifier_120, tt); joined = refl };
 }
 
 arcs_2_999_3 : IsOid (2 ∷ 999 ∷ 3 ∷ []) (136 ∷ 55 ∷ 3 ∷ [])
 arcs_2_999_3 = record {
   numbers = 1079 ∷ 3 ∷ [];
   of_arcs = record { first = 2; second = 999; others = 3 ∷ []; arcs_are = refl; at_most_2 = omega arith; at_most_39 = λ h. omega arith; numbers_are = refl };
-  spelt = record { pieces = (136 ∷ 55 ∷ []) ∷ (3 ∷ []) ∷ []; each = (subidentifier_1079, (subidentifier_3, tt)); joined = refl };
+  spelt = record { spellings = (136 ∷ 55 ∷ []) ∷ (3 ∷ []) ∷ []; each = (subidentifier_1079, (subidentifier_3, tt)); joined = refl };
 }
 
 arcs_2_100_3_are_not_81_34 : IsOid (2 ∷ 100 ∷ 3 ∷ []) (129 ∷ 52 ∷ []) → ⊥
@@ -168,7 +171,7 @@ octets_78_are_not_3_0 h =
 relative_arcs_180_3 : IsRelativeOid (180 ∷ 3 ∷ []) (129 ∷ 52 ∷ 3 ∷ [])
 relative_arcs_180_3 = record {
   at_least_one = omega arith;
-  spelt = record { pieces = (129 ∷ 52 ∷ []) ∷ (3 ∷ []) ∷ []; each = (subidentifier_180, (subidentifier_3, tt)); joined = refl };
+  spelt = record { spellings = (129 ∷ 52 ∷ []) ∷ (3 ∷ []) ∷ []; each = (subidentifier_180, (subidentifier_3, tt)); joined = refl };
 }
 
 -- the first arc is at most 2, and the second at most 39 below it
@@ -283,9 +286,9 @@ four_ones_are_04_FF : IsBits ber (replicate 4 true) (4 ∷ 255 ∷ [])
 unfolding bits_of_octet
 four_ones_are_04_FF = record { unused = 4; octets = 255 ∷ []; tail = replicate 4 true; contents_are = refl; at_most_7 = omega arith; below_256 = (All-cons (λ x. x < 256) 255 ([]) (omega arith) (All-nil (λ x. x < 256))); bits_are = refl; tail_is = refl; free = tt }
 
-four_ones_are_04_FF_in_ber_alone : IsBits der (replicate 4 true) (4 ∷ 255 ∷ []) → ⊥
-four_ones_are_04_FF_in_ber_alone h =
-    let same = one_canonical_bits (replicate 4 true) (4 ∷ 255 ∷ []) (4 ∷ 240 ∷ []) h four_ones_are_04_F0 in
+four_ones_are_04_FF_in_ber_alone : (rule : Rule) → IsCanonical rule → IsBits rule (replicate 4 true) (4 ∷ 255 ∷ []) → ⊥
+four_ones_are_04_FF_in_ber_alone rule canonical h =
+    let same = one_canonical_bits rule der (replicate 4 true) (4 ∷ 255 ∷ []) (4 ∷ 240 ∷ []) canonical der_is_canonical h four_ones_are_04_F0 in
     not_same 240 255 (omega arith) (ap (λ t. get_or t 1 0) (sym same))
 
 four_zeros_are_04_0F : IsBits ber (replicate 4 false) (4 ∷ 15 ∷ [])

@@ -10,8 +10,8 @@ use Rattle.std.proofs.lemmas.Bool.{cases_lt}
 use Rattle.std.proofs.lemmas.Int.{ints}
 use Rattle.octets.specs.Digits.{number_of}
 use Rattle.octets.proofs.DigitLemmas.{number_of-snoc, number_of-below, All-tail}
-use Rattle.primitives.proofs.DigitLemmas.{number_of-injective}
-use Rattle.primitives.specs.Integer.{IsInteger, integer_of, NineBitsDiffer, signed, signed_octet}
+use Rattle.octets.proofs.PlaceLemmas.{number_of-injective}
+use Rattle.primitives.specs.Integer.{IsInteger, integer_of, NineBitsDiffer, number_at, last_octet_at}
 use Rattle.primitives.specs.Laws.{OneIntegerValue, OneIntegerEncoding, AtMostSixteenOctets}
 
 -- one octet more
@@ -80,7 +80,7 @@ parts_of first rest octets =
           ];
     }
 
-IsComplement-from_value : (negative : Bool) (above first : ℕ) (rest : List ℕ) → All (λ d. d < 256) (first ∷ rest) → integer_of (first ∷ rest) ≡ signed negative above → IsComplement negative above (first ∷ rest)
+IsComplement-from_value : (negative : Bool) (above first : ℕ) (rest : List ℕ) → All (λ d. d < 256) (first ∷ rest) → integer_of (first ∷ rest) ≡ number_at negative above → IsComplement negative above (first ∷ rest)
 IsComplement-from_value false above first rest octets h =
     let p = parts_of first rest octets in
     let sum = difference-pos (number_of 256 (first % 128 ∷ rest)) (first / 128 * (128 * 256 ^ length rest)) above h in
@@ -96,7 +96,7 @@ IsComplement-from_value true above first rest octets h =
       | inr once ↦ record { value = omega (arith, p.low, p.whole, p.power, once, sum); half = omega (arith, p.low, p.power, once, sum) }
     ]
 
-value-from_IsComplement : (negative : Bool) (above first : ℕ) (rest : List ℕ) → All (λ d. d < 256) (first ∷ rest) → IsComplement negative above (first ∷ rest) → integer_of (first ∷ rest) ≡ signed negative above
+value-from_IsComplement : (negative : Bool) (above first : ℕ) (rest : List ℕ) → All (λ d. d < 256) (first ∷ rest) → IsComplement negative above (first ∷ rest) → integer_of (first ∷ rest) ≡ number_at negative above
 value-from_IsComplement false above first rest octets h =
     let p = parts_of first rest octets in
     let value : number_of 256 (first ∷ rest) ≡ above = h.value in
@@ -117,11 +117,11 @@ value-from_IsComplement true above first rest octets h =
     )
 
 -- a number's sign and how far it stands above 0 or below -1
-pub IsComplement-from : (negative : Bool) (above : ℕ) (c : List ℕ) → IsInteger (signed negative above) c → IsComplement negative above c
+pub IsComplement-from : (negative : Bool) (above : ℕ) (c : List ℕ) → IsInteger (number_at negative above) c → IsComplement negative above c
 IsComplement-from negative above [] h = let none = h.at_least_one in absurd (omega arith)
 IsComplement-from negative above (first ∷ rest) h = IsComplement-from_value negative above first rest h.below_256 h.value
 
-pub IsInteger-from : (negative : Bool) (above : ℕ) (c : List ℕ) → 1 ≤ length c → All (λ d. d < 256) c → NineBitsDiffer c → IsComplement negative above c → IsInteger (signed negative above) c
+pub IsInteger-from : (negative : Bool) (above : ℕ) (c : List ℕ) → 1 ≤ length c → All (λ d. d < 256) c → NineBitsDiffer c → IsComplement negative above c → IsInteger (number_at negative above) c
 IsInteger-from negative above [] some octets short h = absurd (omega arith)
 IsInteger-from negative above (first ∷ rest) some octets short h = record {
   at_least_one = some;
@@ -163,7 +163,7 @@ large true m x y cs octets value short =
     ]
 
 -- no number has octets of two lengths
-not_longer : (negative : Bool) (m : ℕ) (c : List ℕ) (k : ℕ) → IsInteger (signed negative m) c → 2 * m < 256 ^ k → 1 ≤ k → length c ≤ k
+not_longer : (negative : Bool) (m : ℕ) (c : List ℕ) (k : ℕ) → IsInteger (number_at negative m) c → 2 * m < 256 ^ k → 1 ≤ k → length c ≤ k
 not_longer negative m [] k h small some = omega arith
 not_longer negative m (x ∷ []) k h small some = omega arith
 not_longer negative m (x ∷ y ∷ cs) k h small some =
@@ -188,7 +188,7 @@ same_number : (negative : Bool) (m : ℕ) (c d : List ℕ) → length c ≡ leng
 same_number false m c d size h k = h ∙ sym k
 same_number true m c d size h k = let power : 256 ^ length c ≡ 256 ^ length d = ap (λ n. 256 ^ n) size in omega (arith, h, k, power)
 
-same_octets : (negative : Bool) (m : ℕ) (c d : List ℕ) → IsInteger (signed negative m) c → IsInteger (signed negative m) d → c ≡ d
+same_octets : (negative : Bool) (m : ℕ) (c d : List ℕ) → IsInteger (number_at negative m) c → IsInteger (number_at negative m) d → c ≡ d
 same_octets negative m c d h k =
     let f = IsComplement-from negative m c h in
     let g = IsComplement-from negative m d k in
@@ -219,23 +219,23 @@ half_above first rest high =
     let h : 128 * 256 ^ length rest ≤ first * 256 ^ length rest = mul-le-mul_right (256 ^ length rest) high in
     omega (arith, power, h)
 
-signed_octet-below : (negative : Bool) (m : ℕ) → signed_octet negative m < 256
-signed_octet-below false m = omega arith
-signed_octet-below true m = omega arith
+last_octet_at-below : (negative : Bool) (m : ℕ) → last_octet_at negative m < 256
+last_octet_at-below false m = omega arith
+last_octet_at-below true m = omega arith
 
 All-one : (d : ℕ) → d < 256 → All (λ x. x < 256) (d ∷ [])
 All-one d h = All-cons (λ x. x < 256) d [] h (All-nil (λ x. x < 256))
 
-complement-last : (negative : Bool) (m : ℕ) → m < 128 → IsComplement negative m (signed_octet negative m ∷ [])
+complement-last : (negative : Bool) (m : ℕ) → m < 128 → IsComplement negative m (last_octet_at negative m ∷ [])
 complement-last false m low = record { value = omega arith; half = omega arith }
 complement-last true m low = record { value = omega arith; half = omega arith }
 
 -- a number of one octet
-pub IsInteger-last : (negative : Bool) (m : ℕ) → m < 128 → IsInteger (signed negative m) (signed_octet negative m ∷ [])
+pub IsInteger-last : (negative : Bool) (m : ℕ) → m < 128 → IsInteger (number_at negative m) (last_octet_at negative m ∷ [])
 IsInteger-last negative m low =
-    IsInteger-from negative m (signed_octet negative m ∷ []) (omega arith) (All-one (signed_octet negative m) (signed_octet-below negative m)) tt (complement-last negative m low)
+    IsInteger-from negative m (last_octet_at negative m ∷ []) (omega arith) (All-one (last_octet_at negative m) (last_octet_at-below negative m)) tt (complement-last negative m low)
 
-complement-more : (negative : Bool) (m x : ℕ) (xs : List ℕ) → IsComplement negative (m / 256) (x ∷ xs) → IsComplement negative m ((x ∷ xs) ++ signed_octet negative m ∷ [])
+complement-more : (negative : Bool) (m x : ℕ) (xs : List ℕ) → IsComplement negative (m / 256) (x ∷ xs) → IsComplement negative m ((x ∷ xs) ++ last_octet_at negative m ∷ [])
 complement-more false m x xs h =
     let d = m % 256 in
     let b : List ℕ = x ∷ xs in
@@ -257,7 +257,7 @@ complement-more true m x xs h =
     let power : 256 ^ length b ≡ 256 ^ length xs * 256 = pow-suc 256 (length xs) in
     record { value = omega (arith, value, same, more); half = omega (arith, power, more, low) }
 
-differ-more : (negative : Bool) (m x : ℕ) (xs : List ℕ) → 128 ≤ m → IsComplement negative (m / 256) (x ∷ xs) → NineBitsDiffer (x ∷ xs) → NineBitsDiffer ((x ∷ xs) ++ signed_octet negative m ∷ [])
+differ-more : (negative : Bool) (m x : ℕ) (xs : List ℕ) → 128 ≤ m → IsComplement negative (m / 256) (x ∷ xs) → NineBitsDiffer (x ∷ xs) → NineBitsDiffer ((x ∷ xs) ++ last_octet_at negative m ∷ [])
 differ-more false m x [] above h short =
     let same : x * 1 + 0 ≡ m / 256 = h.value in
     let low : 2 * (m / 256) < 256 = h.half in
@@ -270,11 +270,11 @@ differ-more false m x (y ∷ ys) above h short = short
 differ-more true m x (y ∷ ys) above h short = short
 
 -- a number by its last octet and the ones before it
-pub IsInteger-more : (negative : Bool) (m : ℕ) (b : List ℕ) → 128 ≤ m → IsInteger (signed negative (m / 256)) b → IsInteger (signed negative m) (b ++ signed_octet negative m ∷ [])
+pub IsInteger-more : (negative : Bool) (m : ℕ) (b : List ℕ) → 128 ≤ m → IsInteger (number_at negative (m / 256)) b → IsInteger (number_at negative m) (b ++ last_octet_at negative m ∷ [])
 IsInteger-more negative m [] above h = let none = h.at_least_one in absurd (omega arith)
 IsInteger-more negative m (x ∷ xs) above h =
     let k = IsComplement-from negative (m / 256) (x ∷ xs) h in
-    IsInteger-from negative m ((x ∷ xs) ++ signed_octet negative m ∷ []) (omega arith) (All-append (λ d. d < 256) (x ∷ xs) (signed_octet negative m ∷ []) h.below_256 (All-one (signed_octet negative m) (signed_octet-below negative m))) (differ-more negative m x xs above k h.shortest) (complement-more negative m x xs k)
+    IsInteger-from negative m ((x ∷ xs) ++ last_octet_at negative m ∷ []) (omega arith) (All-append (λ d. d < 256) (x ∷ xs) (last_octet_at negative m ∷ []) h.below_256 (All-one (last_octet_at negative m) (last_octet_at-below negative m))) (differ-more negative m x xs above k h.shortest) (complement-more negative m x xs k)
 
 -- the last octets of a number stand at the end of sixteen places, and `rest` is left to be spelt before them
 pub record IsSpelling (negative : Bool) (above rest start : ℕ) (spelt : List ℕ) : Type 0 where
@@ -282,7 +282,7 @@ pub record IsSpelling (negative : Bool) (above rest start : ℕ) (spelt : List �
   pub within : start ≤ 16
   pub size : length spelt ≡ 16
   pub room : 2 * rest < 256 ^ start
-  pub joined : (b : List ℕ) → IsInteger (signed negative rest) b → IsInteger (signed negative above) (b ++ drop start spelt)
+  pub joined : (b : List ℕ) → IsInteger (number_at negative rest) b → IsInteger (number_at negative above) (b ++ drop start spelt)
 
 some_room : (rest start : ℕ) → 2 * rest < 256 ^ start → 128 ≤ rest → 2 ≤ start
 some_room rest start room above =
@@ -291,10 +291,10 @@ some_room rest start room above =
       | inr few ↦ let power : 256 ^ start ≤ 256 ^ 1 = pow-le-pow_right {n = 256} (omega arith) {i = start} {j = 1} few in let once : 256 ^ 1 ≡ 256 = refl in absurd (omega (arith, power, once))
     ]
 
-pub IsSpelling-step : (negative : Bool) (above rest start : ℕ) (spelt : List ℕ) → IsSpelling negative above rest start spelt → 128 ≤ rest → IsSpelling negative above (rest / 256) (start - 1) (set spelt (start - 1) (signed_octet negative rest))
+pub IsSpelling-step : (negative : Bool) (above rest start : ℕ) (spelt : List ℕ) → IsSpelling negative above rest start spelt → 128 ≤ rest → IsSpelling negative above (rest / 256) (start - 1) (set spelt (start - 1) (last_octet_at negative rest))
 IsSpelling-step negative above rest start spelt h big =
     let at = start - 1 in
-    let d = signed_octet negative rest in
+    let d = last_octet_at negative rest in
     let there = some_room rest start h.room big in
     let next : start ≡ at + 1 = omega arith in
     let more : drop at (set spelt at d) ≡ d ∷ drop start spelt = drop-set spelt at d (omega (arith, h.size, h.within)) ∙ ap (λ k. d ∷ drop k spelt) (sym next) in
@@ -306,14 +306,14 @@ IsSpelling-step negative above rest start spelt h big =
       room = omega (arith, h.room, power);
       joined = λ b k.
           let whole : (b ++ d ∷ []) ++ drop start spelt ≡ b ++ drop at (set spelt at d) = append_assoc b (d ∷ []) (drop start spelt) ∙ ap (λ t. b ++ t) (sym more) in
-          subst (IsInteger (signed negative above)) whole (h.joined (b ++ d ∷ []) (IsInteger-more negative rest b big k));
+          subst (IsInteger (number_at negative above)) whole (h.joined (b ++ d ∷ []) (IsInteger-more negative rest b big k));
     }
 
 -- the first octet ends the spelling
-pub IsInteger-from_spelling : (negative : Bool) (above rest start : ℕ) (spelt : List ℕ) → IsSpelling negative above rest start spelt → rest < 128 → IsInteger (signed negative above) (drop (start - 1) (set spelt (start - 1) (signed_octet negative rest)))
+pub IsInteger-from_spelling : (negative : Bool) (above rest start : ℕ) (spelt : List ℕ) → IsSpelling negative above rest start spelt → rest < 128 → IsInteger (number_at negative above) (drop (start - 1) (set spelt (start - 1) (last_octet_at negative rest)))
 IsInteger-from_spelling negative above rest start spelt h small =
     let at = start - 1 in
-    let d = signed_octet negative rest in
+    let d = last_octet_at negative rest in
     let next : start ≡ at + 1 = omega (arith, h.some) in
     let more : drop at (set spelt at d) ≡ d ∷ drop start spelt = drop-set spelt at d (omega (arith, h.size, h.within, h.some)) ∙ ap (λ k. d ∷ drop k spelt) (sym next) in
-    subst (IsInteger (signed negative above)) (sym more) (h.joined (d ∷ []) (IsInteger-last negative rest small))
+    subst (IsInteger (number_at negative above)) (sym more) (h.joined (d ∷ []) (IsInteger-last negative rest small))

@@ -1,5 +1,4 @@
 pub mod BooleanLemmas
-pub mod DigitLemmas
 pub mod IntegerLemmas
 pub mod SubidentifierLemmas
 pub mod OidLemmas

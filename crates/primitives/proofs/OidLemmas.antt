@@ -9,12 +9,13 @@ use Rattle.std.proofs.Math.Seq.{take-add, get_or-append_seam}
 use Rattle.octets.specs.Base128.{IsBase128}
 use Rattle.octets.specs.Front.{HasFront}
 use Rattle.octets.proofs.FrontLemmas.{HasFront-from_parts}
+use Rattle.octets.proofs.UniqueLemmas.{base_128_unique}
 use Rattle.primitives.specs.Oid.{AreSubidentifiers, AreOfArcs, AreWithinLimits, IsReadSubidentifier}
 use Rattle.primitives.specs.Laws.{OneOidValue, OneOidEncoding, OneRelativeOidValue, OneRelativeOidEncoding}
-use Rattle.primitives.proofs.SubidentifierLemmas.{subidentifier_unique, one_subidentifier, some_octets}
+use Rattle.primitives.proofs.SubidentifierLemmas.{subidentifier_unique, some_octets}
 
 pub AreSubidentifiers-none : AreSubidentifiers [] []
-AreSubidentifiers-none = record { pieces = []; each = tt; joined = refl }
+AreSubidentifiers-none = record { spellings = []; each = tt; joined = refl }
 
 AllZip-snoc : (ns : List ℕ) (ps : List (List ℕ)) (n : ℕ) (p : List ℕ) → AllZip IsBase128 ns ps → IsBase128 n p → AllZip IsBase128 (ns ++ n ∷ []) (ps ++ p ∷ [])
 AllZip-snoc [] [] n p h g = (g, tt)
@@ -25,9 +26,9 @@ AllZip-snoc (m ∷ ns) (q ∷ ps) n p h g = (h.0, AllZip-snoc ns ps n p h.1 g)
 -- one subidentifier more
 pub AreSubidentifiers-snoc : (ns c : List ℕ) (n : ℕ) (p : List ℕ) → AreSubidentifiers ns c → IsBase128 n p → AreSubidentifiers (ns ++ n ∷ []) (c ++ p)
 AreSubidentifiers-snoc ns c n p h g = record {
-  pieces = h.pieces ++ p ∷ [];
-  each = AllZip-snoc ns h.pieces n p h.each g;
-  joined = ap (λ t. t ++ p) h.joined ∙ (ap (λ t. concat h.pieces ++ t) (sym (append-nil p)) ∙ sym (concat-append h.pieces (p ∷ [])));
+  spellings = h.spellings ++ p ∷ [];
+  each = AllZip-snoc ns h.spellings n p h.each g;
+  joined = ap (λ t. t ++ p) h.joined ∙ (ap (λ t. concat h.spellings ++ t) (sym (append-nil p)) ∙ sym (concat-append h.spellings (p ∷ [])));
 }
 
 -- the first subidentifier of some octets, and what follows it
@@ -36,7 +37,7 @@ record IsFirstOf (n : ℕ) (numbers rest : List ℕ) : Type 0 where
   whole : numbers ≡ n ∷ others
   spelt : AreSubidentifiers others rest
 
-first_of : (n : ℕ) (a r numbers : List ℕ) (pieces : List (List ℕ)) → IsBase128 n a → AllZip IsBase128 numbers pieces → a ++ r ≡ concat pieces → IsFirstOf n numbers r
+first_of : (n : ℕ) (a r numbers : List ℕ) (spellings : List (List ℕ)) → IsBase128 n a → AllZip IsBase128 numbers spellings → a ++ r ≡ concat spellings → IsFirstOf n numbers r
 first_of n a r [] [] g each joined = absurd (omega (arith, some_octets n a g, ap length joined, length-append a r))
 first_of n a r [] (p ∷ ps) g each joined = absurd each
 first_of n a r (m ∷ ms) [] g each joined = absurd each
@@ -45,7 +46,7 @@ first_of n a r (m ∷ ms) (p ∷ ps) g each joined =
     record {
       others = ms;
       whole = ap (λ k. k ∷ ms) (sym same.value);
-      spelt = record { pieces = ps; each = each.1; joined = same.rest };
+      spelt = record { spellings = ps; each = each.1; joined = same.rest };
     }
 
 -- subidentifiers that begin with these numbers, and go on in the rest
@@ -79,7 +80,7 @@ AreRead-more contents start numbers n used h few g = record {
   };
   only = λ others k.
       let on = h.only others k in
-      let first = first_of n (take used (drop start contents)) (drop used (drop start contents)) on.more on.spelt.pieces g.spelt on.spelt.each (take-append-drop used (drop start contents) ∙ on.spelt.joined) in
+      let first = first_of n (take used (drop start contents)) (drop used (drop start contents)) on.more on.spelt.spellings g.spelt on.spelt.each (take-append-drop used (drop start contents) ∙ on.spelt.joined) in
       record {
         more = first.others;
         whole = on.whole ∙ (ap (λ t. numbers ++ t) first.whole ∙ sym (append_assoc numbers (n ∷ []) first.others));
@@ -97,7 +98,7 @@ record IsSome (numbers contents : List ℕ) : Type 0 where
   parts : contents ≡ octets ++ rest
   spelt : IsBase128 number octets
 
-some_of : (numbers contents : List ℕ) (pieces : List (List ℕ)) → AllZip IsBase128 numbers pieces → contents ≡ concat pieces → 1 ≤ length contents → IsSome numbers contents
+some_of : (numbers contents : List ℕ) (spellings : List (List ℕ)) → AllZip IsBase128 numbers spellings → contents ≡ concat spellings → 1 ≤ length contents → IsSome numbers contents
 some_of [] contents [] each joined some = absurd (omega (arith, ap length joined))
 some_of [] contents (p ∷ ps) each joined some = absurd each
 some_of (m ∷ ms) contents [] each joined some = absurd each
@@ -107,7 +108,7 @@ some_of (m ∷ ms) contents (p ∷ ps) each joined some = record { number = m; o
 pub no_subidentifiers-many : (contents : List ℕ) (start : ℕ) (numbers others : List ℕ) → AreRead contents start numbers → 128 ≤ length numbers → start < length contents → AreWithinLimits others → AreSubidentifiers others contents → ⊥
 no_subidentifiers-many contents start numbers others h many past within spelt =
     let on = h.only others spelt in
-    let some = some_of on.more (drop start contents) on.spelt.pieces on.spelt.each on.spelt.joined (omega (arith, length-drop start contents)) in
+    let some = some_of on.more (drop start contents) on.spelt.spellings on.spelt.each on.spelt.joined (omega (arith, length-drop start contents)) in
     omega (arith, within.few, ap length on.whole, length-append numbers on.more, ap length some.whole)
 
 number_below : (numbers : List ℕ) (n : ℕ) (others : List ℕ) → All (λ number. number < 2 ^ 128) (numbers ++ n ∷ others) → n < 2 ^ 128
@@ -120,13 +121,13 @@ number_below numbers n others h =
 pub no_subidentifiers-bad : (contents : List ℕ) (start : ℕ) (numbers others : List ℕ) → AreRead contents start numbers → start < length contents → ((n : ℕ) → n < 2 ^ 128 → HasFront (IsBase128 n) (drop start contents) → ⊥) → AreWithinLimits others → AreSubidentifiers others contents → ⊥
 no_subidentifiers-bad contents start numbers others h past none within spelt =
     let on = h.only others spelt in
-    let some = some_of on.more (drop start contents) on.spelt.pieces on.spelt.each on.spelt.joined (omega (arith, length-drop start contents)) in
+    let some = some_of on.more (drop start contents) on.spelt.spellings on.spelt.each on.spelt.joined (omega (arith, length-drop start contents)) in
     let whole : others ≡ numbers ++ some.number ∷ some.others = on.whole ∙ ap (λ t. numbers ++ t) some.whole in
     let below : some.number < 2 ^ 128 = number_below numbers some.number some.others (subst (All (λ number. number < 2 ^ 128)) whole within.below) in
     none some.number below (HasFront-from_parts (IsBase128 some.number) some.octets some.rest (drop start contents) some.parts some.spelt)
 
-none_of : (numbers : List ℕ) (pieces : List (List ℕ)) → AllZip IsBase128 numbers pieces → [] ≡ concat pieces → length numbers ≡ 0
-none_of [] pieces each joined = refl
+none_of : (numbers : List ℕ) (spellings : List (List ℕ)) → AllZip IsBase128 numbers spellings → [] ≡ concat spellings → length numbers ≡ 0
+none_of [] spellings each joined = refl
 none_of (m ∷ ms) [] each joined = absurd each
 none_of (m ∷ ms) (p ∷ ps) each joined = absurd (omega (arith, some_octets m p each.0, ap length joined, length-append p (concat ps)))
 
@@ -187,13 +188,13 @@ octets_unique [] (p ∷ ps) qs f g = absurd f
 octets_unique (x ∷ n) [] qs f g = absurd f
 octets_unique (x ∷ n) (p ∷ ps) [] f g = absurd g
 octets_unique (x ∷ n) (p ∷ ps) (q ∷ qs) f g =
-    ap (λ t. t ++ concat ps) (one_subidentifier x p q f.0 g.0) ∙ ap (λ t. q ++ t) (octets_unique n ps qs f.1 g.1)
+    ap (λ t. t ++ concat ps) (base_128_unique x p q f.0 g.0) ∙ ap (λ t. q ++ t) (octets_unique n ps qs f.1 g.1)
 
 one_spelling : (n c d : List ℕ) → AreSubidentifiers n c → AreSubidentifiers n d → c ≡ d
-one_spelling n c d f g = f.joined ∙ (octets_unique n f.pieces g.pieces f.each g.each ∙ sym g.joined)
+one_spelling n c d f g = f.joined ∙ (octets_unique n f.spellings g.spellings f.each g.each ∙ sym g.joined)
 
 one_meaning : (m n c : List ℕ) → AreSubidentifiers m c → AreSubidentifiers n c → m ≡ n
-one_meaning m n c f g = numbers_unique m n f.pieces g.pieces f.each g.each (sym f.joined ∙ g.joined)
+one_meaning m n c f g = numbers_unique m n f.spellings g.spellings f.each g.each (sym f.joined ∙ g.joined)
 
 pub one_oid_value : OneOidValue
 one_oid_value a b c f g =

@@ -1,46 +1,17 @@
 -- Lemmas on one subidentifier.
-use Rattle.std.proofs.Common.{◌≡◌, ◌≢◌, ℕ, ◌+◌, ◌*◌, ◌^◌, ◌<◌, ◌≤◌, ◌-◌, ◌/◌, ◌%◌, inl, inr, List, [], ◌∷◌, ◌++◌, length, take, drop, refl, sym, ◌∙◌, ap, arith, All, get_or, set, zero, suc, subst, length-append, append_assoc}
+use Rattle.std.proofs.Common.{◌≡◌, ◌≢◌, ℕ, ◌+◌, ◌*◌, ◌^◌, ◌<◌, ◌≤◌, ◌-◌, ◌/◌, ◌%◌, List, [], ◌∷◌, ◌++◌, length, take, drop, refl, sym, ◌∙◌, ap, arith, All, get_or, set, subst, length-append, append_assoc}
 use Rattle.std.specs.Prelude.{slice_index}
 use Rattle.std.proofs.lemmas.List.{take_more, drop-set, length-set, take-append-drop, length-take-le, length-drop, nil_from_length}
-use Rattle.std.proofs.lemmas.List.Elements.{All-append, All-cons, All-nil}
-use Rattle.std.proofs.Math.Nat.{pow-le-pow_right, mul-le-mul_right, mul-le-mul_left}
+use Rattle.std.proofs.lemmas.List.Elements.{All-nil, All-push}
+use Rattle.std.proofs.Math.Nat.{pow-le-pow_right, mul-le-mul_left}
 use Rattle.std.proofs.lemmas.Grind.{pow_more}
-use Rattle.std.proofs.lemmas.Bool.{cases_lt}
 use Rattle.octets.specs.Base128.{base_128_octets, IsBase128}
 use Rattle.octets.specs.Digits.{number_of}
 use Rattle.octets.specs.Front.{HasFront}
-use Rattle.octets.proofs.DigitLemmas.{number_of-snoc, number_of-append, number_of-below, All-tail}
+use Rattle.octets.proofs.DigitLemmas.{number_of-snoc, number_of-append, All-tail}
+use Rattle.octets.proofs.Base128Lemmas.{continuing_octets, length-base_128_octets, continuing_octets-snoc, base_128_octets-snoc}
 use Rattle.octets.proofs.IdentifierLemmas.{base_128_octets_unique}
-use Rattle.primitives.proofs.DigitLemmas.{number_of-injective}
-
--- the octets of digits that others follow
-abbrev pub continuing_octets : List ℕ → List ℕ
-continuing_octets [] = []
-continuing_octets (digit ∷ digits) = (128 + digit) ∷ continuing_octets digits
-
-length-continuing_octets : (ds : List ℕ) → length (continuing_octets ds) ≡ length ds
-length-continuing_octets [] = refl
-length-continuing_octets (d ∷ ds) = omega (arith, length-continuing_octets ds)
-
-pub length-base_128_octets : (ds : List ℕ) → length (base_128_octets ds) ≡ length ds
-length-base_128_octets [] = refl
-length-base_128_octets (d ∷ []) = refl
-length-base_128_octets (d ∷ e ∷ ds) = omega (arith, length-base_128_octets (e ∷ ds))
-
-continuing_octets-snoc : (ds : List ℕ) (d : ℕ) → continuing_octets (ds ++ d ∷ []) ≡ continuing_octets ds ++ (128 + d) ∷ []
-continuing_octets-snoc [] d = refl
-continuing_octets-snoc (c ∷ ds) d = ap (λ t. (128 + c) ∷ t) (continuing_octets-snoc ds d)
-
-pub base_128_octets-snoc : (ds : List ℕ) (d : ℕ) → base_128_octets (ds ++ d ∷ []) ≡ continuing_octets ds ++ d ∷ []
-base_128_octets-snoc [] d = refl
-base_128_octets-snoc (c ∷ []) d = refl
-base_128_octets-snoc (c ∷ e ∷ ds) d = ap (λ t. (128 + c) ∷ t) (base_128_octets-snoc (e ∷ ds) d)
-
-All-one : (d : ℕ) → d < 128 → All (λ x. x < 128) (d ∷ [])
-All-one d h = All-cons (λ x. x < 128) d [] h (All-nil (λ x. x < 128))
-
-All-snoc : (ds : List ℕ) (d : ℕ) → All (λ x. x < 128) ds → d < 128 → All (λ x. x < 128) (ds ++ d ∷ [])
-All-snoc ds d h k = All-append (λ x. x < 128) ds (d ∷ []) h (All-one d k)
+use Rattle.octets.proofs.PlaceLemmas.{room_left}
 
 -- digits without a leading zero
 pub record AreDigits (number : ℕ) (digits : List ℕ) : Type 0 where
@@ -54,7 +25,7 @@ leading-snoc (c ∷ ds) d some none = some (omega arith)
 
 AreDigits-snoc : (number d : ℕ) (ds : List ℕ) → AreDigits number ds → d < 128 → (length ds ≡ 0 → d ≢ 0) → AreDigits (number * 128 + d) (ds ++ d ∷ [])
 AreDigits-snoc number d ds h below first = record {
-  below_128 = All-snoc ds d h.below_128 below;
+  below_128 = All-push (λ x. x < 128) ds d h.below_128 below;
   no_leading_zero = λ _. leading-snoc ds d h.no_leading_zero first;
   value = number_of-snoc 128 ds d ∙ ap (λ n. n * 128 + d) h.value;
 }
@@ -62,7 +33,7 @@ AreDigits-snoc number d ds h below first = record {
 IsBase128-snoc : (number d : ℕ) (ds : List ℕ) → AreDigits number ds → d < 128 → IsBase128 (number * 128 + d) (continuing_octets ds ++ d ∷ [])
 IsBase128-snoc number d ds h below = record {
   digits = ds ++ d ∷ [];
-  below_128 = All-snoc ds d h.below_128 below;
+  below_128 = All-push (λ x. x < 128) ds d h.below_128 below;
   at_least_one = omega (arith, length-append ds (d ∷ []));
   no_leading_zero = λ two. leading-snoc ds d h.no_leading_zero (λ none. absurd (omega (arith, none, length-append ds (d ∷ []))));
   value = number_of-snoc 128 ds d ∙ ap (λ n. n * 128 + d) h.value;
@@ -137,7 +108,7 @@ no_subidentifier-great octets i begun number h great small f =
     let limit : 2 ^ 121 * 128 ≡ 2 ^ 128 = refl in
     omega (arith, value, least, limit, g.value, h.are_digits.value)
 
--- octets that all have bit 8 set hold no whole subidentifier
+-- octets that all have bit 8 set begin with no subidentifier
 pub no_subidentifier-open : (octets : List ℕ) (begun number : ℕ) → IsBegun octets (length octets) begun → HasFront (IsBase128 number) octets → ⊥
 no_subidentifier-open octets begun number h f =
     let g = f.2 in
@@ -159,35 +130,6 @@ subidentifier_unique m n a b r s f g whole =
       octets = f.spelt ∙ (ap base_128_octets h.digits ∙ sym g.spelt);
       rest = h.rest;
     }
-
--- a number of two digits or more is great
-least_number : (ds : List ℕ) → 1 ≤ length ds → slice_index ds 0 ≢ 0 → 128 ^ (length ds - 1) ≤ number_of 128 ds
-least_number [] some leading = absurd (omega arith)
-least_number (d ∷ ds) some leading =
-    let size : length (d ∷ ds) - 1 ≡ length ds = omega arith in
-    let power : 128 ^ (length (d ∷ ds) - 1) ≡ 128 ^ length ds = ap (λ n. 128 ^ n) size in
-    let least : 1 * 128 ^ length ds ≤ d * 128 ^ length ds = mul-le-mul_right (128 ^ length ds) (omega arith) in
-    omega (arith, power, least)
-
-not_longer : (ds es : List ℕ) → All (λ d. d < 128) es → 1 ≤ length es → (2 ≤ length ds → slice_index ds 0 ≢ 0) → number_of 128 ds ≡ number_of 128 es → length ds ≤ length es
-not_longer ds es low some leading same =
-    elim (cases_lt (length es) (length ds)) [
-      | inl more ↦
-          let least = least_number ds (omega arith) (leading (omega arith)) in
-          let most : number_of 128 es < 128 ^ length es = number_of-below 128 es low in
-          let power : 128 ^ length es ≤ 128 ^ (length ds - 1) = pow-le-pow_right {n = 128} (omega arith) {i = length es} {j = length ds - 1} (omega arith) in
-          absurd (omega (arith, least, most, power, same))
-      | inr few ↦ few
-    ]
-
--- a number has one spelling
-pub one_subidentifier : (n : ℕ) (a b : List ℕ) → IsBase128 n a → IsBase128 n b → a ≡ b
-one_subidentifier n a b f g =
-    let same : number_of 128 f.digits ≡ number_of 128 g.digits = f.value ∙ sym g.value in
-    let one = not_longer f.digits g.digits g.below_128 g.at_least_one f.no_leading_zero same in
-    let two = not_longer g.digits f.digits f.below_128 f.at_least_one g.no_leading_zero (sym same) in
-    let digits = number_of-injective 128 f.digits g.digits f.below_128 g.below_128 (omega (arith, one, two)) same in
-    f.spelt ∙ (ap base_128_octets digits ∙ sym g.spelt)
 
 pub some_octets : (n : ℕ) (a : List ℕ) → IsBase128 n a → 1 ≤ length a
 some_octets n a h = omega (arith, ap length h.spelt, length-base_128_octets h.digits, h.at_least_one)
@@ -216,10 +158,6 @@ IsSubspelling-last number spelt small size =
       joined = λ digits h. subst (λ t. IsBase128 number (continuing_octets digits ++ t)) (sym last) (subst (λ n. IsBase128 n (continuing_octets digits ++ d ∷ [])) whole (IsBase128-snoc (number / 128) d digits h (omega arith)));
     }
 
-some_room : (rest start : ℕ) → rest < 128 ^ start → 0 < rest → 1 ≤ start
-some_room rest zero room some = let once : 128 ^ 0 ≡ 1 = refl in absurd (omega (arith, once))
-some_room rest (suc start) room some = omega arith
-
 no_digits : (digits : List ℕ) (number : ℕ) → AreDigits number digits → length digits ≡ 0 → 1 ≤ number → ⊥
 no_digits [] number h none some = omega (arith, h.value)
 no_digits (d ∷ digits) number h none some = omega arith
@@ -228,7 +166,7 @@ pub IsSubspelling-step : (number rest start : ℕ) (spelt : List ℕ) → IsSubs
 IsSubspelling-step number rest start spelt h some =
     let at = start - 1 in
     let d = rest % 128 in
-    let there = some_room rest start h.room some in
+    let there = room_left 128 start rest h.room some in
     let next : start ≡ at + 1 = omega arith in
     let more : drop at (set spelt at (128 + d)) ≡ (128 + d) ∷ drop start spelt = drop-set spelt at (128 + d) (omega (arith, h.size, h.within)) ∙ ap (λ k. (128 + d) ∷ drop k spelt) (sym next) in
     let power : 128 ^ start ≡ 128 ^ at * 128 = ap (λ k. 128 ^ k) next ∙ pow_more 128 at in

@@ -33,18 +33,22 @@ pub record IsBits (rule : Rule) (bits : List Bool) (contents : List ℕ) : Type 
   pub tail_is : length tail ≡ unused
   pub free : AreUnused rule tail
 
--- 8.6.2.2 and 8.6.2.3: so many bits of the octets can be unused
+-- these are the contents octets under CER and DER both
+abbrev pub IsCanonicalBits : List Bool → List ℕ → Type 0
+IsCanonicalBits bits contents = IsBits cer bits contents × IsBits der bits contents
+
+-- 8.6.2.2 and 8.6.2.3: as many bits at the end of the octets can be unused
 pub record CanBeUnused (unused : ℕ) (octets : List ℕ) : Type 0 where
   pub at_most_7 : unused ≤ 7
   pub none : octets ≡ [] → unused ≡ 0
 
--- these are the bits of the octets but so many at the end
+-- these are the bits of the octets without the last `unused`
 pub record IsFrontOf (bits : List Bool) (unused : ℕ) (octets : List ℕ) : Type 0 where
   pub tail : List Bool
   pub bits_are : bits_of octets ≡ bits ++ tail
   pub tail_is : length tail ≡ unused
 
--- the octets of these bits, with so many zero bits after them
+-- the octets of these bits with `unused` zero bits after them
 pub record IsPadded (bits : List Bool) (octets : List ℕ) (unused : ℕ) : Type 0 where
   pub at_most_7 : unused ≤ 7
   pub below_256 : All (λ octet. octet < 256) octets

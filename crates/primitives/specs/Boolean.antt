@@ -15,3 +15,7 @@ IsBoolean rule false contents = contents ≡ 0 ∷ []
 IsBoolean ber true contents = IsNonZeroOctet contents
 IsBoolean cer true contents = contents ≡ 255 ∷ []
 IsBoolean der true contents = contents ≡ 255 ∷ []
+
+-- these are its contents octets under CER and DER both
+abbrev pub IsCanonicalBoolean : Bool → List ℕ → Type 0
+IsCanonicalBoolean value contents = IsBoolean cer value contents × IsBoolean der value contents

@@ -23,11 +23,11 @@ pub record IsInteger (number : ℤ) (contents : List ℕ) : Type 0 where
   pub value : integer_of contents ≡ number
 
 -- the number that stands at this distance above 0, or below -1
-abbrev pub signed : Bool → ℕ → ℤ
-signed false distance = pos distance
-signed true distance = negsuc distance
+abbrev pub number_at : Bool → ℕ → ℤ
+number_at false distance = pos distance
+number_at true distance = negsuc distance
 
 -- its last octet
-abbrev pub signed_octet : Bool → ℕ → ℕ
-signed_octet false distance = distance % 256
-signed_octet true distance = 255 - distance % 256
+abbrev pub last_octet_at : Bool → ℕ → ℕ
+last_octet_at false distance = distance % 256
+last_octet_at true distance = 255 - distance % 256

@@ -1,7 +1,7 @@
 -- What holds of all contents octets.
 use Rattle.std.specs.Prelude.{◌≡◌, ℕ, ◌≤◌, Bool, List, length, ℤ, FitsSigned}
 use Rattle.std.specs.Int.{w128}
-use Rattle.octets.specs.Rule.{Rule, ber, der}
+use Rattle.octets.specs.Rule.{Rule, ber, IsCanonical}
 use Rattle.primitives.specs.Bits.{IsBits}
 use Rattle.primitives.specs.Boolean.{IsBoolean}
 use Rattle.primitives.specs.Integer.{IsInteger}
@@ -16,9 +16,10 @@ OneBooleanValue =
 abbrev pub CanonicalBooleanIsBer : Type 0
 CanonicalBooleanIsBer = (rule : Rule) (value : Bool) (contents : List ℕ) → IsBoolean rule value contents → IsBoolean ber value contents
 
--- a truth value has one encoding under DER, and CER has the same
+-- a truth value has one encoding under CER and DER, the same under both
 abbrev pub OneCanonicalBoolean : Type 0
-OneCanonicalBoolean = (value : Bool) (c d : List ℕ) → IsBoolean der value c → IsBoolean der value d → c ≡ d
+OneCanonicalBoolean =
+    (r s : Rule) (value : Bool) (c d : List ℕ) → IsCanonical r → IsCanonical s → IsBoolean r value c → IsBoolean s value d → c ≡ d
 
 -- contents octets have one number
 abbrev pub OneIntegerValue : Type 0
@@ -55,6 +56,7 @@ OneBitsValue =
 abbrev pub CanonicalBitsAreBer : Type 0
 CanonicalBitsAreBer = (rule : Rule) (bits : List Bool) (contents : List ℕ) → IsBits rule bits contents → IsBits ber bits contents
 
--- bits have one encoding under DER, and CER has the same
+-- bits have one primitive encoding under CER and DER, the same under both
 abbrev pub OneCanonicalBits : Type 0
-OneCanonicalBits = (bits : List Bool) (c d : List ℕ) → IsBits der bits c → IsBits der bits d → c ≡ d
+OneCanonicalBits =
+    (r s : Rule) (bits : List Bool) (c d : List ℕ) → IsCanonical r → IsCanonical s → IsBits r bits c → IsBits s bits d → c ≡ d

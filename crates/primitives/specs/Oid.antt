@@ -3,13 +3,12 @@
 use Rattle.std.specs.Prelude.{◌≡◌, ℕ, ◌+◌, ◌*◌, ◌^◌, ◌<◌, ◌≤◌, List, ◌∷◌, length, take, All}
 use Rattle.std.specs.List.{AllZip, concat}
 use Rattle.octets.specs.Base128.{IsBase128}
-use Rattle.primitives.specs.declared.TheConstants.{MAX_SUBIDENTIFIERS}
 
 -- 8.19.2 and 8.20.2: the octets of the subidentifiers, one after another
 pub record AreSubidentifiers (numbers contents : List ℕ) : Type 0 where
-  pub pieces : List (List ℕ)
-  pub each : AllZip IsBase128 numbers pieces
-  pub joined : contents ≡ concat pieces
+  pub spellings : List (List ℕ)
+  pub each : AllZip IsBase128 numbers spellings
+  pub joined : contents ≡ concat spellings
 
 -- 8.19.3 and 8.19.4: the subidentifiers of these arcs. The first two arcs share one
 pub record AreOfArcs (arcs numbers : List ℕ) : Type 0 where
@@ -40,7 +39,7 @@ pub record IsRelativeOid (arcs contents : List ℕ) : Type 0 where
 
 -- this project's own limits on the subidentifiers of one value
 pub record AreWithinLimits (numbers : List ℕ) : Type 0 where
-  pub few : length numbers ≤ MAX_SUBIDENTIFIERS
+  pub few : length numbers ≤ 128
   pub below : All (λ number. number < 2 ^ 128) numbers
 
 -- these are the arcs of an OBJECT IDENTIFIER within the limits

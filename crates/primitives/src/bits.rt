@@ -5,8 +5,8 @@ ghost use Rattle.std.specs.Cmp.{partial_equiv_from_equiv, bool_eq_equiv};
 ghost use Rattle.std.specs.Cmp.Lexicographic.{pointwise, lists_equiv};
 ghost use mathlib.Core.Bool.{beq};
 ghost use Rattle.octets.specs.Front.{Appends};
-ghost use Rattle.octets.specs.Rule.{ber, der};
-ghost use Rattle.primitives.specs.Bits.{bits_of_octet, bits_before, CanBeUnused, IsBits, IsFrontOf, IsPadded};
+ghost use Rattle.octets.specs.Rule.{ber};
+ghost use Rattle.primitives.specs.Bits.{bits_of_octet, bits_before, CanBeUnused, IsBits, IsCanonicalBits, IsFrontOf, IsPadded};
 
 use crate::Fault;
 use octets::NoMemory;
@@ -44,7 +44,7 @@ impl Bits {
             return None;
         }
         let last = octets.len() - 1;
-        octets[last] = cleared(octets[last], unused);
+        octets[last] = clear_last_bits(octets[last], unused);
         Some(Bits { octets, unused })
     }
 
@@ -77,17 +77,17 @@ impl Eq for Bits {
     ghost laws = { lists_equiv bool_eq_equiv };
 }
 
-// The octet with its last `unused` bits zero.
+// The octet with its last bits zero, as many as `unused`.
 #[tactic(auto, using(crate::proofs::BitsLemmas::shifted_octet))]
-fn cleared(octet: u8, unused: u8) -> u8
+fn clear_last_bits(octet: u8, unused: u8) -> u8
     requires { unused ≤ 7 }
     ensures { bits_of_octet result ≡ take (8 - unused) (bits_of_octet octet) ++ replicate unused false }
 {
     octet >> unused << unused
 }
 
-/// The value of a BIT STRING's contents octets in a primitive encoding under BER. That unused bits are
-/// zero under CER and DER is tested by their readers.
+/// The value of a BIT STRING's contents octets in a primitive encoding under BER. Unused bits need not
+/// be zero, as CER and DER want them.
 pub fn read_bits(alloc: Global, contents: &[u8]) -> Result<Bits, Fault>
     ensures value { IfOk result (λ bits. IsBits ber bits contents.now) }
     ensures none { IsErrOf result Fault.Contents → (bits : List Bool) → ¬ IsBits ber bits contents.now }
@@ -101,7 +101,7 @@ pub fn read_bits(alloc: Global, contents: &[u8]) -> Result<Bits, Fault>
 
 /// Appends the contents octets of a BIT STRING in a primitive encoding under CER and DER.
 pub fn put_bits(out: &mut Vec<u8>, bits: &Bits) -> Result<(), NoMemory>
-    ensures appended { OnOk result (Appends (IsBits der bits.now) out.old.items out.new.items) }
+    ensures appended { OnOk result (Appends (IsCanonicalBits bits.now) out.old.items out.new.items) }
     ensures unchanged { OnErr result (out.new.items ≡ out.old.items) }
 {
     let before = out.len();

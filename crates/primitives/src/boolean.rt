@@ -2,8 +2,8 @@
 
 ghost use Rattle.std.specs.Prelude.{◌≡◌, Bool, IfSome, IfNone, OnOk, OnErr};
 ghost use Rattle.octets.specs.Front.{Appends};
-ghost use Rattle.octets.specs.Rule.{ber, der};
-ghost use Rattle.primitives.specs.Boolean.{IsBoolean};
+ghost use Rattle.octets.specs.Rule.{ber};
+ghost use Rattle.primitives.specs.Boolean.{IsBoolean, IsCanonicalBoolean};
 
 use octets::NoMemory;
 
@@ -20,7 +20,7 @@ pub fn read_boolean(contents: &[u8]) -> Option<bool>
 
 /// Appends the contents octets of a BOOLEAN under CER and DER (X.690 11.1).
 pub fn put_boolean(out: &mut Vec<u8>, value: bool) -> Result<(), NoMemory>
-    ensures appended { OnOk result (Appends (IsBoolean der value) out.old.items out.new.items) }
+    ensures appended { OnOk result (Appends (IsCanonicalBoolean value) out.old.items out.new.items) }
     ensures unchanged { OnErr result (out.new.items ≡ out.old.items) }
 {
     out.push(if value { 0xFF } else { 0x00 })?;

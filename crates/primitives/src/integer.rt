@@ -4,7 +4,7 @@ ghost use Rattle.std.specs.Prelude.{◌≡◌, ◌+◌, ◌*◌, ◌^◌, ◌<�
 ghost use Rattle.std.specs.Int.{w128};
 ghost use Rattle.octets.specs.Digits.{number_of};
 ghost use Rattle.octets.specs.Front.{Appends};
-ghost use Rattle.primitives.specs.Integer.{IsInteger, NineBitsDiffer, signed, signed_octet};
+ghost use Rattle.primitives.specs.Integer.{IsInteger, NineBitsDiffer, number_at, last_octet_at};
 
 use octets::NoMemory;
 
@@ -76,7 +76,7 @@ pub fn put_integer(out: &mut Vec<u8>, number: i128) -> Result<(), NoMemory>
 // Appends the contents octets of the number that stands `distance` above 0, or below -1.
 fn put_signed(out: &mut Vec<u8>, negative: bool, distance: u128) -> Result<(), NoMemory>
     requires { distance < 2 ^ 127 }
-    ensures appended { OnOk result (Appends (IsInteger (signed negative distance)) out.old.items out.new.items) }
+    ensures appended { OnOk result (Appends (IsInteger (number_at negative distance)) out.old.items out.new.items) }
     ensures unchanged { OnErr result (out.new.items ≡ out.old.items) }
 {
     // The octets come from the last to the first, and stand at the end of the room for sixteen.
@@ -96,7 +96,7 @@ fn put_signed(out: &mut Vec<u8>, negative: bool, distance: u128) -> Result<(), N
 
 // The last octet of that number.
 fn last_octet(negative: bool, distance: u128) -> u8
-    ensures { result ≡ signed_octet negative distance }
+    ensures { result ≡ last_octet_at negative distance }
 {
     let digit = (distance % 256) as u8;
     if negative { 0xFF - digit } else { digit }

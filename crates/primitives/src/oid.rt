@@ -93,7 +93,7 @@ fn put_subidentifiers(out: &mut Vec<u8>, first: u128, others: &[u128]) -> Result
     put
 }
 
-// The same, but some may stand where memory was refused.
+// Appends the octets of subidentifiers. Where memory was refused, those of the first few may stand.
 fn try_put_subidentifiers(out: &mut Vec<u8>, first: u128, others: &[u128]) -> Result<(), NoMemory>
     ensures appended { OnOk result (Appends (AreSubidentifiers (first ∷ others.now)) out.old.items out.new.items) }
     ensures kept { (more : List ℕ) × (out.new.items ≡ out.old.items ++ more) }

@@ -28,7 +28,7 @@ fn null_contents(rt: HostRuntime) {
 #[test]
 fn integer_contents(rt: HostRuntime) {
     // (contents octets, number)
-    let cases: [(&[u8], Option<i128>); 14] = [
+    let cases: [(&[u8], Option<i128>); 16] = [
         (&[], None),
         (&[0x00], Some(0)),
         (&[0xFF], Some(-1)),
@@ -50,8 +50,23 @@ fn integer_contents(rt: HostRuntime) {
         ),
         (
             &[
+                0x7F, 0xFF, 0xFF, 0xFF, 0xFF, 0xFF, 0xFF, 0xFF, 0xFF, 0xFF, 0xFF, 0xFF, 0xFF, 0xFF,
+                0xFF, 0xFF,
+            ],
+            Some(170141183460469231731687303715884105727),
+        ),
+        // 2^127, and -2^127 - 1
+        (
+            &[
                 0x00, 0x80, 0x00, 0x00, 0x00, 0x00, 0x00, 0x00, 0x00, 0x00, 0x00, 0x00, 0x00, 0x00,
                 0x00, 0x00, 0x00,
+            ],
+            None,
+        ),
+        (
+            &[
+                0xFF, 0x7F, 0xFF, 0xFF, 0xFF, 0xFF, 0xFF, 0xFF, 0xFF, 0xFF, 0xFF, 0xFF, 0xFF, 0xFF,
+                0xFF, 0xFF, 0xFF,
             ],
             None,
         ),

@@ -1,6 +1,6 @@
 use Rattle.std.proofs.Common.{◌≡◌, ◌-◌, ◌^◌, ◌*◌, ℕ, refl, sym, ◌∙◌, ap, subst, arith, ◌++◌, drop, take, length, set, List}
 use Rattle.std.proofs.lemmas.List.{take_all, length-drop, length-set, append-nil}
-use Rattle.primitives.specs.Integer.{IsInteger, signed}
+use Rattle.primitives.specs.Integer.{IsInteger, number_at}
 use Rattle.primitives.proofs.IntegerLemmas.{IsSpelling-step, IsInteger-from_spelling}
 use Rattle.primitives.proofs.integer.put_signed.Goals as goal
 
@@ -12,7 +12,7 @@ loop-rest-init c =
       within = omega arith;
       size = refl;
       room = omega (arith, whole, c.requires);
-      joined = λ b h. subst (IsInteger (signed c.args.negative c.args.distance)) (sym (append-nil b)) h;
+      joined = λ b h. subst (IsInteger (number_at c.args.negative c.args.distance)) (sym (append-nil b)) h;
     }
 
 pub loop-rest-preserved : goal.loop-rest-preserved
