@@ -95,6 +95,6 @@ to_even (high ∷ low ∷ rest) bmp =
 pub no_letter : (x : ℕ) → IsNotAsciiAlphanumeric x → IsAsciiAlphanumeric x → ⊥
 no_letter x not is = grind arith
 
--- `contains` of a slice answers whether one of its elements is x
+-- `contains` of a slice returns whether one of its elements is x
 pub contains : (xs : List ℕ) (x : ℕ) (answer : Bool) → answer ≡ list_any (λ y. y == x) xs → IsTrue answer ↔ Contains xs x
 contains xs x answer e = grind (arith, common_steps, nat_tests, Any-from_list_any (λ y. y == x) xs, list_any-from_Any (λ y. y == x) xs)

@@ -5,12 +5,12 @@ use Rattle.std.specs.Char.{IsAsciiDigit}
 use Rattle.strings.specs.declared.time.TimeKind.{TimeKind}
 use Rattle.strings.specs.declared.time.TimeKind.TheVariants.{Utc, Generalized}
 
--- the last so many decimal digits of the number, the most significant first
+-- the last decimal digits of the number, as many as `count`, the most significant first
 abbrev pub digits_of : ℕ → ℕ → List ℕ
 digits_of zero number = []
 digits_of (suc count) number = digits_of count (number / 10) ++ (48 + number % 10) ∷ []
 
--- the octets begin with a number in so many digits, and the rest follows
+-- the octets begin with a number in `count` digits, and the rest follows
 pub record Spells (count number : ℕ) (octets rest : List ℕ) : Type 0 where
   pub below : number < 10 ^ count
   pub spelt : octets ≡ digits_of count number ++ rest

@@ -10,7 +10,7 @@ ghost use Rattle.strings.specs.Time.{IsTime, IsMoment, AreFractionDigits, IsDate
 /// A type of times.
 #[derive(Clone, Copy, Debug, PartialEq, Eq)]
 pub enum TimeKind {
-    /// UTCTime: two digits of the year, and whole seconds.
+    /// UTCTime: two digits of the year, and no fraction of a second.
     Utc,
     /// GeneralizedTime: four digits of the year, and perhaps a fraction of a second.
     Generalized,
