@@ -6,9 +6,9 @@ ghost use Rattle.std.specs.Prelude.{◌≡◌, ℕ, List, ◌∷◌, ◌++◌, I
 ghost use Rattle.octets.specs.Front.{Appends};
 ghost use Rattle.primitives.specs.Oid.{AreSubidentifiers, IsFirstArc, IsOid, IsOidValue, IsRelativeOid, IsRelativeOidValue};
 
-use crate::subidentifier::{put_subidentifier, read_subidentifier};
+use crate::subidentifier::read_subidentifier;
 use crate::{Fault, MAX_SUBIDENTIFIERS};
-use octets::NoMemory;
+use octets::{NoMemory, put_base_128};
 use std::alloc::Global;
 
 /// The arcs of an OBJECT IDENTIFIER's contents octets.
@@ -98,9 +98,9 @@ fn try_put_subidentifiers(out: &mut Vec<u8>, first: u128, others: &[u128]) -> Re
     ensures appended { OnOk result (Appends (AreSubidentifiers (first ∷ others.now)) out.old.items out.new.items) }
     ensures kept { (more : List ℕ) × (out.new.items ≡ out.old.items ++ more) }
 {
-    put_subidentifier(out, first)?;
+    put_base_128(out, first)?;
     for number in others {
-        put_subidentifier(out, *number)?;
+        put_base_128(out, *number)?;
     }
     Ok(())
 }

@@ -6,12 +6,12 @@ use Rattle.primitives.proofs.oid.try_put_subidentifiers.Goals as goal
 
 pub loop-number-init : goal.loop-number-init
 loop-number-init c =
-    let put = c.in_ok-put_subidentifier.ensures.appended in
+    let put = c.in_ok-put_base_128.ensures.appended in
     (put.0, put.1, AreSubidentifiers-snoc [] [] c.args.first put.0 AreSubidentifiers-none put.2)
 
 pub loop-number-preserved : goal.loop-number-preserved
 loop-number-preserved c =
-    let put = c.in_ok-put_subidentifier-2.ensures.appended in
+    let put = c.in_ok-put_base_128-2.ensures.appended in
     let before = c.loop-number.invariant in
     let i = c.loop-number.number-index in
     let others : List ℕ = c.args.others.now in

@@ -1,0 +1,27 @@
+//! Numbers in base 128 with bit 8 set on each octet but the last, in the fewest octets: tag numbers
+//! from 31 on (X.690 8.1.2.4.2) and subidentifiers (8.19.2).
+
+ghost use Rattle.std.specs.Prelude.{◌≡◌, OnOk, OnErr};
+ghost use Rattle.octets.specs.Base128.{IsBase128};
+ghost use Rattle.octets.specs.Front.{Appends};
+
+use crate::NoMemory;
+
+/// Appends the octets of `number` in base 128.
+pub fn put_base_128(out: &mut Vec<u8>, number: u128) -> Result<(), NoMemory>
+    ensures appended { OnOk result (Appends (IsBase128 number) out.old.items out.new.items) }
+    ensures unchanged { OnErr result (out.new.items ≡ out.old.items) }
+{
+    // The octets come from the last to the first, and stand at the end of the room for nineteen.
+    let mut spelt = [0u8; 19];
+    let mut start = 18usize;
+    let mut rest = number / 128;
+    spelt[start] = (number % 128) as u8;
+    while rest > 0 {
+        start -= 1;
+        spelt[start] = 0x80 + (rest % 128) as u8;
+        rest /= 128;
+    }
+    out.extend_from_slice(&spelt[start..])?;
+    Ok(())
+}
