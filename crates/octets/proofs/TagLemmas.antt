@@ -18,21 +18,10 @@ use Rattle.octets.specs.Laws.{TagsAreOrdered}
 
 place_of-injective : (c d : Class) → place_of c ≡ place_of d → c ≡ d
 place_of-injective Universal Universal h = refl
-place_of-injective Universal Application h = absurd (omega arith)
-place_of-injective Universal Context h = absurd (omega arith)
-place_of-injective Universal Private h = absurd (omega arith)
-place_of-injective Application Universal h = absurd (omega arith)
 place_of-injective Application Application h = refl
-place_of-injective Application Context h = absurd (omega arith)
-place_of-injective Application Private h = absurd (omega arith)
-place_of-injective Context Universal h = absurd (omega arith)
-place_of-injective Context Application h = absurd (omega arith)
 place_of-injective Context Context h = refl
-place_of-injective Context Private h = absurd (omega arith)
-place_of-injective Private Universal h = absurd (omega arith)
-place_of-injective Private Application h = absurd (omega arith)
-place_of-injective Private Context h = absurd (omega arith)
 place_of-injective Private Private h = refl
+place_of-injective c d h = absurd (omega arith)
 
 not_before_itself : (a : Tag) → ComesBefore a a → ⊥
 not_before_itself a (inl h) = omega (arith, h)

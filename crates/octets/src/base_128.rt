@@ -13,15 +13,15 @@ pub fn put_base_128(out: &mut Vec<u8>, number: u128) -> Result<(), NoMemory>
     ensures unchanged { OnErr result (out.new.items ≡ out.old.items) }
 {
     // The octets come from the last to the first, and stand at the end of the room for nineteen.
-    let mut spelt = [0u8; 19];
+    let mut room = [0u8; 19];
     let mut start = 18usize;
     let mut rest = number / 128;
-    spelt[start] = (number % 128) as u8;
+    room[start] = (number % 128) as u8;
     while rest > 0 {
         start -= 1;
-        spelt[start] = 0x80 + (rest % 128) as u8;
+        room[start] = 0x80 + (rest % 128) as u8;
         rest /= 128;
     }
-    out.extend_from_slice(&spelt[start..])?;
+    out.extend_from_slice(&room[start..])?;
     Ok(())
 }

@@ -80,17 +80,17 @@ fn put_signed(out: &mut Vec<u8>, negative: bool, distance: u128) -> Result<(), N
     ensures unchanged { OnErr result (out.new.items ≡ out.old.items) }
 {
     // The octets come from the last to the first, and stand at the end of the room for sixteen.
-    let mut spelt = [0u8; 16];
+    let mut room = [0u8; 16];
     let mut start = 16usize;
     let mut rest = distance;
     while rest >= 0x80 {
         start -= 1;
-        spelt[start] = last_octet(negative, rest);
+        room[start] = last_octet(negative, rest);
         rest /= 256;
     }
     start -= 1;
-    spelt[start] = last_octet(negative, rest);
-    out.extend_from_slice(&spelt[start..])?;
+    room[start] = last_octet(negative, rest);
+    out.extend_from_slice(&room[start..])?;
     Ok(())
 }
 

@@ -8,12 +8,12 @@ loop-rest-init c =
     IsBase128Spelling-last c.args.number (replicate {A = ℕ} 19 0) c.ranges.number.fits refl
 
 pub loop-rest-preserved : goal.loop-rest-preserved
-loop-rest-preserved c = IsBase128Spelling-step c.args.number c.loop-rest.rest c.loop-rest.start c.loop-rest.spelt c.loop-rest.invariant c.loop-rest-test.true
+loop-rest-preserved c = IsBase128Spelling-step c.args.number c.loop-rest.rest c.loop-rest.start c.loop-rest.room c.loop-rest.invariant c.loop-rest-test.true
 
 pub returns-clause-appended : goal.returns-clause-appended
 returns-clause-appended c =
     let at = c.loop-rest.start in
-    let spelt : List ℕ = c.loop-rest.spelt in
+    let spelt : List ℕ = c.loop-rest.room in
     let whole : take (19 - at) (drop at spelt) ≡ drop at spelt = take_all (19 - at) (drop at spelt) (omega (arith, length-drop at spelt, c.loop-rest.invariant.size)) in
     let done : c.loop-rest.rest ≡ 0 = omega arith in
     let spelling = subst (λ r. IsBase128Spelling c.args.number r at spelt) done c.loop-rest.invariant in (
