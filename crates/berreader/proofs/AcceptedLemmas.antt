@@ -32,7 +32,7 @@ use Rattle.berreader.specs.Head.{IsTagWithin, IsPrimitiveWithin}
 use Rattle.strings.specs.declared.text.TextKind.{TextKind}
 use Rattle.strings.specs.declared.time.TimeKind.{TimeKind}
 use Rattle.berreader.specs.Joined.{Element, segment_of, HoldsPiece, IsWholePiece, string_shape, string_value, typed, IsNoString}
-use Rattle.berreader.proofs.HeadLemmas.{front_of_more, whole_front}
+use Rattle.octets.proofs.FrontLemmas.{front_of_more, whole_front}
 use Rattle.berreader.proofs.DepthLemmas.{nested_primitive, nested_constructed, deeper, match_parts, constructed_part}
 use Rattle.berreader.proofs.CompletingLemmas.{framed, constructed_of_frame, completes_segments, unwind}
 use Rattle.berreader.proofs.JoinedLemmas.{kept_segment, joins_whole, parts_whole, empty_whole}

@@ -3,7 +3,7 @@ use Rattle.std.proofs.Common.{◌≡◌, inl, inr, ℕ, ◌+◌, ◌-◌, ◌≤
 use Rattle.std.specs.Prelude.{slice_range}
 use Rattle.std.proofs.Math.Seq.{take-add}
 use Rattle.std.proofs.lemmas.Bool.{cases_lt}
-use Rattle.std.proofs.lemmas.List.{take-append-drop, take-append-le, length-take-le, length-drop, take_all}
+use Rattle.std.proofs.lemmas.List.{take-append-le, length-take-le, length-drop, take_all}
 use Rattle.octets.specs.declared.TheConstants.{MAX_ENCODING, MAX_TAG_NUMBER}
 use Rattle.octets.specs.declared.tag.Tag.{Tag}
 use Rattle.octets.specs.Front.{HasFront, Begins}
@@ -11,21 +11,13 @@ use Rattle.octets.specs.Identifier.{IsIdentifier, IsSomeIdentifier}
 use Rattle.octets.specs.Laws.{IsSameIdentifier}
 use Rattle.octets.specs.Length.{IsLength, IsSomeLength}
 use Rattle.octets.specs.Rule.{ber}
-use Rattle.octets.proofs.FrontLemmas.{no_front-append, HasFront-from_parts}
+use Rattle.octets.proofs.FrontLemmas.{no_front-append, HasFront-from_parts, front_of_more, whole_front}
 use Rattle.octets.proofs.IdentifierLemmas.{identifier_unique}
 use Rattle.octets.proofs.LengthLemmas.{length_unique}
 use Rattle.types.specs.Form.{IsPrimitive}
 use Rattle.types.proofs.FormLemmas.{parts_of_definite, length-definite}
 use Rattle.types.proofs.NestingLemmas.{no_length-128}
 use Rattle.berreader.specs.Head.{IsTagWithin, IsExtentWithin, IsPrimitiveWithin}
-
--- octets and more behind them, by a front
-pub front_of_more : (n : ℕ) (octets more : List ℕ) → octets ++ more ≡ take n octets ++ (drop n octets ++ more)
-front_of_more n octets more = ap (λ x. x ++ more) (sym (take-append-drop n octets)) ∙ append_assoc (take n octets) (drop n octets) more
-
--- a front and the rest
-pub whole_front : (n : ℕ) (whole : List ℕ) → whole ≡ take n whole ++ drop n whole
-whole_front n whole = sym (take-append-drop n whole)
 
 -- a front of the octets that fits is one of as many of them as fit
 windowed : (P : List ℕ → Type 0) (room : ℕ) (front rest octets : List ℕ) → P front → length front ≤ room → room ≤ length octets → octets ≡ front ++ rest → HasFront P (take room octets)

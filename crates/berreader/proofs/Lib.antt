@@ -1,4 +1,3 @@
-pub mod ResultLemmas
 pub mod HeadLemmas
 pub mod DepthLemmas
 pub mod CompletingLemmas

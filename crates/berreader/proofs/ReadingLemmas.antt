@@ -19,7 +19,7 @@ use Rattle.berreader.specs.Completing.{Completes, Opens, IsOpening}
 use Rattle.berreader.specs.Head.{IsExtentWithin}
 use Rattle.berreader.specs.Joined.{string_of, string_held, AreHeld, IsHeld, string_shape, string_value}
 use Rattle.berreader.specs.Segments.{stack, Completion, CanComplete, IsTaken}
-use Rattle.berreader.proofs.HeadLemmas.{front_of_more, whole_front}
+use Rattle.octets.proofs.FrontLemmas.{front_of_more, whole_front}
 use Rattle.berreader.proofs.StepLemmas.{opening_unique, extent_of_opening}
 use Rattle.berreader.proofs.SegmentsLemmas.{CompletesBy, to_stack, from_stack}
 use Rattle.berreader.proofs.AcceptedLemmas.{completed, front_of_string, accepted_of_string}

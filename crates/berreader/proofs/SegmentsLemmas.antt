@@ -12,7 +12,7 @@ use Rattle.berreader.specs.Completing.{Completes, IsEndOf, IsOpening}
 use Rattle.berreader.specs.Head.{IsReadTag, IsTagWithin, IsExtentWithin, IsPrimitiveWithin}
 use Rattle.berreader.specs.Joined.{Element, segment_of, HoldsPiece, IsWholePiece, string_of, IsHeld, IsJoined}
 use Rattle.berreader.specs.Segments.{stack, Completion, CanComplete, IsTaken, IsTop, EndsAt}
-use Rattle.berreader.proofs.HeadLemmas.{front_of_more}
+use Rattle.octets.proofs.FrontLemmas.{front_of_more}
 use Rattle.berreader.proofs.JoinedLemmas.{kept_segment, one_piece, unused_whole}
 use Rattle.berreader.proofs.StepLemmas.{after_end, after_primitive, after_opening, begun, begun_constructed, begun_primitive, ends_or_begins}
 

@@ -15,7 +15,7 @@ use Rattle.berreader.specs.declared.frame.Frame.{Frame}
 use Rattle.berreader.specs.Completing.{Completes, IsEndOf, Opens, IsOpening, IsSegment}
 use Rattle.berreader.specs.Head.{IsTagWithin, IsExtentWithin}
 use Rattle.berreader.specs.Segments.{EndsAt}
-use Rattle.berreader.proofs.HeadLemmas.{front_of_more}
+use Rattle.octets.proofs.FrontLemmas.{front_of_more}
 
 end_unique : (f : Frame) (taken : ℕ) (a b : List ℕ) → IsEndOf f taken a → IsEndOf f taken b → a ≡ b
 end_unique f taken a b (inl x) (inl y) = x.none ∙ sym y.none

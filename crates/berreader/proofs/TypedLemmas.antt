@@ -20,7 +20,7 @@ use Rattle.berreader.specs.declared.joined.Kind.{Kind}
 use Rattle.berreader.specs.declared.joined.Kind.TheVariants.{Bits, Octets}
 use Rattle.berreader.specs.Contents.{text_view}
 use Rattle.berreader.specs.Joined.{Element, IsHeld, IsString, IsStringOf, segments_kind, string_of, string_shape, string_value, typed, value_of}
-use Rattle.berreader.proofs.HeadLemmas.{front_of_more, whole_front}
+use Rattle.octets.proofs.FrontLemmas.{front_of_more, whole_front}
 
 -- a value of a string type, and the string that makes it
 pub record IsTyped (shape : Shape) (v : Val) (octets : List ℕ) : Type 0 where

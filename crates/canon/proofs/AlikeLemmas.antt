@@ -24,10 +24,6 @@ appended_alike (Err e) P Q old new alike h = tt
 pub refused_alike : {E : Type 0} (r : Result (Unit {0}) E) (e : E) (P Q : List ℕ → Type 0) → HoldAlike P Q → (r ≡ Err e) ↔ ((b : List ℕ) → P b → ⊥) → (r ≡ Err e) ↔ ((b : List ℕ) → Q b → ⊥)
 refused_alike r e P Q alike h = (λ refused b q. h.0 refused b (alike.from b q), λ none. h.1 (λ b p. none b (alike.to b p)))
 
-pub OnOk-map : {E : Type 0} (r : Result (Unit {0}) E) (P Q : Type 0) → (P → Q) → OnOk r P → OnOk r Q
-OnOk-map (Ok x) P Q step h = step h
-OnOk-map (Err e) P Q step h = tt
-
 -- what more is appended to still stands at the front
 pub starts_with_front : (old added new : List ℕ) → new ≡ old ++ added → StartsWith new old
 starts_with_front old added new is = ap (take (length old)) is ∙ take-append_seam old added

@@ -4,7 +4,8 @@ use Rattle.std.proofs.lemmas.List.{take-append-drop, length-take-le, length-repl
 use Rattle.std.proofs.lemmas.List.Elements.{All-cons}
 use Rattle.octets.specs.declared.TheConstants.{MAX_TAG_NUMBER}
 use Rattle.octets.specs.declared.tag.Tag.{Tag}
-use Rattle.octets.specs.Rule.{cer}
+use Rattle.octets.specs.Rule.{cer, der}
+use Rattle.octets.proofs.RuleLemmas.{der_is_canonical}
 use Rattle.octets.proofs.DigitLemmas.{All-tail}
 use Rattle.primitives.specs.Bits.{bits_of, IsBits, IsPadded}
 use Rattle.primitives.proofs.BitsLemmas.{length-bits_of, bits_of-append, IsBits-from_padded, one_canonical_bits}
@@ -149,18 +150,18 @@ ArePadded-from bits front rest unused some h =
 bit_segments : (unused : ℕ) (bits : List Bool) (string octets : List ℕ) → IsPadded bits string unused → AreSegmentsOf bit_segment (0 ∷ []) (unused ∷ []) string octets → AreCerSegments bit_segment (IsBits cer) IsWholeOctets bits octets
 bit_segments unused bits string octets padded (AreSegmentsOf.last s b some few p) =
     let count : 8 * length s ≡ length bits + unused = omega (arith, length-bits_of s, ap length padded.bits_are, length-append bits (replicate unused false), length-replicate unused false) in
-    AreCerSegments.last bits (unused ∷ s) b (bits_by_cer bits (unused ∷ s) (IsBits-from_padded bits s unused padded)) (λ empty. absurd (omega (arith, count, some, padded.at_most_7, ap length empty))) few p
+    AreCerSegments.last bits (unused ∷ s) b (bits_by_cer bits (unused ∷ s) (IsBits-from_padded der bits s unused padded)) (λ empty. absurd (omega (arith, count, some, padded.at_most_7, ap length empty))) few p
 bit_segments unused bits string octets padded (AreSegmentsOf.more {others = others} {rest = rest} s b here p later) =
     let parts = ArePadded-from bits s others unused (segments_some bit_segment (0 ∷ []) (unused ∷ []) others rest later) padded in
-    let holds = bits_by_cer (bits_of s) (0 ∷ s) (IsBits-from_padded (bits_of s) s 0 parts.first) in
+    let holds = bits_by_cer (bits_of s) (0 ∷ s) (IsBits-from_padded der (bits_of s) s 0 parts.first) in
     subst (λ x. AreCerSegments bit_segment (IsBits cer) IsWholeOctets x (b ++ rest)) (sym parts.bits_are)
     (AreCerSegments.more (bits_of s) (0 ∷ s) b holds (length s, length-bits_of s) here p (bit_segments unused parts.back others rest parts.padded later))
 
 bits_encode : (tag : Tag) (bits : List Bool) (unused : ℕ) (string octets : List ℕ) → IsPadded bits string unused → IsWholeString tag (unused ∷ []) string octets ⊎ IsCutString tag bit_segment (0 ∷ []) (unused ∷ []) string octets
     → IsStringEncoding cer tag bit_segment (IsBits cer) IsWholeOctets bits octets
-bits_encode tag bits unused string octets padded (inl h) = inl (record { contents = unused ∷ string; holds = bits_by_cer bits (unused ∷ string) (IsBits-from_padded bits string unused padded); short = h.short; primitive = h.primitive })
+bits_encode tag bits unused string octets padded (inl h) = inl (record { contents = unused ∷ string; holds = bits_by_cer bits (unused ∷ string) (IsBits-from_padded der bits string unused padded); short = h.short; primitive = h.primitive })
 bits_encode tag bits unused string octets padded (inr h) = inr (record {
-  long = λ contents holds. omega (arith, h.long, ap length (one_canonical_bits bits contents (unused ∷ string) (bits_by_der bits contents holds) (IsBits-from_padded bits string unused padded)));
+  long = λ contents holds. omega (arith, h.long, ap length (one_canonical_bits der der bits contents (unused ∷ string) der_is_canonical der_is_canonical (bits_by_der bits contents holds) (IsBits-from_padded der bits string unused padded)));
   segments_octets = h.cut.segments_octets;
   segments = bit_segments unused bits string h.cut.segments_octets padded h.cut.segments;
   constructed = h.cut.constructed;

@@ -2,6 +2,7 @@
 use Rattle.std.proofs.Common.{◌≡◌, ◌⊎◌, ℕ, List, ◌∷◌, Bool, Vec, Global, vec_items, refl, sym, ◌∙◌, ap, subst, inl, inr}
 use Rattle.octets.specs.declared.tag.Tag.{Tag}
 use Rattle.octets.specs.Rule.{cer, der}
+use Rattle.octets.proofs.RuleLemmas.{der_is_canonical}
 use Rattle.primitives.specs.Bits.{IsBits, IsPadded}
 use Rattle.primitives.proofs.BitsLemmas.{IsBits-from_padded, one_canonical_bits}
 use Rattle.types.specs.declared.value.Value.{Value}
@@ -89,12 +90,12 @@ pub der_bits : (shape : Shape) (bits : List Bool) (octets : List ℕ) (unused : 
 der_bits (Shape.string tag StringType.bit_string) bits octets unused well conforms padded = record {
   to = λ b p.
       accepted (Shape.string tag StringType.bit_string) (Val.string (StringValue.bits bits)) (unused ∷ octets) b well conforms
-      record { bits = bits; is = refl; string = record { contents = unused ∷ octets; holds = IsBits-from_padded bits octets unused padded; primitive = primitive_by_der tag (unused ∷ octets) b p.0 } } p;
+      record { bits = bits; is = refl; string = record { contents = unused ∷ octets; holds = IsBits-from_padded der bits octets unused padded; primitive = primitive_by_der tag (unused ∷ octets) b p.0 } } p;
   from = λ b h.
       let x = h.encoding.encodes in
       let whole : Val.string (StringValue.bits bits) ≡ Val.string (StringValue.bits x.bits) = x.is in
       let same : x.bits ≡ bits = cc whole in
-      let contents : x.string.contents ≡ unused ∷ octets = one_canonical_bits bits x.string.contents (unused ∷ octets) (subst (λ s. IsBits der s x.string.contents) same x.string.holds) (IsBits-from_padded bits octets unused padded) in
+      let contents : x.string.contents ≡ unused ∷ octets = one_canonical_bits der der bits x.string.contents (unused ∷ octets) der_is_canonical der_is_canonical (subst (λ s. IsBits der s x.string.contents) same x.string.holds) (IsBits-from_padded der bits octets unused padded) in
       (subst (λ c. IsPrimitive cer tag c b) contents (primitive_by_cer tag x.string.contents b x.string.primitive), h.size);
 }
 der_bits (Shape.string tag (StringType.text kind)) bits octets unused well conforms padded = absurd conforms

@@ -2,6 +2,7 @@
 use Rattle.std.proofs.Common.{◌≡◌, ℕ, List, refl, sym, ◌∙◌, ap, subst, vec_items}
 use Rattle.octets.specs.declared.tag.Tag.{Tag}
 use Rattle.octets.specs.Rule.{der}
+use Rattle.octets.proofs.RuleLemmas.{der_is_canonical}
 use Rattle.primitives.specs.Boolean.{IsBoolean}
 use Rattle.primitives.specs.Integer.{IsInteger}
 use Rattle.primitives.specs.Oid.{IsOid, IsRelativeOid}
@@ -59,12 +60,12 @@ contents_of_simple tag type value v contents conforms is h = absurd conforms
 
 -- a value has one sequence of contents octets
 pub one_contents_of : (value : Value) (c d : List ℕ) → IsContentsOf value c → IsContentsOf value d → c ≡ d
-one_contents_of (Boolean truth) c d h k = one_canonical_boolean truth c d h k
+one_contents_of (Boolean truth) c d h k = one_canonical_boolean der der truth c d der_is_canonical der_is_canonical h k
 one_contents_of (Integer number) c d h k = one_integer_encoding number c d h k
 one_contents_of (Enumerated number) c d h k = one_integer_encoding number c d h k
 one_contents_of Null c d h k = h ∙ sym k
 one_contents_of (Oid arcs) c d h k = one_oid_encoding (vec_items arcs) c d h k
 one_contents_of (RelativeOid arcs) c d h k = one_relative_oid_encoding (vec_items arcs) c d h k
-one_contents_of (Bits bits) c d h k = one_canonical_bits bits c d h k
+one_contents_of (Bits bits) c d h k = one_canonical_bits der der bits c d der_is_canonical der_is_canonical h k
 one_contents_of (Octets octets) c d h k = h ∙ sym k
 one_contents_of (Text octets) c d h k = h ∙ sym k

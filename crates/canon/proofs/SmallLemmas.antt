@@ -5,7 +5,7 @@ use Rattle.std.specs.Int.{w128}
 use Rattle.std.proofs.lemmas.Bool.{cases_lt}
 use Rattle.octets.proofs.Base128Lemmas.{base_128, IsBase128-size}
 use Rattle.octets.proofs.DigitLemmas.{All-tail}
-use Rattle.primitives.specs.Integer.{IsInteger, signed, signed_octet}
+use Rattle.primitives.specs.Integer.{IsInteger, number_at, last_octet_at}
 use Rattle.primitives.specs.Oid.{AreSubidentifiers}
 use Rattle.primitives.proofs.IntegerLemmas.{at_most_sixteen_octets, IsInteger-last, IsInteger-more}
 use Rattle.types.specs.declared.value.Value.{Value}
@@ -26,14 +26,14 @@ boolean_exists true = record { contents = 255 ∷ []; spelt = refl; few = omega 
 boolean_exists false = record { contents = 0 ∷ []; spelt = refl; few = omega arith }
 
 -- `most` only bounds the recursion
-signed_exists : (most : ℕ) (negative : Bool) (distance : ℕ) → distance ≤ most → (contents : List ℕ) × IsInteger (signed negative distance) contents
-signed_exists zero negative distance small = (signed_octet negative distance ∷ [], IsInteger-last negative distance (omega arith))
+signed_exists : (most : ℕ) (negative : Bool) (distance : ℕ) → distance ≤ most → (contents : List ℕ) × IsInteger (number_at negative distance) contents
+signed_exists zero negative distance small = (last_octet_at negative distance ∷ [], IsInteger-last negative distance (omega arith))
 signed_exists (suc most) negative distance small =
     elim (cases_lt distance 128) [
-      | inl one ↦ (signed_octet negative distance ∷ [], IsInteger-last negative distance one)
+      | inl one ↦ (last_octet_at negative distance ∷ [], IsInteger-last negative distance one)
       | inr large ↦
           let front = signed_exists most negative (distance / 256) (omega arith) in
-          (front.0 ++ signed_octet negative distance ∷ [], IsInteger-more negative distance front.0 large front.1)
+          (front.0 ++ last_octet_at negative distance ∷ [], IsInteger-more negative distance front.0 large front.1)
     ]
 
 number_exists : (number : ℤ) → (contents : List ℕ) × IsInteger number contents
@@ -46,7 +46,7 @@ integer_exists number fits =
     (h.0, h.1, omega (arith, at_most_sixteen_octets number h.0 fits h.1))
 
 subidentifiers_exist : (numbers : List ℕ) → All (λ number. number < 2 ^ 128) numbers → (contents : List ℕ) × AreSubidentifiers numbers contents × (length contents ≤ 19 * length numbers)
-subidentifiers_exist [] below = ([], record { pieces = []; each = tt; joined = refl }, omega arith)
+subidentifiers_exist [] below = ([], record { spellings = []; each = tt; joined = refl }, omega arith)
 subidentifiers_exist (number ∷ numbers) below =
     let low : number < 2 ^ 128 = below 0 0 (omega arith) in
     let power : 2 ^ 128 ≡ 340282366920938463463374607431768211456 = refl in
@@ -56,7 +56,7 @@ subidentifiers_exist (number ∷ numbers) below =
     let size = IsBase128-size number 19 piece.0 (omega arith) fits piece.1 in
     let rest = subidentifiers_exist numbers (All-tail (λ n. n < 2 ^ 128) number numbers below) in (
       piece.0 ++ rest.0,
-      record { pieces = piece.0 ∷ rest.1.pieces; each = (piece.1, rest.1.each); joined = ap (λ t. piece.0 ++ t) rest.1.joined },
+      record { spellings = piece.0 ∷ rest.1.spellings; each = (piece.1, rest.1.each); joined = ap (λ t. piece.0 ++ t) rest.1.joined },
       omega (arith, length-append piece.0 rest.0, size.1, rest.2),
     )
 

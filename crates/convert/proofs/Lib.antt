@@ -1,4 +1,2 @@
-pub mod ResultLemmas
-pub mod FrontLemmas
 pub mod TranscodingLemmas
 pub mod HexLemmas

@@ -13,7 +13,7 @@ use Rattle.types.proofs.EncodingLemmas.{encoding_unique}
 use Rattle.convert.specs.declared.rule.Rule.{Rule}
 use Rattle.convert.specs.declared.rule.Rule.TheVariants.{Ber}
 use Rattle.convert.specs.Rule.{rule_of}
-use Rattle.convert.proofs.FrontLemmas.{front_of_more}
+use Rattle.octets.proofs.FrontLemmas.{front_of_more}
 
 pub rule_of-is : (r : Rule) → rule_of r ≡ encoding.ber
 rule_of-is Ber = refl

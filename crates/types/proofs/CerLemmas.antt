@@ -2,6 +2,7 @@
 use Rattle.std.proofs.Common.{◌≡◌, ℕ, ◌+◌, ◌*◌, ◌<◌, List, [], ◌∷◌, ◌++◌, Bool, true, false, inl, inr, length, refl, sym, ◌∙◌, ap, ap₂, subst, arith, length-append}
 use Rattle.octets.specs.declared.tag.Tag.{Tag}
 use Rattle.octets.specs.Rule.{Rule, cer, der}
+use Rattle.octets.proofs.RuleLemmas.{der_is_canonical}
 use Rattle.octets.proofs.UniqueLemmas.{one_identifier}
 use Rattle.primitives.specs.Bits.{IsBits}
 use Rattle.primitives.specs.Boolean.{IsBoolean}
@@ -97,7 +98,7 @@ full_bits bits contents h full whole = omega (arith, bits_count cer bits content
 -- bits are cut in one way
 pub bits_cut_once : IsCutOnce (IsBits cer) IsWholeOctets
 bits_cut_once = record {
-  one = λ p c d h k. one_canonical_bits p c d (bits_by_der p c h) (bits_by_der p d k);
+  one = λ p c d h k. one_canonical_bits der der p c d der_is_canonical der_is_canonical (bits_by_der p c h) (bits_by_der p d k);
   level = λ p q c d h k l m f g. full_bits p c h l f ∙ sym (full_bits q d k m g);
   longer = λ p q c d h k f l less. omega (arith, full_bits p c h l f, bits_count cer q d k, less);
 }

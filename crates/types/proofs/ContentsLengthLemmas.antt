@@ -38,8 +38,8 @@ pieces_length (n ∷ ns) (p ∷ ps) below each =
 
 subidentifiers_length : (numbers c : List ℕ) → 1 ≤ length numbers → length numbers ≤ 128 → All (λ n. n < 2 ^ 128) numbers → AreSubidentifiers numbers c → (1 ≤ length c) × (length c ≤ 2432)
 subidentifiers_length numbers c some few below h =
-    let both = pieces_length numbers h.pieces below h.each in
-    let size : length c ≡ length (concat h.pieces) = ap length h.joined in
+    let both = pieces_length numbers h.spellings below h.each in
+    let size : length c ≡ length (concat h.spellings) = ap length h.joined in
     (omega (arith, both.0, size), omega (arith, both.1, size))
 
 pub simple_length : (type : SimpleType) (v : SimpleValue) (c : List ℕ) → SimpleConforms type v → IsContents ber type v c → SimpleLength type (length c)

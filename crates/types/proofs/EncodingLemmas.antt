@@ -3,6 +3,7 @@ use Rattle.std.proofs.Common.{◌≡◌, ℕ, List, Bool, true, false, refl, sym
 use Rattle.types.specs.Encoding.{EncodesText}
 use Rattle.octets.specs.declared.tag.Tag.{Tag}
 use Rattle.octets.specs.Rule.{ber, der}
+use Rattle.octets.proofs.RuleLemmas.{der_is_canonical}
 use Rattle.primitives.specs.Boolean.{IsBoolean}
 use Rattle.primitives.specs.Integer.{IsInteger}
 use Rattle.primitives.specs.Oid.{IsOid, IsRelativeOid}
@@ -96,7 +97,7 @@ pub one_string : (type : StringType) (v : StringValue) (c d : List ℕ) → IsSt
 one_string StringType.bit_string v c d h k =
     let is : StringValue.bits h.bits ≡ StringValue.bits k.bits = sym h.is ∙ k.is in
     let same : h.bits ≡ k.bits = cc is in
-    one_canonical_bits k.bits c d (subst (λ b. IsBits der b c) same h.spelt) k.spelt
+    one_canonical_bits der der k.bits c d der_is_canonical der_is_canonical (subst (λ b. IsBits der b c) same h.spelt) k.spelt
 one_string StringType.octet_string v c d h k = let same : StringValue.octets c ≡ StringValue.octets d = sym h ∙ k in cc same
 one_string (StringType.text kind) v c d h k = let same : StringValue.text c ≡ StringValue.text d = sym h ∙ k in cc same
 one_string (StringType.time kind) v c d h k = let same : StringValue.text c ≡ StringValue.text d = sym h ∙ k in cc same
@@ -127,7 +128,7 @@ canonical_unique (Shape.string tag StringType.bit_string) v a b well f g =
     let y = g.encodes in
     let is : StringValue.bits x.bits ≡ StringValue.bits y.bits = string-injective (StringValue.bits x.bits) (StringValue.bits y.bits) (sym x.is ∙ y.is) in
     let same : x.bits ≡ y.bits = cc is in
-    let contents : x.string.contents ≡ y.string.contents = one_canonical_bits y.bits x.string.contents y.string.contents (subst (λ z. IsBits der z x.string.contents) same x.string.holds) y.string.holds in
+    let contents : x.string.contents ≡ y.string.contents = one_canonical_bits der der y.bits x.string.contents y.string.contents der_is_canonical der_is_canonical (subst (λ z. IsBits der z x.string.contents) same x.string.holds) y.string.holds in
     one_definite tag false y.string.contents a b (subst (λ c. IsPrimitive der tag c a) contents x.string.primitive) y.string.primitive
 canonical_unique (Shape.string tag StringType.octet_string) v a b well f g =
     let x = f.encodes in

@@ -5,7 +5,7 @@ use Rattle.octets.specs.Identifier.{IsIdentifier}
 use Rattle.types.specs.Refusal.{IsFinal}
 use Rattle.berreader.specs.Head.{IsReadDefinite, IsExtentWithin, IsPrimitiveWithin}
 use Rattle.berreader.proofs.HeadLemmas.{behind, behind_long, IsPrimitive-from_parts}
-use Rattle.berreader.proofs.ResultLemmas.{IfErr-from, Err-known}
+use Rattle.octets.proofs.ResultLemmas.{IfErr-from, Err-known}
 use Rattle.berreader.proofs.parts.read_contents_place.Goals as goal
 
 pub returns-then-size-octets-clause-truncated : goal.returns-then-size-octets-clause-truncated

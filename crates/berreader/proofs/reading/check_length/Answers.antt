@@ -2,7 +2,7 @@ use Rattle.std.proofs.Common.{◌≡◌, false, true, take, drop, ◌++◌, sym,
 use Rattle.octets.proofs.LengthLemmas.{length_unique}
 use Rattle.types.specs.Contents.{CanHaveLength}
 use Rattle.types.specs.View.{ty_view}
-use Rattle.berreader.proofs.HeadLemmas.{front_of_more}
+use Rattle.octets.proofs.FrontLemmas.{front_of_more}
 use Rattle.berreader.proofs.reading.check_length.Goals as goal
 
 pub returns-in-Definite-clause-never : goal.returns-in-Definite-clause-never

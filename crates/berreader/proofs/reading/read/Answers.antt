@@ -11,7 +11,7 @@ use Rattle.types.specs.WellFormed.{IsWellFormed}
 use Rattle.types.specs.declared.refusal.Refusal.{Refusal}
 use Rattle.types.specs.declared.value.Value.{Value}
 use Rattle.berreader.specs.Head.{IsTagWithin}
-use Rattle.berreader.proofs.ResultLemmas.{IfOk-map, IfErr-map, IfErr-from, Err-known}
+use Rattle.octets.proofs.ResultLemmas.{IfOk-map, IfErr-map, IfErr-from, Err-known}
 use Rattle.berreader.proofs.AcceptedLemmas.{only_accepted, tag_of_accepted}
 use Rattle.berreader.proofs.reading.read.Goals as goal
 

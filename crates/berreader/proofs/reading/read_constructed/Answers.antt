@@ -6,7 +6,7 @@ use Rattle.types.specs.Encoding.{IsSomeAccepted}
 use Rattle.types.specs.Refusal.{IsFinal}
 use Rattle.types.specs.Shape.{tag_of}
 use Rattle.types.specs.View.{ty_view, value_view}
-use Rattle.berreader.proofs.ResultLemmas.{IfErr-from, Err-known}
+use Rattle.octets.proofs.ResultLemmas.{IfErr-from, Err-known}
 use Rattle.berreader.proofs.AcceptedLemmas.{none_constructed}
 use Rattle.berreader.proofs.TypedLemmas.{accepted_of_joined, same_string, string_front}
 use Rattle.berreader.proofs.reading.read_constructed.Goals as goal

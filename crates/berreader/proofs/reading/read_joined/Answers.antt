@@ -12,7 +12,7 @@ use Rattle.berreader.specs.Completing.{Opens, IsOpening}
 use Rattle.berreader.specs.Head.{IsExtentWithin}
 use Rattle.berreader.specs.Joined.{string_shape}
 use Rattle.berreader.specs.Segments.{CanComplete, IsTaken}
-use Rattle.berreader.proofs.ResultLemmas.{IfErr-from, Err-known}
+use Rattle.octets.proofs.ResultLemmas.{IfErr-from, Err-known}
 use Rattle.berreader.proofs.ReadingLemmas.{opening_read, string_empty, extent_of_string, can_complete, string_accepted}
 use Rattle.berreader.proofs.reading.read_joined.Goals as goal
 

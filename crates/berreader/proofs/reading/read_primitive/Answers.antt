@@ -9,7 +9,7 @@ use Rattle.types.specs.Refusal.{IsFinal}
 use Rattle.types.specs.Shape.{tag_of}
 use Rattle.types.specs.View.{ty_view, value_view}
 use Rattle.berreader.specs.Head.{IsPrimitiveWithin}
-use Rattle.berreader.proofs.ResultLemmas.{IfErr-from, Err-known}
+use Rattle.octets.proofs.ResultLemmas.{IfErr-from, Err-known}
 use Rattle.berreader.proofs.AcceptedLemmas.{length_of_accepted, primitive_of_accepted, contents_of_accepted, accepted_of_contents}
 use Rattle.berreader.proofs.reading.read_primitive.Goals as goal
 

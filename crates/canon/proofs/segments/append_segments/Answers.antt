@@ -3,7 +3,8 @@ use Rattle.octets.specs.Front.{Appends}
 use Rattle.octets.specs.Rule.{cer}
 use Rattle.types.specs.Form.{IsPrimitive}
 use Rattle.canon.specs.Segments.{AreSegmentsOf}
-use Rattle.canon.proofs.AlikeLemmas.{OnOk-map, starts_with_front}
+use Rattle.octets.proofs.ResultLemmas.{OnOk-map}
+use Rattle.canon.proofs.AlikeLemmas.{starts_with_front}
 use Rattle.canon.proofs.segments.append_segments.Goals as goal
 
 pub loop-rest-preserved : goal.loop-rest-preserved

@@ -5,8 +5,8 @@ use Rattle.types.specs.Encoding.{IsAccepted, IsSomeAccepted}
 use Rattle.types.specs.Refusal.{IsFinal}
 use Rattle.types.specs.View.{ty_view, value_view}
 use Rattle.convert.specs.Rule.{rule_of, canonical_rule_of}
-use Rattle.convert.proofs.ResultLemmas.{IfErr-from, Err-known, Err-same}
-use Rattle.convert.proofs.FrontLemmas.{HasFront-whole}
+use Rattle.octets.proofs.ResultLemmas.{IfErr-from, Err-known, Err-same}
+use Rattle.octets.proofs.FrontLemmas.{HasFront-whole}
 use Rattle.convert.proofs.TranscodingLemmas.{rule_of-is, cases_of_reading, front_is_whole, none_left_over, IsSame-equal}
 use Rattle.convert.proofs.transcoding.transcode.Goals as goal
 

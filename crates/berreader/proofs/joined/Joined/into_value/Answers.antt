@@ -9,7 +9,7 @@ use Rattle.types.specs.declared.ty.Ty.{Ty}
 use Rattle.types.specs.declared.value.Value.{Value}
 use Rattle.berreader.specs.Contents.{text_view}
 use Rattle.berreader.specs.Joined.{value_of}
-use Rattle.berreader.proofs.ResultLemmas.{IfOk-map, IfErr-all}
+use Rattle.octets.proofs.ResultLemmas.{IfOk-map, IfErr-all}
 use Rattle.berreader.proofs.TypedLemmas.{octets_value, text_value}
 use Rattle.berreader.proofs.joined.Joined.into_value.Goals as goal
 

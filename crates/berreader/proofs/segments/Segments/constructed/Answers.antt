@@ -6,7 +6,7 @@ use Rattle.berreader.specs.Head.{IsExtentWithin}
 use Rattle.berreader.specs.Segments.{CanComplete}
 use Rattle.berreader.specs.Joined.{segment_of}
 use Rattle.berreader.specs.declared.segments.Segments.{Segments}
-use Rattle.berreader.proofs.ResultLemmas.{IfErr-from, Err-known}
+use Rattle.octets.proofs.ResultLemmas.{IfErr-from, Err-known}
 use Rattle.berreader.proofs.JoinedLemmas.{whole_held}
 use Rattle.berreader.proofs.SegmentsLemmas.{constructed_next, taken_opening}
 use Rattle.berreader.proofs.ReadingLemmas.{opening_read}

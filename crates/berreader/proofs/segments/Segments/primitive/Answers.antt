@@ -5,7 +5,7 @@ use Rattle.berreader.specs.declared.segments.Segments.{Segments}
 use Rattle.berreader.specs.Head.{IsPrimitiveWithin}
 use Rattle.berreader.specs.Segments.{CanComplete}
 use Rattle.berreader.specs.Joined.{segment_of}
-use Rattle.berreader.proofs.ResultLemmas.{IfErr-from, Err-known}
+use Rattle.octets.proofs.ResultLemmas.{IfErr-from, Err-known}
 use Rattle.berreader.proofs.JoinedLemmas.{whole_held}
 use Rattle.berreader.proofs.SegmentsLemmas.{primitive_next, piece_next, taken_primitive}
 use Rattle.berreader.proofs.segments.Segments.primitive.Goals as goal

@@ -2,7 +2,7 @@ use Rattle.std.proofs.Common.{ℕ, List, ◌++◌, Err, sym, ap, subst}
 use Rattle.types.specs.Refusal.{IsFinal}
 use Rattle.berreader.specs.Head.{IsTagWithin}
 use Rattle.berreader.specs.Segments.{CanComplete}
-use Rattle.berreader.proofs.ResultLemmas.{IfErr-from, Err-known}
+use Rattle.octets.proofs.ResultLemmas.{IfErr-from, Err-known}
 use Rattle.berreader.proofs.SegmentsLemmas.{tag_of_next, tag_of_next_whole, whole_of_next}
 use Rattle.berreader.proofs.segments.Segments.segment.Goals as goal
 
