@@ -1,2 +1,4 @@
 pub mod TranscodingLemmas
 pub mod HexLemmas
+pub mod OptionLemmas
+pub mod WordLemmas

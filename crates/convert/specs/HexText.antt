@@ -27,6 +27,10 @@ abbrev pub IsHexPairs : List ℕ → List ℕ → Type 0
 IsHexPairs [] text = text ≡ []
 IsHexPairs (octet ∷ octets) text = (rest : List ℕ) × IsHexPair octet text rest × IsHexPairs octets rest
 
+-- the most octets that a text may have, white space counted
+abbrev pub most_text_octets : ℕ
+most_text_octets = 4_194_304
+
 -- the text spells the octets
 abbrev pub IsHexText : List ℕ → List ℕ → Type 0
 IsHexText octets text = IsHexPairs octets (without_spaces text)

@@ -2,6 +2,8 @@ pub mod Rule
 pub mod Transcoding
 pub mod HexText
 pub mod Line
+pub mod CommandLine
+pub mod Options
 pub mod Fault
 pub use Rattle.octets.specs.Rule as EncodingRule
 pub use Rattle.octets.specs.Front

@@ -1,6 +1,5 @@
 -- Command lines and exit statuses of the program.
-use Rattle.std.specs.Prelude.{◌≡◌, ◌⊎◌, ℕ, true, List, Option, Some, codes, string_bytes, slice_get, option_map}
-use denote.Bor.{Bor}
+use Rattle.std.specs.Prelude.{◌≡◌, ◌⊎◌, ℕ, true, List, Some, codes, string_bytes}
 use Rattle.octets.specs.declared.tag.Class.TheVariants.{Universal}
 use Rattle.octets.specs.declared.tag.Tag.{Tag}
 use Rattle.types.specs.Shape.{SimpleType, StringType, Shape}
@@ -33,12 +32,3 @@ pub record CanRun (line : Line) : Type 0 where
 -- 0 all done, 1 octets refused, 3 a file or device, 4 memory, 64 the command line
 abbrev pub IsStatus : ℕ → Type 0
 IsStatus status = (status ≡ 0) ⊎ (status ≡ 1) ⊎ (status ≡ 3) ⊎ (status ≡ 4) ⊎ (status ≡ 64)
-
--- a word by its place
-abbrev pub word_at : List (Bor (List ℕ)) → ℕ → Option (List ℕ)
-word_at words place = option_map (λ word. word.now) (slice_get words place)
-
--- the line has the words' type and input
-pub record IsNamedBy (line : Line) (words : List (Bor (List ℕ))) : Type 0 where
-  pub name : word_at words 3 ≡ Some (string_bytes line.name)
-  pub input : word_at words 4 ≡ Some (string_bytes line.input)

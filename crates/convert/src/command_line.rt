@@ -53,7 +53,7 @@ impl From<AllocError> for LineFault {
 impl LineFault {
     ghost use Rattle.convert.specs.Fault.{line_fault_status};
 
-    /// The exit status: 64, or 4 for want of memory.
+    /// The exit status: 64, or 4 where memory ran out.
     pub fn status(self) -> u8
         ensures { result ≡ line_fault_status self }
     {

@@ -1,7 +1,7 @@
 //! Hexadecimal text.
 
-ghost use Rattle.std.specs.Prelude.{◌≡◌, ◌≢◌, ℕ, List, ◌<◌, ◌↔◌, length, IfOk};
-ghost use Rattle.convert.specs.HexText.{is_space, without_spaces, IsHexText};
+ghost use Rattle.std.specs.Prelude.{◌≡◌, ℕ, List, ◌<◌, ◌↔◌, length, IfOk};
+ghost use Rattle.convert.specs.HexText.{is_space, without_spaces, IsHexText, most_text_octets};
 
 use crate::MAX_HEX_TEXT;
 use hex::FromHexError;
@@ -18,35 +18,42 @@ pub enum HexFault {
     NoMemory,
 }
 
+impl From<AllocError> for HexFault {
+    ghost use Rattle.convert.specs.declared.hex_text.HexFault.TheVariants.{NoMemory as RefusedMemory};
+
+    ghost from_gives = { λ _ fault. fault ≡ RefusedMemory };
+
+    fn from(_refused: AllocError) -> HexFault {
+        HexFault::NoMemory
+    }
+}
+
+impl From<FromHexError> for HexFault {
+    ghost use Rattle.convert.specs.Fault.{hex_fault_of};
+
+    ghost from_gives = { λ error fault. fault ≡ hex_fault_of error };
+
+    fn from(error: FromHexError) -> HexFault {
+        match error {
+            FromHexError::OutOfMemory => HexFault::NoMemory,
+            FromHexError::InvalidHexCharacter { .. }
+            | FromHexError::OddLength
+            | FromHexError::InvalidStringLength => HexFault::NotHex,
+        }
+    }
+}
+
 /// The octets of a hexadecimal text, in either case. Octets 9, 10, 13 and 32 in it are skipped.
 pub fn unhex(alloc: Global, text: &[u8]) -> Result<Vec<u8>, HexFault>
     ensures value { IfOk result (λ octets. IsHexText octets.items text.now) }
     ensures none { result ≡ Err HexFault.NotHex → (octets : List ℕ) → ¬ IsHexText octets text.now }
-    ensures too_long { (result ≡ Err HexFault.TooLong) ↔ (MAX_HEX_TEXT < length text.now) }
+    ensures too_long { (result ≡ Err HexFault.TooLong) ↔ (most_text_octets < length text.now) }
 {
     if text.len() > MAX_HEX_TEXT {
         return Err(HexFault::TooLong);
     }
-    let Ok(digits) = digits_of(alloc, text) else {
-        return Err(HexFault::NoMemory);
-    };
-    match hex::decode(alloc, digits.as_slice()) {
-        Ok(octets) => Ok(octets),
-        Err(error) => Err(fault_of(error)),
-    }
-}
-
-// Why the digits decode to nothing.
-fn fault_of(error: FromHexError) -> HexFault
-    ensures text { result ≡ HexFault.NotHex → error ≢ FromHexError.OutOfMemory }
-    ensures size { result ≢ HexFault.TooLong }
-{
-    match error {
-        FromHexError::OutOfMemory => HexFault::NoMemory,
-        FromHexError::InvalidHexCharacter { .. }
-        | FromHexError::OddLength
-        | FromHexError::InvalidStringLength => HexFault::NotHex,
-    }
+    let digits = digits_of(alloc, text)?;
+    Ok(hex::decode(alloc, digits.as_slice())?)
 }
 
 // The text without white space.

@@ -1,9 +1,12 @@
 //! The engine of the program `asn1x`: octets of one encoding rule in, octets of a canonical one out.
+//! What its calls take and return is named here too, so that one `use` reaches all of it.
 #![tactic(auto)]
 
 mod command_line;
 mod fault;
 mod hex_text;
+mod options;
+mod printed_path;
 mod rule;
 mod running;
 mod transcoding;
@@ -11,12 +14,16 @@ mod words;
 
 pub use command_line::{Line, LineFault, Verb};
 pub use hex_text::{HexFault, unhex};
+pub use octets::{Class, Tag};
+pub use primitives::Bits;
 pub use rule::{Canonical, Rule};
 pub use running::{cannot_open, run};
+pub use strings::{TextKind, TimeKind};
 pub use transcoding::transcode;
+pub use types::{Item, Refusal, Ty, TypeFault, Value, WellTyped, conforms};
 pub use words::line;
 
-/// The most octets of a hexadecimal text.
+/// The most octets that a hexadecimal text may have, white space counted.
 pub const MAX_HEX_TEXT: usize = 4_194_304;
 
 #[cfg(test)]

@@ -7,13 +7,13 @@ ghost use Rattle.convert.specs.Fault.{fault_status, IsFaultOfInput};
 ghost use Rattle.convert.specs.Line.{IsBuiltIn, IsOneForm, CanRun, IsStatus};
 
 use crate::fault::Fault;
-use crate::{Canonical, HexFault, Line, MAX_HEX_TEXT, transcode, unhex};
+use crate::{Canonical, Line, MAX_HEX_TEXT, transcode, unhex};
 use octets::{Class, Tag};
 use std::alloc::Global;
 use std::io::{ErrorKind, Read, Write};
 use types::{Refusal, Ty, WellTyped};
 
-/// Runs a command line over its open files and answers the exit status: what is done goes to `out`,
+/// Runs a command line over its open files and returns the exit status: what is done goes to `out`,
 /// one line for a fault to `err`. `module` is the module file's octets, of which there are none.
 pub fn run<R: Read, W: Write, E: Write>(
     alloc: Global,
@@ -31,23 +31,23 @@ pub fn run<R: Read, W: Write, E: Write>(
         return 64;
     };
     let Some(ty) = built_in(line.name.as_str()) else {
-        return told(&Fault::NoSuchType, err);
+        return print_fault(&Fault::NoSuchType, err);
     };
     match convert_text(alloc, &ty, line, to, input, out) {
         Ok(()) => 0,
-        Err(fault) => told(&fault, err),
+        Err(fault) => print_fault(&fault, err),
     }
 }
 
-/// Prints the line of a file that cannot be opened, and answers the exit status.
+/// Prints the line of a file that cannot be opened, and returns the exit status.
 pub fn cannot_open<E: Write>(path: &str, err: &mut E) -> u8
     ensures { result ≡ 3 }
 {
-    told(&Fault::CannotRead(path), err)
+    print_fault(&Fault::CannotRead(path), err)
 }
 
-// Prints a fault's line and answers its status. A failed write changes nothing else.
-fn told<E: Write>(fault: &Fault<'_>, err: &mut E) -> u8
+// Prints a fault's line and returns its status. A failed write changes nothing else.
+fn print_fault<E: Write>(fault: &Fault<'_>, err: &mut E) -> u8
     ensures { result ≡ fault_status fault.now }
 {
     let _ = writeln!(err, "{fault}");
@@ -98,12 +98,9 @@ fn convert_text<'a, R: Read, W: Write>(
     ensures { IfErr result IsFaultOfInput }
 {
     let text = read_text(alloc, line.input.as_str(), input)?;
-    let octets = octets_of(alloc, text.as_slice())?;
-    let octets = octets.as_slice();
-    match transcode(alloc, ty, line.from, to, octets) {
-        Ok(written) => print_hex(alloc, written.as_slice(), out),
-        Err(refusal) => Err(Fault::Refused { refusal, done: 0 }),
-    }
+    let octets = unhex(alloc, text.as_slice())?;
+    let written = transcode(alloc, ty, line.from, to, octets.as_slice())?;
+    print_hex(alloc, written.as_slice(), out)
 }
 
 // The whole of a file of text, or so much of it that it is seen to be too long.
@@ -113,20 +110,10 @@ fn read_text<'a, R: Read>(alloc: Global, path: &'a str, input: &mut R) -> Result
     let mut text = Vec::new(alloc);
     match input.take(MAX_HEX_TEXT as u64 + 1).read_to_end(&mut text) {
         Ok(_) => Ok(text),
-        Err(error) if error.kind() == ErrorKind::OutOfMemory => Err(no_memory()),
+        Err(error) if error.kind() == ErrorKind::OutOfMemory => {
+            Err(Fault::from(Refusal::NoMemory))
+        }
         Err(_) => Err(Fault::CannotRead(path)),
-    }
-}
-
-// The octets of hexadecimal text.
-fn octets_of<'a>(alloc: Global, text: &[u8]) -> Result<Vec<u8>, Fault<'a>>
-    ensures { IfErr result IsFaultOfInput }
-{
-    match unhex(alloc, text) {
-        Ok(octets) => Ok(octets),
-        Err(HexFault::NotHex) => Err(Fault::NotHexadecimal),
-        Err(HexFault::TooLong) => Err(Fault::TextTooLong),
-        Err(HexFault::NoMemory) => Err(no_memory()),
     }
 }
 
@@ -138,23 +125,9 @@ fn print_hex<'a, W: Write>(alloc: Global, octets: &[u8], out: &mut W) -> Result<
     if octets.is_empty() {
         return Ok(());
     }
-    let Ok(text) = hex::encode(alloc, octets) else {
-        return Err(no_memory());
-    };
+    let text = hex::encode(alloc, octets)?;
     match writeln!(out, "{text}") {
         Ok(()) => Ok(()),
-        Err(_) => Err(Fault::Refused {
-            refusal: Refusal::SinkFault,
-            done: 0,
-        }),
-    }
-}
-
-fn no_memory<'a>() -> Fault<'a>
-    ensures { IsFaultOfInput result }
-{
-    Fault::Refused {
-        refusal: Refusal::NoMemory,
-        done: 0,
+        Err(_) => Err(Fault::from(Refusal::SinkFault)),
     }
 }
