@@ -1,71 +1,90 @@
-//! What CER writes of all types (X.690 clause 9): strings that are not cut, and all else as under DER.
+//! What CER writes (X.690 clause 9): strings of more than 1,000 contents octets in segments (9.2), and all else
+//! as under DER.
 
-use crate::answers::{Answer, compare, universal};
-use convert::Canonical;
+use crate::checks::check_table;
+use crate::rows::{octets_of, type_of};
+use convert::{Canonical, Rule, transcode};
 use std::test::Fail;
-use strings::{TextKind, TimeKind};
-use types::{Item, Ty, WellTyped};
+
+// octets | under CER
+const SHORT: &str = "
+BOOLEAN:
+01 01 2A                        | 01 01 FF
+INTEGER:
+02 81 02 FF 7F                  | 02 02 FF 7F
+NULL:
+05 81 00                        | 05 00
+OBJECT IDENTIFIER:
+06 81 03 81 34 03               | 06 03 81 34 03
+RELATIVE-OID:
+0D 81 02 81 34                  | 0D 02 81 34
+BIT STRING:
+03 02 07 FF                     | 03 02 07 80
+03 01 00                        | kept
+OCTET STRING:
+04 00                           | kept
+24 06 04 01 41 04 01 41         | 04 02 41 41
+UTF8String:
+0C 81 02 C3 A9                  | 0C 02 C3 A9
+UTCTime:
+17 81 0D, '240229120000Z'       | 17 0D, '240229120000Z'
+";
+
+// octets | under CER
+const CUT: &str = "
+OCTET STRING:
+04 82 03 E8, 41 x1000             | kept
+04 82 03 E9, 41 x1001             | 24 80, 04 82 03 E8, 41 x1000, 04 01 41, 00 00
+04 82 07 D0, 41 x2000             | 24 80, 04 82 03 E8, 41 x1000, 04 82 03 E8, 41 x1000, 00 00
+04 82 08 50, 41 x2128             | 24 80, 04 82 03 E8, 41 x1000, 04 82 03 E8, 41 x1000, 04 81 80, 41 x128, 00 00
+24 80, 04 82 01 F4, 41 x500, 24 80, 04 82 01 F5, 41 x501, 00 00 x2 | 24 80, 04 82 03 E8, 41 x1000, 04 01 41, 00 00
+UTF8String:
+0C 82 03 E8, 41 x1000             | kept
+0C 82 03 E9, 41 x1001             | 2C 80, 04 82 03 E8, 41 x1000, 04 01 41, 00 00
+# The cut is between octets, here those of one character.
+0C 82 03 E9, 41 x999, C3 A9       | 2C 80, 04 82 03 E8, 41 x999, C3, 04 01 A9, 00 00
+BIT STRING:
+03 82 03 E8 00, 41 x999           | kept
+03 82 03 E9 00, 41 x1000          | 23 80, 03 82 03 E8 00, 41 x999, 03 02 00 41, 00 00
+03 82 07 CF 00, 41 x1998          | 23 80, 03 82 03 E8 00, 41 x999, 03 82 03 E8 00, 41 x999, 00 00
+# 7,993 bits, the last 1.
+03 82 03 E9 07, 41 x999, 80       | 23 80, 03 82 03 E8 00, 41 x999, 03 02 07 80, 00 00
+03 82 03 E9 07, 41 x999, FF       | 23 80, 03 82 03 E8 00, 41 x999, 03 02 07 80, 00 00
+23 82 03 F5, 03 82 01 F5 00, 41 x500, 03 82 01 F4 00, 41 x499, 03 02 07 FF | 23 80, 03 82 03 E8 00, 41 x999, 03 02 07 80, 00 00
+[0] OCTET STRING:
+80 82 03 E9, 41 x1001             | A0 80, 04 82 03 E8, 41 x1000, 04 01 41, 00 00
+[0] BIT STRING:
+80 82 03 E9 00, 41 x1000          | A0 80, 03 82 03 E8 00, 41 x999, 03 02 00 41, 00 00
+";
+
+// octets | under CER
+const LONGEST: &str = "
+OCTET STRING:
+04 83 0F EF A9, 41 x1044393       | refused 14
+";
 
 #[test]
 fn short_encodings(rt: HostRuntime) -> Result<(), Fail> {
-    let name = String::from_str(rt.alloc(), "i")?;
-    let items = Vec::from_array(rt.alloc(), [Item { name, number: 300 }])?;
-    // (type, octets, under CER)
-    let cases: [(Ty, &[u8], Answer); 11] = [
-        (
-            Ty::Boolean(universal(1)),
-            &[0x01, 0x01, 0x2A],
-            Ok(&[0x01, 0x01, 0xFF]),
-        ),
-        (
-            Ty::Integer(universal(2)),
-            &[0x02, 0x81, 0x02, 0xFF, 0x7F],
-            Ok(&[0x02, 0x02, 0xFF, 0x7F]),
-        ),
-        (
-            Ty::Enumerated(universal(10), items),
-            &[0x0A, 0x81, 0x02, 0x01, 0x2C],
-            Ok(&[0x0A, 0x02, 0x01, 0x2C]),
-        ),
-        (
-            Ty::Null(universal(5)),
-            &[0x05, 0x81, 0x00],
-            Ok(&[0x05, 0x00]),
-        ),
-        (
-            Ty::Oid(universal(6)),
-            &[0x06, 0x81, 0x03, 0x81, 0x34, 0x03],
-            Ok(&[0x06, 0x03, 0x81, 0x34, 0x03]),
-        ),
-        (
-            Ty::RelativeOid(universal(13)),
-            &[0x0D, 0x81, 0x02, 0x81, 0x34],
-            Ok(&[0x0D, 0x02, 0x81, 0x34]),
-        ),
-        (
-            Ty::Bits(universal(3)),
-            &[0x03, 0x02, 0x07, 0xFF],
-            Ok(&[0x03, 0x02, 0x07, 0x80]),
-        ),
-        (
-            Ty::Bits(universal(3)),
-            &[0x03, 0x01, 0x00],
-            Ok(&[0x03, 0x01, 0x00]),
-        ),
-        (Ty::Octets(universal(4)), &[0x04, 0x00], Ok(&[0x04, 0x00])),
-        (
-            Ty::Text(universal(12), TextKind::Utf8),
-            b"\x0C\x81\x02\xC3\xA9",
-            Ok(b"\x0C\x02\xC3\xA9"),
-        ),
-        (
-            Ty::Time(universal(23), TimeKind::Utc),
-            b"\x17\x81\x0D240229120000Z",
-            Ok(b"\x17\x0D240229120000Z"),
-        ),
-    ];
-    for (ty, octets, want) in cases {
-        compare(&rt, &WellTyped::new(ty)?, Canonical::Cer, octets, want);
-    }
-    Ok(())
+    check_table(&rt, Canonical::Cer, SHORT)
+}
+
+#[test]
+fn strings_that_are_cut(rt: HostRuntime) -> Result<(), Fail> {
+    check_table(&rt, Canonical::Cer, CUT)
+}
+
+#[test]
+fn longest_octet_string(rt: HostRuntime) -> Result<(), Fail> {
+    let ty = type_of("OCTET STRING")?;
+    // 1,044 full segments of 1,004 octets, and 396 octets for the last.
+    let octets = octets_of(rt.alloc(), "04 83 0F EF A8, 41 x1044392")?;
+    let written = transcode(
+        rt.alloc(),
+        &ty,
+        Rule::Ber,
+        Canonical::Cer,
+        octets.as_slice(),
+    )?;
+    assert_eq!(rt; written.len(), 1_048_576);
+    check_table(&rt, Canonical::Cer, LONGEST)
 }

@@ -1,49 +1,50 @@
 //! ENUMERATED (X.690 8.4), whose contents octets are those of an item's number.
 
-use crate::answers::{Answer, check, universal};
+use crate::checks::check_line;
+use crate::rows::universal;
+use convert::{Canonical, Item, Ty, TypeFault, Value, WellTyped, conforms};
 use std::alloc::Global;
 use std::test::Fail;
-use types::{Item, MAX_ITEMS, Refusal, Ty, TypeFault, Value, WellTyped, conforms};
 
-// Items named `i` with these numbers.
-fn items(alloc: Global, numbers: &[i128]) -> Result<Vec<Item>, Fail> {
+// octets of an ENUMERATED with items 1, 2, 0, 3 and 300 | under DER and under CER
+const ROWS: &str = "
+0A 01 02                 | kept
+0A 81 01 03              | 0A 01 03
+0A 01 00                 | kept
+0A 02 01 2C              | kept
+0A 81 02 01 2C           | 0A 02 01 2C
+                         | refused 1
+02 01 02                 | refused 2
+2A 03 0A 01 02           | refused 3
+0A 01 04                 | refused 6
+0A 01 FF                 | refused 6
+0A 02 00 01              | refused 6
+0A 00                    | refused 6
+";
+
+// An ENUMERATED whose items, all named `i`, have these numbers.
+fn enumerated(alloc: Global, numbers: &[i128]) -> Result<Ty, Fail> {
     let mut items = Vec::new(alloc);
     for number in numbers {
         let name = String::from_str(alloc, "i")?;
-        items.push(Item {
-            name,
-            number: *number,
-        })?;
+        let number = *number;
+        items.push(Item { name, number })?;
     }
-    Ok(items)
+    Ok(Ty::Enumerated(universal(10), items))
 }
 
 #[test]
-fn enumerated_encodings(rt: HostRuntime) -> Result<(), Fail> {
-    let items = items(rt.alloc(), &[1, 2, 0, 3, 300])?;
-    let ty = WellTyped::new(Ty::Enumerated(universal(10), items))?;
-    // (octets, under DER)
-    let cases: [(&[u8], Answer); 11] = [
-        (&[0x0A, 0x01, 0x02], Ok(&[0x0A, 0x01, 0x02])),
-        (&[0x0A, 0x81, 0x01, 0x03], Ok(&[0x0A, 0x01, 0x03])),
-        (&[0x0A, 0x01, 0x00], Ok(&[0x0A, 0x01, 0x00])),
-        (&[0x0A, 0x02, 0x01, 0x2C], Ok(&[0x0A, 0x02, 0x01, 0x2C])),
-        (&[0x0A, 0x01, 0x04], Err(Refusal::Contents)),
-        (&[0x0A, 0x01, 0xFF], Err(Refusal::Contents)),
-        (&[0x0A, 0x02, 0x00, 0x01], Err(Refusal::Contents)),
-        (&[0x0A, 0x00], Err(Refusal::Contents)),
-        (&[0x02, 0x01, 0x02], Err(Refusal::Identifier)),
-        (&[0x2A, 0x03, 0x0A, 0x01, 0x02], Err(Refusal::Form)),
-        (&[], Err(Refusal::Truncated)),
-    ];
-    for (octets, want) in cases {
-        check(&rt, &ty, octets, want)?;
+fn encodings(rt: HostRuntime) -> Result<(), Fail> {
+    let ty = WellTyped::new(enumerated(rt.alloc(), &[1, 2, 0, 3, 300])?)?;
+    for line in ROWS.lines() {
+        check_line(&rt, &ty, Canonical::Der, line)?;
+        check_line(&rt, &ty, Canonical::Cer, line)?;
     }
     Ok(())
 }
 
 #[test]
-fn items_of_an_enumerated(rt: HostRuntime) -> Result<(), Fail> {
+fn items(rt: HostRuntime) -> Result<(), Fail> {
     // (numbers of the items, fault)
     let cases: [(&[i128], Option<TypeFault>); 5] = [
         (&[0], None),
@@ -53,35 +54,29 @@ fn items_of_an_enumerated(rt: HostRuntime) -> Result<(), Fail> {
         (&[], Some(TypeFault::TooLarge)),
     ];
     for (numbers, fault) in cases {
-        let items = items(rt.alloc(), numbers)?;
-        let ty = WellTyped::new(Ty::Enumerated(universal(10), items));
+        let ty = WellTyped::new(enumerated(rt.alloc(), numbers)?);
         assert_eq!(rt; ty.err(), fault, "at {numbers:?}");
     }
     Ok(())
 }
 
 #[test]
-fn most_items_of_an_enumerated(rt: HostRuntime) -> Result<(), Fail> {
-    // (items, fault)
-    for (count, fault) in [
-        (MAX_ITEMS, None),
-        (MAX_ITEMS + 1, Some(TypeFault::TooLarge)),
-    ] {
-        let mut items = Vec::new(rt.alloc());
-        for number in 0..count {
-            let name = String::from_str(rt.alloc(), "i")?;
-            let number = number as i128;
-            items.push(Item { name, number })?;
-        }
-        let ty = WellTyped::new(Ty::Enumerated(universal(10), items));
-        assert_eq!(rt; ty.err(), fault, "at {count} items");
+fn most_items(rt: HostRuntime) -> Result<(), Fail> {
+    let mut numbers = Vec::new(rt.alloc());
+    for number in 0..256u32 {
+        numbers.push(i128::from(number))?;
     }
+    let ty = WellTyped::new(enumerated(rt.alloc(), numbers.as_slice())?);
+    assert_eq!(rt; ty.err(), None);
+    numbers.push(256)?;
+    let ty = WellTyped::new(enumerated(rt.alloc(), numbers.as_slice())?);
+    assert_eq!(rt; ty.err(), Some(TypeFault::TooLarge));
     Ok(())
 }
 
 #[test]
-fn values_of_an_enumerated(rt: HostRuntime) -> Result<(), Fail> {
-    let ty = Ty::Enumerated(universal(10), items(rt.alloc(), &[1, 3])?);
+fn values(rt: HostRuntime) -> Result<(), Fail> {
+    let ty = enumerated(rt.alloc(), &[1, 3])?;
     // (value, whether it conforms)
     let cases = [
         (Value::Enumerated(1), true),

@@ -1,9 +1,7 @@
 //! How a program uses the library.
 
-use convert::{Canonical, Rule, transcode, unhex};
-use octets::{Class, Tag};
+use convert::{Canonical, Class, Rule, Tag, Ty, WellTyped, transcode, unhex};
 use std::test::Fail;
-use types::{Ty, WellTyped};
 
 #[test]
 fn reads_ber_and_writes_der(rt: HostRuntime) -> Result<(), Fail> {

@@ -1,228 +1,94 @@
-//! Levels and lengths of strings in segments: at most 64 constructed encodings nest, and the outermost
-//! has at most 1,048,576 octets, which are this project's own limits (`docs/PROFILE.md`, "Own: limits").
+//! Levels and lengths of strings in segments: at most 64 constructed encodings nest, and the outermost has at
+//! most 1,048,576 octets, which are this project's own limits (`docs/PROFILE.md`, "Own: limits").
 
-use crate::answers::{Answer, check, repeated, universal};
+use crate::checks::{check_line, check_table};
+use crate::rows::type_of;
+use convert::Canonical;
 use std::test::Fail;
-use types::{Refusal, Ty, WellTyped};
 
-// Encodings are told in pieces: octets, and how many times they stand.
-type Pieces = &'static [(&'static [u8], usize)];
+// octets | under DER
+const LEVELS: &str = "
+OCTET STRING:
+24 80, 04 01 AA, 00 00                    | 04 01 AA
+24 80 x63, 04 01 AA, 00 00 x63            | 04 01 AA
+24 80 x64, 04 01 AA, 00 00 x64            | 04 01 AA
+24 80 x65, 04 01 AA, 00 00 x65            | refused 10
+24 80 x64                                 | refused 1
+24 80 x64, 24                             | refused 10
+24 80 x64, 24 FF                          | refused 10
+24 80 x64, 24 00, 00 00 x64               | refused 10
+# 65 encodings beside each other in one
+24 80, 24 80 00 00 x65, 00 00             | 04 00
+";
 
-// How a constructed OCTET STRING in the indefinite form begins.
-const OPEN: &[u8] = &[0x24, 0x80];
-
-// An OCTET STRING of one octet.
-const ONE: &[u8] = &[0x04, 0x01, 0xAA];
-
-// End-of-contents octets.
-const END: &[u8] = &[0x00, 0x00];
+// octets | under DER
+const LENGTHS: &str = "
+OCTET STRING:
+# 126 digits, of which the first 125 are 00: outside, inside, and both
+04 FE, 00 x125, 01 AA                     | 04 01 AA
+24 FE, 00 x125, 03 04 01 AA               | 04 01 AA
+24 80 04 FE, 00 x125, 01 AA 00 00         | 04 01 AA
+24 FE, 00 x125, 81 04 FE, 00 x125, 01 AA  | 04 01 AA
+24 FF, 00 x126, 03 04 01 AA               | refused 4
+24 80 04 FF, 00 x126, 01 AA 00 00         | refused 4
+24 83 10 00 01                            | refused 4
+24 80 04 83 10 00 01                      | refused 4
+24 80 24 83 10 00 01                      | refused 4
+24 83 10 00 00                            | refused 11
+24 83 0F FF FB                            | refused 1
+24 80 24 83 0F FF FA                      | refused 11
+";
 
 #[test]
 fn levels(rt: HostRuntime) -> Result<(), Fail> {
-    let ty = WellTyped::new(Ty::Octets(universal(4)))?;
-    // (octets in pieces, under DER)
-    let cases: [(Pieces, Answer); 9] = [
-        (&[(OPEN, 1), (ONE, 1), (END, 1)], Ok(ONE)),
-        (&[(OPEN, 63), (ONE, 1), (END, 63)], Ok(ONE)),
-        (&[(OPEN, 64), (ONE, 1), (END, 64)], Ok(ONE)),
-        (&[(OPEN, 65), (ONE, 1), (END, 65)], Err(Refusal::TooDeep)),
-        (&[(OPEN, 64)], Err(Refusal::Truncated)),
-        (&[(OPEN, 64), (&[0x24], 1)], Err(Refusal::TooDeep)),
-        (&[(OPEN, 64), (&[0x24, 0xFF], 1)], Err(Refusal::TooDeep)),
-        (
-            &[(OPEN, 64), (&[0x24, 0x00], 1), (END, 64)],
-            Err(Refusal::TooDeep),
-        ),
-        // 65 encodings beside each other in one
-        (
-            &[(OPEN, 1), (&[0x24, 0x80, 0x00, 0x00], 65), (END, 1)],
-            Ok(&[0x04, 0x00]),
-        ),
-    ];
-    for (octets, want) in cases {
-        let octets = repeated(rt.alloc(), octets)?;
-        check(&rt, &ty, octets.as_slice(), want)?;
-    }
-    Ok(())
+    check_table(&rt, Canonical::Der, LEVELS)
 }
 
 #[test]
 fn levels_of_definite_lengths(rt: HostRuntime) -> Result<(), Fail> {
-    let ty = WellTyped::new(Ty::Octets(universal(4)))?;
-    // (identifier and length octets around 63 levels, of 127 contents octets down to 3; under DER)
-    let cases: [(&[u8], Answer); 4] = [
-        (&[], Ok(ONE)),
-        (&[0x24, 0x81, 0x81], Ok(ONE)),
-        (&[0x24, 0x80, 0x24, 0x81, 0x81], Err(Refusal::TooDeep)),
-        (&[0x24, 0x81, 0x84, 0x24, 0x81, 0x81], Err(Refusal::TooDeep)),
+    let ty = type_of("OCTET STRING")?;
+    // 63 levels, of 127 contents octets down to 3
+    let mut levels = String::new(rt.alloc());
+    for level in 0u8..63 {
+        let length = 127 - 2 * level;
+        levels.push_str(format!(in rt.alloc(); "24{length:02x}")?.as_str())?;
+    }
+    // (identifier and length octets around these, under DER)
+    let cases = [
+        ("", "04 01 AA"),
+        ("24 81 81", "04 01 AA"),
+        ("24 80 24 81 81", "refused 10"),
+        ("24 81 84 24 81 81", "refused 10"),
     ];
-    for (outer, want) in cases {
-        let mut octets = Vec::from_slice(rt.alloc(), outer)?;
-        for level in 0u8..63 {
-            octets.extend_from_slice(&[0x24, 127 - 2 * level])?;
-        }
-        octets.extend_from_slice(ONE)?;
-        check(&rt, &ty, octets.as_slice(), want)?;
+    for (outer, becomes) in cases {
+        let line = format!(in rt.alloc(); "{outer}{levels}0401AA|{becomes}")?;
+        check_line(&rt, &ty, Canonical::Der, line.as_str())?;
     }
     Ok(())
 }
 
 #[test]
 fn lengths(rt: HostRuntime) -> Result<(), Fail> {
-    let ty = WellTyped::new(Ty::Octets(universal(4)))?;
-    // (octets in pieces, under DER)
-    let cases: [(Pieces, Answer); 19] = [
-        // 126 digits, of which the first 125 are 00: outside, inside, and both
-        (
-            &[(&[0x04, 0xFE], 1), (&[0x00], 125), (&[0x01, 0xAA], 1)],
-            Ok(ONE),
-        ),
-        (
-            &[(&[0x24, 0xFE], 1), (&[0x00], 125), (&[0x03], 1), (ONE, 1)],
-            Ok(ONE),
-        ),
-        (
-            &[
-                (OPEN, 1),
-                (&[0x04, 0xFE], 1),
-                (&[0x00], 125),
-                (&[0x01, 0xAA], 1),
-                (END, 1),
-            ],
-            Ok(ONE),
-        ),
-        (
-            &[
-                (&[0x24, 0xFE], 1),
-                (&[0x00], 125),
-                (&[0x81, 0x04, 0xFE], 1),
-                (&[0x00], 125),
-                (&[0x01, 0xAA], 1),
-            ],
-            Ok(ONE),
-        ),
-        (
-            &[(&[0x24, 0xFF], 1), (&[0x00], 126), (&[0x03], 1), (ONE, 1)],
-            Err(Refusal::Length),
-        ),
-        (
-            &[
-                (OPEN, 1),
-                (&[0x04, 0xFF], 1),
-                (&[0x00], 126),
-                (&[0x01, 0xAA], 1),
-                (END, 1),
-            ],
-            Err(Refusal::Length),
-        ),
-        (
-            &[(&[0x24, 0x83, 0x10, 0x00, 0x01], 1)],
-            Err(Refusal::Length),
-        ),
-        (
-            &[(OPEN, 1), (&[0x04, 0x83, 0x10, 0x00, 0x01], 1)],
-            Err(Refusal::Length),
-        ),
-        (
-            &[(OPEN, 1), (&[0x24, 0x83, 0x10, 0x00, 0x01], 1)],
-            Err(Refusal::Length),
-        ),
-        (
-            &[(&[0x24, 0x83, 0x10, 0x00, 0x00], 1)],
-            Err(Refusal::TooLong),
-        ),
-        (
-            &[(&[0x24, 0x83, 0x0F, 0xFF, 0xFC], 1)],
-            Err(Refusal::TooLong),
-        ),
-        (
-            &[(&[0x24, 0x83, 0x0F, 0xFF, 0xFB], 1)],
-            Err(Refusal::Truncated),
-        ),
-        (
-            &[(OPEN, 1), (&[0x04, 0x83, 0x0F, 0xFF, 0xFA], 1)],
-            Err(Refusal::TooLong),
-        ),
-        (
-            &[(OPEN, 1), (&[0x24, 0x83, 0x0F, 0xFF, 0xFA], 1)],
-            Err(Refusal::TooLong),
-        ),
-        (
-            &[(OPEN, 1), (&[0x04, 0x83, 0x0F, 0xFF, 0xF8], 1)],
-            Err(Refusal::TooLong),
-        ),
-        (
-            &[(OPEN, 1), (&[0x04, 0x83, 0x0F, 0xFF, 0xF7], 1)],
-            Err(Refusal::Truncated),
-        ),
-        (
-            &[(
-                &[0x24, 0x83, 0x0F, 0xFF, 0xFB, 0x04, 0x83, 0x0F, 0xFF, 0xF8],
-                1,
-            )],
-            Err(Refusal::Length),
-        ),
-        (
-            &[(&[0x24, 0x05, 0x24, 0x80, 0x04, 0x01], 1)],
-            Err(Refusal::Length),
-        ),
-        (&[(&[0x24, 0x03, 0x24, 0x80], 1)], Err(Refusal::Length)),
-    ];
-    for (octets, want) in cases {
-        let octets = repeated(rt.alloc(), octets)?;
-        check(&rt, &ty, octets.as_slice(), want)?;
-    }
-    Ok(())
+    check_table(&rt, Canonical::Der, LENGTHS)
 }
 
 #[test]
 fn longest_strings(rt: HostRuntime) -> Result<(), Fail> {
-    let ty = WellTyped::new(Ty::Octets(universal(4)))?;
-    let segment = repeated(
-        rt.alloc(),
-        &[(&[0x04, 0x82, 0x10, 0x00], 1), (b"0123456789ABCDEF", 256)],
-    )?;
-    // (identifier and length octets behind 255 segments of 4,096 octets, how many octets 41 follow,
-    // identifier and length octets of the whole under DER)
-    let cases: [(&[u8], usize, Answer); 4] = [
-        (
-            &[0x04, 0x82, 0x0B, 0xFB],
-            3_067,
-            Ok(&[0x04, 0x83, 0x0F, 0xFB, 0xFB]),
-        ),
-        (
-            &[0x04, 0x82, 0x0B, 0xFC],
-            3_068,
-            Ok(&[0x04, 0x83, 0x0F, 0xFB, 0xFC]),
-        ),
-        (&[0x04, 0x82, 0x0B, 0xFD], 3_069, Err(Refusal::TooLong)),
-        (
-            &[0x04, 0x83, 0x00, 0x0B, 0xFC],
-            3_068,
-            Err(Refusal::TooLong),
-        ),
+    let ty = type_of("OCTET STRING")?;
+    // (identifier and length octets behind 255 segments of 4,096 octets, how many octets follow, under DER)
+    let cases = [
+        ("04 82 0B FB", 3_067, "04 83 0F FB FB, 41 x1047547"),
+        ("04 82 0B FC", 3_068, "04 83 0F FB FC, 41 x1047548"),
+        ("04 82 0B FD", 3_069, "refused 11"),
+        ("04 83 00 0B FC", 3_068, "refused 11"),
     ];
-    for (head, count, want) in cases {
-        let octets = repeated(
-            rt.alloc(),
-            &[
-                (OPEN, 1),
-                (segment.as_slice(), 255),
-                (head, 1),
-                (b"A", count),
-                (END, 1),
-            ],
-        )?;
-        match want {
-            Ok(head) => {
-                let want = repeated(
-                    rt.alloc(),
-                    &[(head, 1), (b"0123456789ABCDEF", 65_280), (b"A", count)],
-                )?;
-                check(&rt, &ty, octets.as_slice(), Ok(want.as_slice()))?;
-            }
-            Err(refusal) => check(&rt, &ty, octets.as_slice(), Err(refusal))?,
-        }
+    let mut segments = String::from_str(rt.alloc(), "24 80")?;
+    for _ in 0..255 {
+        segments.push_str(", 04 82 10 00, 41 x4096")?;
+    }
+    for (head, count, becomes) in cases {
+        let line = format!(in rt.alloc(); "{segments}, {head}, 41 x{count}, 00 00 | {becomes}")?;
+        check_line(&rt, &ty, Canonical::Der, line.as_str())?;
     }
     Ok(())
 }

@@ -1,204 +1,139 @@
-//! BIT STRING and OCTET STRING in segments (X.690 8.6.4 and 8.7.3): constructed encodings that hold
-//! encodings of the same type under its universal tag.
+//! Strings and times in segments (X.690 8.6.4, 8.7.3, 8.23, 8.25): constructed encodings that hold encodings
+//! of BIT STRING or of OCTET STRING under its universal tag. A character may begin in one segment and end in
+//! the next: the alphabet is asked of the whole.
 
-use crate::answers::{Answer, check, universal};
-use octets::{Class, Tag};
+use crate::checks::check_table;
+use convert::Canonical;
 use std::test::Fail;
-use types::{Refusal, Ty, WellTyped};
+
+// octets | under DER
+const STRINGS: &str = "
+OCTET STRING:
+24 00                                         | 04 00
+24 80 00 00                                   | 04 00
+24 02 24 00                                   | 04 00
+24 80 04 01 41 00 00                          | 04 01 41
+24 82 00 03 04 01 41                          | 04 01 41
+24 80 04 02 00 00 00 00                       | 04 02 00 00
+24 80 04 02 01 02 24 80 04 01 03 00 00 00 00  | 04 03 01 02 03
+24 0B 24 80 04 81 01 41 00 00 04 01 42        | 04 02 41 42
+24 80 24 03 04 01 41 24 03 04 01 42 00 00     | 04 02 41 42
+24 80 03 02 00 41 00 00                       | refused 2
+24 80 04 01 41 00 00 00                       | refused 2
+24 03 04 82 00 01 41                          | refused 4
+24 02 1F 81 00                                | refused 4
+BIT STRING:
+23 00                                         | 03 01 00
+23 80 00 00                                   | 03 01 00
+23 04 03 02 07 80                             | 03 02 07 80
+23 80 03 02 04 FF 00 00                       | 03 02 04 F0
+23 07 03 01 00 03 02 04 F0                    | 03 02 04 F0
+23 09 03 03 00 AA BB 03 02 04 F0              | 03 04 04 AA BB F0
+23 80 03 02 00 AA 23 04 03 02 04 F0 00 00     | 03 03 04 AA F0
+23 04 04 02 00 AA                             | refused 2
+23 80 00 01                                   | refused 5
+# another tag, and a wrong end, after a segment with unused bits
+23 06 03 02 04 F0 04 00                       | refused 2
+23 80 03 02 04 F0 00 01                       | refused 5
+[0] OCTET STRING:
+A0 04 04 02 4A 6F                             | 80 02 4A 6F
+A0 04 80 02 4A 6F                             | refused 2
+[0] BIT STRING:
+A0 04 03 02 04 F0                             | 80 02 04 F0
+A0 04 80 02 04 F0                             | refused 2
+# tags of two and of three identifier octets
+[31] OCTET STRING:
+BF 1F 04 04 02 4A 6F                          | 9F 1F 02 4A 6F
+BF 1F 03 04 02 4A 6F                          | refused 4
+[128] OCTET STRING:
+BF 81 00 80 04 01 41 00 00                    | 9F 81 00 01 41
+";
+
+// octets | under DER
+const TEXTS: &str = "
+VisibleString:
+3A 80 00 00                                     | 1A 00
+3A 09 04 03, 'Jon', 04 02, 'es'                 | 1A 05, 'Jones'
+3A 80 04 03, 'Jon', 24 04 04 02, 'es', 00 00    | 1A 05, 'Jones'
+3A 09 1A 03, 'Jon', 1A 02, 'es'                 | refused 2
+3A 06 04 01, 'J', 04 01 7F                      | refused 7
+IA5String:
+36 06 04 01, 'J', 04 01 7F                      | 16 02, 'J', 7F
+36 06 04 01, 'J', 04 01 80                      | refused 7
+PrintableString:
+33 07 04 01, 'a', 04 02, ' ?'                   | 13 03, 'a ?'
+33 06 04 01, 'a', 04 01, '*'                    | refused 7
+NumericString:
+32 07 04 02, '1 ', 04 01, '2'                   | 12 03, '1 2'
+32 06 04 01, '1', 04 01, '-'                    | refused 7
+UTF8String:
+2C 06 04 01 C3 04 01 A9                         | 0C 02 C3 A9
+2C 05 04 01 C3 04 00                            | refused 7
+2C 06 04 01 C3 04 01 41                         | refused 7
+2C 06 0C 01 C3 0C 01 A9                         | refused 2
+BMPString:
+3E 00                                           | 1E 00
+3E 06 04 01 00 04 01 41                         | 1E 02 00 41
+3E 80 04 03 00 41 00 04 01 42 00 00             | 1E 04 00 41 00 42
+3E 06 04 01 D8 04 01 00                         | refused 7
+3E 07 04 02 00 41 04 01 00                      | refused 7
+GeneralizedTime:
+38 13 04 08, '20240229', 04 07, '120000Z'       | 18 0F, '20240229120000Z'
+38 80 24 0A 04 08, '20240229', 04 07, '120000Z', 00 00       | 18 0F, '20240229120000Z'
+38 80 04 0E, '20240101235959', 04 04, '.05Z', 00 00          | 18 12, '20240101235959.05Z'
+38 13 04 08, '20230229', 04 07, '120000Z'       | refused 7
+38 11 18 0F, '20240229120000Z'                  | refused 2
+38 00                                           | refused 7
+38 80 00 00                                     | refused 7
+UTCTime:
+37 11 04 06, '240229', 04 07, '120000Z'         | 17 0D, '240229120000Z'
+37 80 04 06, '240229', 04 07, '120000Z', 00 00  | 17 0D, '240229120000Z'
+37 80 04 06, '230229', 04 07, '120000Z', 00 00  | refused 7
+37 05                                           | refused 1
+[0] VisibleString:
+A0 04 04 02, 'Jo'                               | 80 02, 'Jo'
+A0 04 1A 02, 'Jo'                               | refused 2
+[0] UTCTime:
+A0 80 04 0D, '240229120000Z', 00 00             | 80 0D, '240229120000Z'
+";
+
+// octets | under DER
+const ENDS: &str = "
+OCTET STRING:
+# in a definite encoding what passes its end is named before what it is, and so is what leaves no room for
+# the end-of-contents octets of an indefinite one in it
+24 04 24 80 00 00                 | 04 00
+24 04 24 80 04 48                 | refused 4
+24 04 24 80 1A 00                 | refused 4
+24 04 24 80 24 80                 | refused 4
+24 06 24 80 04 01 41 00           | refused 4
+24 02 1A 00                       | refused 2
+24 04 24 80 00 48                 | refused 5
+# in an indefinite one alone nothing is passed
+24 80 24 80 1A 00                 | refused 2
+# cut, before anything whole shows a fault and behind it
+24                                | refused 1
+24 01                             | refused 1
+24 80 1F                          | refused 1
+24 04 24 80                       | refused 1
+24 04 24 80 00                    | refused 1
+24 04 24 80 04                    | refused 4
+BIT STRING:
+23 06 03 02 04 C0                 | refused 1
+23 06 03 02 04 C0 03 00           | refused 6
+";
 
 #[test]
-fn octet_strings(rt: HostRuntime) -> Result<(), Fail> {
-    let ty = WellTyped::new(Ty::Octets(universal(4)))?;
-    // (octets, under DER)
-    let cases: [(&[u8], Answer); 21] = [
-        (&[0x24, 0x00], Ok(&[0x04, 0x00])),
-        (&[0x24, 0x80, 0x00, 0x00], Ok(&[0x04, 0x00])),
-        (&[0x24, 0x02, 0x24, 0x00], Ok(&[0x04, 0x00])),
-        (
-            &[0x24, 0x80, 0x04, 0x01, 0x41, 0x00, 0x00],
-            Ok(&[0x04, 0x01, 0x41]),
-        ),
-        (
-            &[0x24, 0x82, 0x00, 0x03, 0x04, 0x01, 0x41],
-            Ok(&[0x04, 0x01, 0x41]),
-        ),
-        (
-            &[0x24, 0x80, 0x04, 0x02, 0x00, 0x00, 0x00, 0x00],
-            Ok(&[0x04, 0x02, 0x00, 0x00]),
-        ),
-        (
-            &[
-                0x24, 0x80, 0x04, 0x02, 0x01, 0x02, 0x24, 0x80, 0x04, 0x01, 0x03, 0x00, 0x00, 0x00,
-                0x00,
-            ],
-            Ok(&[0x04, 0x03, 0x01, 0x02, 0x03]),
-        ),
-        (
-            &[
-                0x24, 0x0B, 0x24, 0x80, 0x04, 0x81, 0x01, 0x41, 0x00, 0x00, 0x04, 0x01, 0x42,
-            ],
-            Ok(&[0x04, 0x02, 0x41, 0x42]),
-        ),
-        (
-            &[
-                0x24, 0x80, 0x24, 0x03, 0x04, 0x01, 0x41, 0x24, 0x03, 0x04, 0x01, 0x42, 0x00, 0x00,
-            ],
-            Ok(&[0x04, 0x02, 0x41, 0x42]),
-        ),
-        (
-            &[0x24, 0x80, 0x03, 0x02, 0x00, 0x41, 0x00, 0x00],
-            Err(Refusal::Identifier),
-        ),
-        (
-            &[0x24, 0x80, 0x04, 0x01, 0x41, 0x00, 0x00, 0x00],
-            Err(Refusal::Identifier),
-        ),
-        (&[0x24, 0x04, 0x04, 0x80, 0x00, 0x00], Err(Refusal::Form)),
-        (&[0x24, 0x02, 0x04, 0x01], Err(Refusal::Length)),
-        (&[0x24, 0x03, 0x04, 0x02, 0x41, 0x42], Err(Refusal::Length)),
-        (&[0x24, 0x01, 0x04, 0x00], Err(Refusal::Length)),
-        (
-            &[0x24, 0x03, 0x04, 0x82, 0x00, 0x01, 0x41],
-            Err(Refusal::Length),
-        ),
-        (&[0x24, 0x02, 0x1F, 0x81, 0x00], Err(Refusal::Length)),
-        (&[0x24, 0x02, 0x24, 0x80, 0x00, 0x00], Err(Refusal::Length)),
-        (&[0x24, 0x80, 0x00, 0x01], Err(Refusal::EndOfContents)),
-        (&[0x24, 0x02, 0x00, 0x00], Err(Refusal::EndOfContents)),
-        (
-            &[0x24, 0x80, 0x24, 0x02, 0x00, 0x00, 0x00, 0x00],
-            Err(Refusal::EndOfContents),
-        ),
-    ];
-    for (octets, want) in cases {
-        check(&rt, &ty, octets, want)?;
-    }
-    Ok(())
+fn strings(rt: HostRuntime) -> Result<(), Fail> {
+    check_table(&rt, Canonical::Der, STRINGS)
 }
 
 #[test]
-fn bit_strings(rt: HostRuntime) -> Result<(), Fail> {
-    let ty = WellTyped::new(Ty::Bits(universal(3)))?;
-    // (octets, under DER)
-    let cases: [(&[u8], Answer); 17] = [
-        (&[0x23, 0x00], Ok(&[0x03, 0x01, 0x00])),
-        (&[0x23, 0x80, 0x00, 0x00], Ok(&[0x03, 0x01, 0x00])),
-        (
-            &[0x23, 0x04, 0x03, 0x02, 0x07, 0x80],
-            Ok(&[0x03, 0x02, 0x07, 0x80]),
-        ),
-        (
-            &[0x23, 0x80, 0x03, 0x02, 0x04, 0xFF, 0x00, 0x00],
-            Ok(&[0x03, 0x02, 0x04, 0xF0]),
-        ),
-        (
-            &[0x23, 0x07, 0x03, 0x01, 0x00, 0x03, 0x02, 0x04, 0xF0],
-            Ok(&[0x03, 0x02, 0x04, 0xF0]),
-        ),
-        (
-            &[
-                0x23, 0x09, 0x03, 0x03, 0x00, 0xAA, 0xBB, 0x03, 0x02, 0x04, 0xF0,
-            ],
-            Ok(&[0x03, 0x04, 0x04, 0xAA, 0xBB, 0xF0]),
-        ),
-        (
-            &[
-                0x23, 0x80, 0x03, 0x02, 0x00, 0xAA, 0x23, 0x04, 0x03, 0x02, 0x04, 0xF0, 0x00, 0x00,
-            ],
-            Ok(&[0x03, 0x03, 0x04, 0xAA, 0xF0]),
-        ),
-        (
-            &[
-                0x23, 0x09, 0x03, 0x03, 0x04, 0xAA, 0xB0, 0x03, 0x02, 0x00, 0xF0,
-            ],
-            Err(Refusal::Contents),
-        ),
-        (
-            &[
-                0x23, 0x0A, 0x23, 0x04, 0x03, 0x02, 0x04, 0xF0, 0x03, 0x02, 0x00, 0xAA,
-            ],
-            Err(Refusal::Contents),
-        ),
-        (
-            &[0x23, 0x07, 0x03, 0x02, 0x04, 0xF0, 0x03, 0x01, 0x00],
-            Err(Refusal::Contents),
-        ),
-        (
-            &[0x23, 0x06, 0x03, 0x02, 0x04, 0xF0, 0x23, 0x00],
-            Err(Refusal::Contents),
-        ),
-        (&[0x23, 0x02, 0x03, 0x00], Err(Refusal::Contents)),
-        (&[0x23, 0x03, 0x03, 0x01, 0x01], Err(Refusal::Contents)),
-        (
-            &[0x23, 0x04, 0x04, 0x02, 0x00, 0xAA],
-            Err(Refusal::Identifier),
-        ),
-        (&[0x23, 0x80, 0x00, 0x01], Err(Refusal::EndOfContents)),
-        // another tag, and a wrong end, after a segment with unused bits
-        (
-            &[0x23, 0x06, 0x03, 0x02, 0x04, 0xF0, 0x04, 0x00],
-            Err(Refusal::Identifier),
-        ),
-        (
-            &[0x23, 0x80, 0x03, 0x02, 0x04, 0xF0, 0x00, 0x01],
-            Err(Refusal::EndOfContents),
-        ),
-    ];
-    for (octets, want) in cases {
-        check(&rt, &ty, octets, want)?;
-    }
-    Ok(())
+fn texts(rt: HostRuntime) -> Result<(), Fail> {
+    check_table(&rt, Canonical::Der, TEXTS)
 }
 
 #[test]
-fn strings_of_another_tag(rt: HostRuntime) -> Result<(), Fail> {
-    let tag = context(0);
-    // (octets, type, under DER)
-    let cases: [(&[u8], Ty, Answer); 7] = [
-        (
-            &[0xA0, 0x04, 0x04, 0x02, 0x4A, 0x6F],
-            Ty::Octets(tag),
-            Ok(&[0x80, 0x02, 0x4A, 0x6F]),
-        ),
-        (
-            &[0xA0, 0x04, 0x80, 0x02, 0x4A, 0x6F],
-            Ty::Octets(tag),
-            Err(Refusal::Identifier),
-        ),
-        (
-            &[0xA0, 0x04, 0x03, 0x02, 0x04, 0xF0],
-            Ty::Bits(tag),
-            Ok(&[0x80, 0x02, 0x04, 0xF0]),
-        ),
-        (
-            &[0xA0, 0x04, 0x80, 0x02, 0x04, 0xF0],
-            Ty::Bits(tag),
-            Err(Refusal::Identifier),
-        ),
-        // tags of two and of three identifier octets
-        (
-            &[0xBF, 0x1F, 0x04, 0x04, 0x02, 0x4A, 0x6F],
-            Ty::Octets(context(31)),
-            Ok(&[0x9F, 0x1F, 0x02, 0x4A, 0x6F]),
-        ),
-        (
-            &[0xBF, 0x81, 0x00, 0x80, 0x04, 0x01, 0x41, 0x00, 0x00],
-            Ty::Octets(context(128)),
-            Ok(&[0x9F, 0x81, 0x00, 0x01, 0x41]),
-        ),
-        (
-            &[0xBF, 0x1F, 0x03, 0x04, 0x02, 0x4A, 0x6F],
-            Ty::Octets(context(31)),
-            Err(Refusal::Length),
-        ),
-    ];
-    for (octets, ty, want) in cases {
-        check(&rt, &WellTyped::new(ty)?, octets, want)?;
-    }
-    Ok(())
-}
-
-fn context(number: u32) -> Tag {
-    let class = Class::Context;
-    Tag { class, number }
+fn ends(rt: HostRuntime) -> Result<(), Fail> {
+    check_table(&rt, Canonical::Der, ENDS)
 }
