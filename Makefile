@@ -2,17 +2,26 @@ PREFIX ?= $(HOME)/.local
 
 .PHONY: demo test install clean rt
 
-# Builds the proved program, and converts 01 01 2a, a BOOLEAN under BER, to DER: prints 0101ff.
+# Converts 01 01 2a, a BOOLEAN under BER, to DER, by a program that is compiled without a proof.
 demo: rt
-	cd crates/asn1x && rt run -- convert @builtin BOOLEAN data/in.hex --hex --to der
+	@echo '$$ cat data/in.hex'
+	@cat crates/asn1x/data/in.hex
+	@echo '$$ asn1x $(stored_run)'
+	@$(call quietly,$(in_program) rt try -- $(stored_run))
+	@echo '(compiled with run-time checks, and not yet proved: "make install" proves it)'
 
 # Passes the gate: every proof, must-fail edit, test and stored run.
 test: rt
 	rt ci
 
-# Puts the proved program on the path.
+# Proves the program and each library that it stands on, and puts it on the path.
 install: rt
-	cd crates/asn1x && rt run -- convert @builtin BOOLEAN data/in.hex --hex --to der >/dev/null
+	@for crate in $(libraries); do \
+	    echo "proving $$crate"; \
+	    $(call quietly,cd crates/$$crate && rt lib >&2) || exit 1; \
+	done
+	@echo 'proving asn1x'
+	@$(call quietly,$(in_program) rt run -- $(stored_run) >/dev/null)
 	install -D -m 755 crates/asn1x/out/asn1x "$(DESTDIR)$(PREFIX)/bin/asn1x"
 
 clean:
@@ -20,3 +29,16 @@ clean:
 
 rt:
 	@command -v rt >/dev/null || { echo "rt is missing: put the kit's bin folder on the path" >&2; exit 1; }
+
+in_program = cd crates/asn1x &&
+stored_run = convert @builtin BOOLEAN data/in.hex --hex --to der
+
+# A command whose standard error is shown only where it fails.
+define quietly
+( said=$$(mktemp); trap 'rm -f "$$said"' EXIT; ( $(1) ) 2>"$$said" || { cat "$$said" >&2; exit 1; } )
+endef
+
+# The libraries that the program stands on, the lowest first, as crates.txt lists them.
+libraries = $(shell tac crates.txt | awk -F ':' \
+    '$$1 == "asn1x" || needed[$$1] { split($$2, names, " "); for (i in names) needed[names[i]] = 1; \
+     if ($$1 != "asn1x") print $$1 }' | tac)
