@@ -1,4 +1,4 @@
--- What a conversion of one value answers.
+-- What a conversion of one value returns.
 use Rattle.std.specs.Prelude.{ℕ, List}
 use Rattle.octets.specs.Rule.{Rule}
 use Rattle.types.specs.Shape.{Shape, Val}

@@ -15,7 +15,7 @@ use canon::{Canon, Cer, Der};
 use std::alloc::Global;
 use types::{Refusal, Value, WellTyped};
 
-/// Reads exactly one value of `ty`, whose encoding by the rule `from` fills `octets`, and answers its
+/// Reads exactly one value of `ty`, whose encoding by the rule `from` fills `octets`, and returns its
 /// one encoding by the rule `to`. Octets left over are refused with `Identifier`.
 pub fn transcode(
     alloc: Global,
