@@ -1,5 +1,6 @@
--- Lemmas on the options of the command line: how they add up, and that their words are of no others.
-use Rattle.std.proofs.Common.{◌≡◌, ◌≢◌, ◌⊎◌, ℕ, ◌+◌, ◌==◌, length, true, false, List, [], ◌∷◌, ◌++◌, Option, None, Some, refl, sym, ◌∙◌, ap, subst, arith, inl, inr, append-nil}
+-- Lemmas on the options of the command line: how they add up, and that their words are of no others. The
+-- last two are on a result that went through a `?` of an `Option`.
+use Rattle.std.proofs.Common.{◌≡◌, ◌≢◌, ◌⊎◌, ℕ, ◌+◌, ◌==◌, length, true, false, List, [], ◌∷◌, ◌++◌, Option, None, Some, refl, sym, ◌∙◌, ap, subst, arith, inl, inr, append-nil, IfNone}
 use Rattle.std.specs.Option.{is_some, unwrap_or}
 use denote.Bor.{Bor}
 use Rattle.convert.specs.declared.rule.Rule.{Rule}
@@ -170,3 +171,11 @@ once_unique given held rule from to is h once =
 -- where nothing was given, nothing is held
 pub nothing_held : IsHeld [] (record { hex = false; to = None; from = None })
 nothing_held = record { hex = refl; to = refl; from = refl }
+
+pub IfNone-of : {T : Type 0} (o : Option T) (P : Type 0) → P → IfNone o P
+IfNone-of None P h = h
+IfNone-of (Some x) P h = tt
+
+pub IfNone-map : {T : Type 0} (o : Option T) (P Q : Type 0) → (P → Q) → IfNone o P → IfNone o Q
+IfNone-map None P Q step h = step h
+IfNone-map (Some x) P Q step h = tt

@@ -2,8 +2,7 @@ use Rattle.std.proofs.Common.{◌≡◌, List, [], ◌∷◌, ◌++◌, subst, s
 use Rattle.convert.specs.declared.options.Setting.{Setting}
 use Rattle.convert.specs.CommandLine.{texts_of}
 use Rattle.convert.specs.Options.{CannotBe}
-use Rattle.octets.proofs.ResultLemmas.{IfNone-of, IfNone-map}
-use Rattle.convert.proofs.OptionLemmas.{others_of, none_of}
+use Rattle.convert.proofs.OptionLemmas.{IfNone-of, IfNone-map, others_of, none_of}
 use Rattle.convert.proofs.options.+settings_after.Goals as goal
 
 pub returns-in_err-setting-clause-none : goal.returns-in_err-setting-clause-none

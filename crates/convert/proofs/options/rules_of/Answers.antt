@@ -1,8 +1,7 @@
 use Rattle.std.proofs.Common.{[], subst, sym}
 use Rattle.convert.specs.declared.rule.Rule.{Rule}
 use Rattle.convert.specs.CommandLine.{texts_of, AreOptions}
-use Rattle.octets.proofs.ResultLemmas.{IfNone-of}
-use Rattle.convert.proofs.OptionLemmas.{nothing_held, once_of, without_hex, without_to, once_from, once_unique}
+use Rattle.convert.proofs.OptionLemmas.{IfNone-of, nothing_held, once_of, without_hex, without_to, once_from, once_unique}
 use Rattle.convert.proofs.options.rules_of.Goals as goal
 
 pub returns-in_err-settings-clause-none : goal.returns-in_err-settings-clause-none

@@ -1,5 +1,5 @@
 use Rattle.std.proofs.Common.{◌≡◌, [], Some, get_or, codes, rules, ◌∙◌, ap}
-use Rattle.octets.proofs.ResultLemmas.{IfNone-of}
+use Rattle.convert.proofs.OptionLemmas.{IfNone-of}
 use Rattle.convert.proofs.WordLemmas.{command_line_of, options_of, parts_unique, command_is}
 use Rattle.convert.proofs.words.parts_of.Goals as goal
 
