@@ -61,6 +61,8 @@ OBJECT IDENTIFIER:
 06 03 2A 80 03           | refused 6
 06 02 2A 81              | refused 6
 06 00                    | refused 6
+# 2,432 contents octets may come, and 2,433 may not
+06 82 09 80              | refused 1
 06 82 09 81              | refused 6
 RELATIVE-OID:
 0D 03 81 00 05           | kept

@@ -13,17 +13,17 @@ use std::test::Fail;
 pub fn octets_of(alloc: Global, column: &str) -> Result<Vec<u8>, Fail> {
     let mut octets = Vec::new(alloc);
     for part in column.split(',') {
-        let (piece, times) = part.split_once(" x").unwrap_or((part, "1"));
-        let piece = piece_of(alloc, piece.trim())?;
+        let (once, times) = part.split_once(" x").unwrap_or((part, "1"));
+        let once = octets_of_part(alloc, once.trim())?;
         for _ in 0..times.trim().parse::<usize>()? {
-            octets.extend_from_slice(piece.as_slice())?;
+            octets.extend_from_slice(once.as_slice())?;
         }
     }
     Ok(octets)
 }
 
 // The octets of one part: those of the characters between `'`, or those that digits spell.
-fn piece_of(alloc: Global, part: &str) -> Result<Vec<u8>, Fail> {
+fn octets_of_part(alloc: Global, part: &str) -> Result<Vec<u8>, Fail> {
     match part.split_once('\'') {
         Some((_, text)) => Ok(Vec::from_slice(alloc, text.trim_end_matches('\'').as_bytes())?),
         None => Ok(unhex(alloc, part.as_bytes())?),

@@ -1,8 +1,8 @@
 //! Types under tags other than the universal ones (X.680 8, X.690 8.14).
 
 use crate::checks::check_table;
-use crate::rows::{type_of, universal};
-use convert::{Canonical, Ty, TypeFault, Value, WellTyped, conforms};
+use crate::rows::type_of;
+use convert::{Canonical, Class, Tag, Ty, TypeFault, Value, WellTyped, conforms};
 use std::test::Fail;
 
 // octets | under DER
@@ -48,9 +48,19 @@ fn other_tags(rt: HostRuntime) -> Result<(), Fail> {
 }
 
 #[test]
-fn kept_tag(rt: HostRuntime) {
-    let ty = WellTyped::new(Ty::Boolean(universal(0)));
-    assert_eq!(rt; ty.err(), Some(TypeFault::TagsNotDistinct));
+fn tags_of_no_type(rt: HostRuntime) {
+    // (tag class, tag number, fault)
+    let cases = [
+        (Class::Universal, 0, Some(TypeFault::TagsNotDistinct)),
+        (Class::Universal, 1, None),
+        (Class::Context, 0, None),
+        (Class::Private, 268_435_455, None),
+        (Class::Private, 268_435_456, Some(TypeFault::TooLarge)),
+    ];
+    for (class, number, fault) in cases {
+        let ty = WellTyped::new(Ty::Boolean(Tag { class, number }));
+        assert_eq!(rt; ty.err(), fault, "at {class:?} {number}");
+    }
 }
 
 #[test]
