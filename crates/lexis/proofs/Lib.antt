@@ -1,0 +1,10 @@
+pub mod WordLemmas
+pub mod KindLemmas
+pub mod GapLemmas
+pub mod NameLemmas
+pub mod NumberLemmas
+pub mod StringLemmas
+pub mod DigitsLemmas
+pub mod SymbolLemmas
+pub mod EdgeLemmas
+pub mod ScanLemmas

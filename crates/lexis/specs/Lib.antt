@@ -1,0 +1,13 @@
+pub mod Octets
+pub mod Gap
+pub mod Words
+pub mod Profile
+pub mod Symbols
+pub mod Spelling
+pub mod Tokens
+pub mod Place
+pub mod AllWords
+pub mod Signs
+pub mod Lexemes
+pub mod Fronts
+pub mod WordTable
