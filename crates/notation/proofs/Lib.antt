@@ -1,0 +1,12 @@
+pub mod Steps
+pub mod WordPlaces
+pub mod Loops
+pub mod Inversions
+pub mod PrefixReading
+pub mod ValueReading
+pub mod ListReading
+pub mod TypeLists
+pub mod TypeAgain
+pub mod TypeSound
+pub mod ModuleReading
+pub mod Instances

@@ -1,0 +1,12 @@
+pub mod Tree
+pub mod View
+pub mod Words
+pub mod Grammar
+pub mod Limits
+pub mod Reading
+pub mod TagReading
+pub mod ValueReading
+pub mod SimpleReading
+pub mod TypeReading
+pub mod ModuleReading
+pub mod ModuleText

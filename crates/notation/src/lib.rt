@@ -1,0 +1,24 @@
+//! Module texts as trees (X.680, in this project's profile).
+#![tactic(auto)]
+
+mod modules;
+mod parsing;
+mod prefixes;
+mod reading;
+mod refusing;
+mod simple;
+mod stop;
+mod terminal;
+mod terminals;
+mod tree;
+mod types;
+mod values;
+
+pub use parsing::parse;
+pub use tree::{
+    Alternative, Assignment, Component, DefaultValue, Expr, Group, Item, Module, Presence,
+    SignedNumber, Simple, TagClass, TagMode, TagPrefix, Tagging,
+};
+
+#[cfg(test)]
+mod tests;
