@@ -10,11 +10,13 @@ use Rattle.octets.specs.Length.{IsLength}
 use Rattle.octets.specs.Rule.{ber}
 use Rattle.octets.proofs.IdentifierLemmas.{identifier_unique}
 use Rattle.primitives.specs.Bits.{IsBits}
-use Rattle.types.specs.Shape.{StringType, StringValue, Shape, Val, tag_of}
-use Rattle.types.specs.WellFormed.{IsWellFormed, IsKept}
+use Rattle.types.specs.Shape.{StringType, StringValue, Shape, Val}
+use Rattle.types.specs.Leaf.{tag_of, IsLeaf}
+use Rattle.types.specs.WellFormed.{IsWellFormed}
+use Rattle.types.specs.FirstTags.{IsUsable}
 use Rattle.types.specs.Conforms.{Conforms}
-use Rattle.types.specs.Contents.{CanHaveLength}
-use Rattle.types.proofs.ContentsLengthLemmas.{simple_length, string_length}
+use Rattle.berreader.specs.Lengths.{CanHaveLength}
+use Rattle.berreader.proofs.ContentsLengthLemmas.{simple_length, string_length}
 use Rattle.types.specs.Form.{IsDefinite, IsPrimitive, IsConstructed}
 use Rattle.types.specs.Depth.{IsNested}
 use Rattle.types.specs.Strings.{AreSegments, IsInSegments, IsStringEncoding, bit_segment, octet_segment, IsWholeOctets, AreOctets, AlwaysWhole}
@@ -33,6 +35,7 @@ use Rattle.strings.specs.declared.text.TextKind.{TextKind}
 use Rattle.strings.specs.declared.time.TimeKind.{TimeKind}
 use Rattle.berreader.specs.Joined.{Element, segment_of, HoldsPiece, IsWholePiece, string_shape, string_value, typed, IsNoString}
 use Rattle.octets.proofs.FrontLemmas.{front_of_more, whole_front}
+use Rattle.berreader.proofs.LeafLemmas.{simple_contents, contents_of_simple, conforms_of_encoding}
 use Rattle.berreader.proofs.DepthLemmas.{nested_primitive, nested_constructed, deeper, match_parts, constructed_part}
 use Rattle.berreader.proofs.CompletingLemmas.{framed, constructed_of_frame, completes_segments, unwind}
 use Rattle.berreader.proofs.JoinedLemmas.{kept_segment, joins_whole, parts_whole, empty_whole}
@@ -65,6 +68,7 @@ abbrev pub HasForm : Shape → Val → List ℕ → Type 0
 HasForm (Shape.simple tag type) v octets = IsOfContents (Shape.simple tag type) v octets
 HasForm (Shape.string tag StringType.bit_string) v octets = IsOfContents (Shape.string tag StringType.bit_string) v octets ⊎ IsOfSegments Bits tag (Shape.string tag StringType.bit_string) v octets
 HasForm (Shape.string tag type) v octets = IsOfContents (Shape.string tag type) v octets ⊎ IsOfSegments Octets tag (Shape.string tag type) v octets
+HasForm _ _ _ = ⊥
 
 bits_form : (tag : Tag) (v : Val) (octets : List ℕ) (bits : List Bool) → v ≡ Val.string (StringValue.bits bits) → IsStringEncoding ber tag bit_segment (IsBits ber) IsWholeOctets bits octets → HasForm (Shape.string tag StringType.bit_string) v octets
 bits_form tag v octets bits is (inl f) = inl (record { contents = f.contents; holds = record { value = StringValue.bits bits; is = is; spelt = record { bits = bits; is = refl; spelt = f.holds } }; primitive = f.primitive })
@@ -82,51 +86,76 @@ time_form : (tag : Tag) (kind : TimeKind) (v : Val) (octets string : List ℕ) �
 time_form tag kind v octets string is (inl f) = inl (record { contents = f.contents; holds = record { value = StringValue.text string; is = is; spelt = ap StringValue.text (sym f.holds) }; primitive = f.primitive })
 time_form tag kind v octets string is (inr f) = inr (record { string = string; is = is; segments = f })
 
-pub form_of_encoding : (shape : Shape) (v : Val) (octets : List ℕ) → IsEncoding ber shape v octets → HasForm shape v octets
-form_of_encoding (Shape.simple tag type) v octets h = record {
-  contents = h.encodes.contents;
-  holds = record { value = h.encodes.value; is = h.encodes.is; spelt = h.encodes.spelt };
-  primitive = h.encodes.primitive;
+pub form_of_encoding : (shape : Shape) (v : Val) (octets : List ℕ) → IsLeaf shape → IsEncoding ber shape v octets → HasForm shape v octets
+form_of_encoding (Shape.simple tag type) v octets leaf h = record {
+  contents = h.contents;
+  holds = record { value = h.value; is = h.is; spelt = simple_contents ber type h.value h.contents h.conforms h.spelt };
+  primitive = h.primitive;
 }
-form_of_encoding (Shape.string tag StringType.bit_string) v octets h = bits_form tag v octets h.encodes.bits h.encodes.is h.encodes.string
-form_of_encoding (Shape.string tag StringType.octet_string) v octets h = octets_form tag v octets h.encodes.string_octets h.encodes.is h.encodes.string
-form_of_encoding (Shape.string tag (StringType.text kind)) v octets h = text_form tag kind v octets h.encodes.text_octets h.encodes.is h.encodes.string
-form_of_encoding (Shape.string tag (StringType.time kind)) v octets h = time_form tag kind v octets h.encodes.text_octets h.encodes.is h.encodes.string
+form_of_encoding (Shape.string tag StringType.bit_string) v octets leaf h = bits_form tag v octets h.bits h.is h.string
+form_of_encoding (Shape.string tag StringType.octet_string) v octets leaf h = octets_form tag v octets h.string_octets h.is h.string
+form_of_encoding (Shape.string tag (StringType.text kind)) v octets leaf h = text_form tag kind v octets h.string_octets h.is h.string
+form_of_encoding (Shape.string tag (StringType.time kind)) v octets leaf h = time_form tag kind v octets h.string_octets h.is h.string
+form_of_encoding (Shape.sequence tag components) v octets leaf h = absurd leaf
+form_of_encoding (Shape.set tag components) v octets leaf h = absurd leaf
+form_of_encoding (Shape.sequence_of tag type) v octets leaf h = absurd leaf
+form_of_encoding (Shape.set_of tag type) v octets leaf h = absurd leaf
+form_of_encoding (Shape.choice alternatives) v octets leaf h = absurd leaf
+form_of_encoding (Shape.explicit tag type) v octets leaf h = absurd leaf
 
 -- the other way round
 pub encoding_of_contents : (shape : Shape) (v : Val) (contents octets : List ℕ) → Conforms shape v → HoldsContents ber shape v contents → IsPrimitive ber (tag_of shape) contents octets → IsEncoding ber shape v octets
 encoding_of_contents (Shape.simple tag type) v contents octets conforms h p = record {
-  conforms = conforms;
-  encodes = record { value = h.value; is = h.is; contents = contents; spelt = h.spelt; primitive = p };
+  value = h.value;
+  is = h.is;
+  conforms = subst (Conforms (Shape.simple tag type)) h.is conforms;
+  contents = contents;
+  spelt = contents_of_simple ber type h.value contents h.spelt;
+  primitive = p;
 }
 encoding_of_contents (Shape.string tag StringType.bit_string) v contents octets conforms h p = record {
-  conforms = conforms;
-  encodes = record { bits = h.spelt.bits; is = h.is ∙ ap Val.string h.spelt.is; string = inl (record { contents = contents; holds = h.spelt.spelt; primitive = p }) };
+  bits = h.spelt.bits;
+  is = h.is ∙ ap Val.string h.spelt.is;
+  string = inl (record { contents = contents; holds = h.spelt.spelt; primitive = p });
 }
-encoding_of_contents (Shape.string tag StringType.octet_string) v contents octets conforms h p = record {
-  conforms = conforms;
-  encodes = record { string_octets = contents; is = h.is ∙ ap Val.string h.spelt; string = inl (record { contents = contents; holds = refl; primitive = p }) };
-}
-encoding_of_contents (Shape.string tag (StringType.text kind)) v contents octets conforms h p = record {
-  conforms = conforms;
-  encodes = record { text_octets = contents; is = h.is ∙ ap Val.string h.spelt; string = inl (record { contents = contents; holds = refl; primitive = p }) };
-}
-encoding_of_contents (Shape.string tag (StringType.time kind)) v contents octets conforms h p = record {
-  conforms = conforms;
-  encodes = record { text_octets = contents; is = h.is ∙ ap Val.string h.spelt; string = inl (record { contents = contents; holds = refl; primitive = p }) };
-}
+encoding_of_contents (Shape.string tag StringType.octet_string) v contents octets conforms h p =
+    let is : v ≡ Val.string (StringValue.octets contents) = h.is ∙ ap Val.string h.spelt in
+    record { string_octets = contents; is = is; conforms = subst (Conforms (Shape.string tag StringType.octet_string)) is conforms; string = inl (record { contents = contents; holds = refl; primitive = p }) }
+encoding_of_contents (Shape.string tag (StringType.text kind)) v contents octets conforms h p =
+    let is : v ≡ Val.string (StringValue.text contents) = h.is ∙ ap Val.string h.spelt in
+    record { string_octets = contents; is = is; conforms = subst (Conforms (Shape.string tag (StringType.text kind))) is conforms; string = inl (record { contents = contents; holds = refl; primitive = p }) }
+encoding_of_contents (Shape.string tag (StringType.time kind)) v contents octets conforms h p =
+    let is : v ≡ Val.string (StringValue.text contents) = h.is ∙ ap Val.string h.spelt in
+    record { string_octets = contents; is = is; conforms = subst (Conforms (Shape.string tag (StringType.time kind))) is conforms; string = inl (record { contents = contents; holds = refl; primitive = p }) }
+encoding_of_contents (Shape.sequence tag components) v contents octets conforms h p = absurd h
+encoding_of_contents (Shape.set tag components) v contents octets conforms h p = absurd h
+encoding_of_contents (Shape.sequence_of tag type) v contents octets conforms h p = absurd h
+encoding_of_contents (Shape.set_of tag type) v contents octets conforms h p = absurd h
+encoding_of_contents (Shape.choice alternatives) v contents octets conforms h p = absurd h
+encoding_of_contents (Shape.explicit tag type) v contents octets conforms h p = absurd h
 
-pub accepted_of_contents : (shape : Shape) (v : Val) (contents octets : List ℕ) → IsWellFormed shape → Conforms shape v → HoldsContents ber shape v contents → IsPrimitive ber (tag_of shape) contents octets → length octets ≤ MAX_ENCODING → IsAccepted ber shape v octets
-accepted_of_contents shape v contents octets well conforms h p size = record {
+-- the tag of a well-formed type without parts is not universal 0
+pub usable_tag : (shape : Shape) → IsLeaf shape → IsWellFormed shape → IsUsable (tag_of shape)
+usable_tag (Shape.simple tag type) leaf well = well.tags.0
+usable_tag (Shape.string tag type) leaf well = well.tags.0
+usable_tag (Shape.sequence tag components) leaf well = absurd leaf
+usable_tag (Shape.set tag components) leaf well = absurd leaf
+usable_tag (Shape.sequence_of tag type) leaf well = absurd leaf
+usable_tag (Shape.set_of tag type) leaf well = absurd leaf
+usable_tag (Shape.choice alternatives) leaf well = absurd leaf
+usable_tag (Shape.explicit tag type) leaf well = absurd leaf
+
+pub accepted_of_contents : (shape : Shape) (v : Val) (contents octets : List ℕ) → IsLeaf shape → IsWellFormed shape → Conforms shape v → HoldsContents ber shape v contents → IsPrimitive ber (tag_of shape) contents octets → length octets ≤ MAX_ENCODING → IsAccepted ber shape v octets
+accepted_of_contents shape v contents octets leaf well conforms h p size = record {
   encoding = encoding_of_contents shape v contents octets conforms h p;
-  depth = nested_primitive most_nested octets record { tag = tag_of shape; kept = well.tags; contents = contents; whole = p };
+  depth = nested_primitive most_nested octets record { tag = tag_of shape; usable = usable_tag shape leaf well; contents = contents; whole = p };
   size = size;
 }
 
 encoding_of_segments : (kind : Kind) (tag : Tag) (string : List (Element kind)) (octets : List ℕ) → Conforms (string_shape tag kind) (string_value kind string)
     → IsInSegments tag (segment_of kind) (HoldsPiece kind) (IsWholePiece kind) string octets → IsEncoding ber (string_shape tag kind) (string_value kind string) octets
-encoding_of_segments Bits tag string octets conforms h = record { conforms = conforms; encodes = record { bits = string; is = refl; string = inr h } }
-encoding_of_segments Octets tag string octets conforms h = record { conforms = conforms; encodes = record { string_octets = string; is = refl; string = inr h } }
+encoding_of_segments Bits tag string octets conforms h = record { bits = string; is = refl; string = inr h }
+encoding_of_segments Octets tag string octets conforms h = record { string_octets = string; is = refl; conforms = conforms; string = inr h }
 
 -- an accepted encoding begins with identifier octets of the type's tag
 tag_of_definite : (tag : Tag) (j : Bool) (contents front rest : List ℕ) → length front ≤ MAX_ENCODING → IsDefinite ber tag j contents front → IsTagWithin tag MAX_ENCODING 0 (front ++ rest)
@@ -160,12 +189,18 @@ tag_of_form (Shape.string tag (StringType.text kind)) v front rest size (inl f) 
 tag_of_form (Shape.string tag (StringType.text kind)) v front rest size (inr f) = tag_of_constructed tag f.segments.contents front rest size f.segments.constructed
 tag_of_form (Shape.string tag (StringType.time kind)) v front rest size (inl f) = tag_of_definite tag false f.contents front rest size f.primitive
 tag_of_form (Shape.string tag (StringType.time kind)) v front rest size (inr f) = tag_of_constructed tag f.segments.contents front rest size f.segments.constructed
+tag_of_form (Shape.sequence tag components) v front rest size f = absurd f
+tag_of_form (Shape.set tag components) v front rest size f = absurd f
+tag_of_form (Shape.sequence_of tag type) v front rest size f = absurd f
+tag_of_form (Shape.set_of tag type) v front rest size f = absurd f
+tag_of_form (Shape.choice alternatives) v front rest size f = absurd f
+tag_of_form (Shape.explicit tag type) v front rest size f = absurd f
 
-pub tag_of_accepted : (shape : Shape) (octets : List ℕ) → HasFront (IsSomeAccepted ber shape) octets → IsTagWithin (tag_of shape) MAX_ENCODING 0 octets
-tag_of_accepted shape octets f =
+pub tag_of_accepted : (shape : Shape) (leaf : IsLeaf shape) (octets : List ℕ) → HasFront (IsSomeAccepted ber shape) octets → IsTagWithin (tag_of shape) MAX_ENCODING 0 octets
+tag_of_accepted shape leaf octets f =
     let front = take f.0 octets in
     subst (IsTagWithin (tag_of shape) MAX_ENCODING 0) (sym (whole_front f.0 octets))
-    (tag_of_form shape f.2.0 front (drop f.0 octets) f.2.1.size (form_of_encoding shape f.2.0 front f.2.1.encoding))
+    (tag_of_form shape f.2.0 front (drop f.0 octets) f.2.1.size (form_of_encoding shape f.2.0 front leaf f.2.1.encoding))
 
 not_constructed : (tag : Tag) (i : ℕ) (contents octets front rest : List ℕ) → IsIdentifier tag false (take i octets) → octets ≡ front ++ rest → IsConstructed ber tag contents front → ⊥
 not_constructed tag i contents octets front rest id is (inl p) =
@@ -191,27 +226,33 @@ primitive_form (Shape.string tag (StringType.text kind)) v i octets front rest i
 primitive_form (Shape.string tag (StringType.text kind)) v i octets front rest id is (inr f) = absurd (not_constructed tag i f.segments.contents octets front rest id is f.segments.constructed)
 primitive_form (Shape.string tag (StringType.time kind)) v i octets front rest id is (inl f) = f
 primitive_form (Shape.string tag (StringType.time kind)) v i octets front rest id is (inr f) = absurd (not_constructed tag i f.segments.contents octets front rest id is f.segments.constructed)
+primitive_form (Shape.sequence tag components) v i octets front rest id is f = absurd f
+primitive_form (Shape.set tag components) v i octets front rest id is f = absurd f
+primitive_form (Shape.sequence_of tag type) v i octets front rest id is f = absurd f
+primitive_form (Shape.set_of tag type) v i octets front rest id is f = absurd f
+primitive_form (Shape.choice alternatives) v i octets front rest id is f = absurd f
+primitive_form (Shape.explicit tag type) v i octets front rest id is f = absurd f
 
 -- the contents octets of a primitive encoding at the front
 pub record IsHeldAt (shape : Shape) (v : Val) (octets : List ℕ) : Type 0 where
   pub within : IsPrimitiveWithin (tag_of shape) MAX_ENCODING 0 octets
   pub holds : HoldsContents ber shape v within.contents
 
-pub primitive_of_accepted : (shape : Shape) (i : ℕ) (octets more : List ℕ) → i ≤ length octets → IsIdentifier (tag_of shape) false (take i octets) → (f : HasFront (IsSomeAccepted ber shape) (octets ++ more)) → IsHeldAt shape f.2.0 (octets ++ more)
-primitive_of_accepted shape i octets more there id f =
+pub primitive_of_accepted : (shape : Shape) (leaf : IsLeaf shape) (i : ℕ) (octets more : List ℕ) → i ≤ length octets → IsIdentifier (tag_of shape) false (take i octets) → (f : HasFront (IsSomeAccepted ber shape) (octets ++ more)) → IsHeldAt shape f.2.0 (octets ++ more)
+primitive_of_accepted shape leaf i octets more there id f =
     let front = take f.0 (octets ++ more) in
     let id' : IsIdentifier (tag_of shape) false (take i (octets ++ more)) = subst (IsIdentifier (tag_of shape) false) (sym (take-append-le i octets more there)) id in
-    let h = primitive_form shape f.2.0 i (octets ++ more) front (drop f.0 (octets ++ more)) id' (whole_front f.0 (octets ++ more)) (form_of_encoding shape f.2.0 front f.2.1.encoding) in
+    let h = primitive_form shape f.2.0 i (octets ++ more) front (drop f.0 (octets ++ more)) id' (whole_front f.0 (octets ++ more)) (form_of_encoding shape f.2.0 front leaf f.2.1.encoding) in
     record {
       within = record { contents = h.contents; part = front; rest = drop f.0 (octets ++ more); primitive = h.primitive; fits = omega (arith, f.2.1.size); parts = whole_front f.0 (octets ++ more) };
       holds = h.holds;
     }
 
 -- the contents octets that were read are those of any front
-pub contents_of_accepted : (shape : Shape) (i n : ℕ) (contents octets more : List ℕ) → i ≤ length octets → IsIdentifier (tag_of shape) false (take i octets) → IsPrimitive ber (tag_of shape) contents (take n octets)
+pub contents_of_accepted : (shape : Shape) (leaf : IsLeaf shape) (i n : ℕ) (contents octets more : List ℕ) → i ≤ length octets → IsIdentifier (tag_of shape) false (take i octets) → IsPrimitive ber (tag_of shape) contents (take n octets)
     → (f : HasFront (IsSomeAccepted ber shape) (octets ++ more)) → HoldsContents ber shape f.2.0 contents
-contents_of_accepted shape i n contents octets more there id p f =
-    let h = primitive_of_accepted shape i octets more there id f in
+contents_of_accepted shape leaf i n contents octets more there id p f =
+    let h = primitive_of_accepted shape leaf i octets more there id f in
     let w = h.within in
     let same = definite_unique ber ber (tag_of shape) (tag_of shape) false false contents w.contents (take n octets) w.part (drop n octets ++ more) w.rest p w.primitive (sym (front_of_more n octets more) ∙ w.parts) in
     subst (HoldsContents ber shape f.2.0) (sym same.contents) h.holds
@@ -220,6 +261,12 @@ contents_of_accepted shape i n contents octets more there id p f =
 length_of_contents : (shape : Shape) (v : Val) (contents : List ℕ) → Conforms shape v → HoldsContents ber shape v contents → CanHaveLength shape (length contents)
 length_of_contents (Shape.simple tag type) v contents conforms h = simple_length type h.value contents (subst (Conforms (Shape.simple tag type)) h.is conforms) h.spelt
 length_of_contents (Shape.string tag type) v contents conforms h = string_length type h.value contents (subst (Conforms (Shape.string tag type)) h.is conforms) h.spelt
+length_of_contents (Shape.sequence tag components) v contents conforms h = absurd h
+length_of_contents (Shape.set tag components) v contents conforms h = absurd h
+length_of_contents (Shape.sequence_of tag type) v contents conforms h = absurd h
+length_of_contents (Shape.set_of tag type) v contents conforms h = absurd h
+length_of_contents (Shape.choice alternatives) v contents conforms h = absurd h
+length_of_contents (Shape.explicit tag type) v contents conforms h = absurd h
 
 -- behind the identifier octets of an accepted encoding stand length octets
 pub record IsLengthAt (shape : Shape) (octets : List ℕ) : Type 0 where
@@ -230,31 +277,41 @@ pub record IsLengthAt (shape : Shape) (octets : List ℕ) : Type 0 where
   pub parts : octets ≡ size ++ rest
   pub can : CanHaveLength shape contents
 
-pub length_of_accepted : (shape : Shape) (i : ℕ) (octets more : List ℕ) → i ≤ length octets → IsIdentifier (tag_of shape) false (take i octets) → HasFront (IsSomeAccepted ber shape) (octets ++ more) → IsLengthAt shape (drop i octets ++ more)
-length_of_accepted shape i octets more there id f =
-    let h = primitive_of_accepted shape i octets more there id f in
+pub length_of_accepted : (shape : Shape) (leaf : IsLeaf shape) (i : ℕ) (octets more : List ℕ) → i ≤ length octets → IsIdentifier (tag_of shape) false (take i octets) → HasFront (IsSomeAccepted ber shape) (octets ++ more) → IsLengthAt shape (drop i octets ++ more)
+length_of_accepted shape leaf i octets more there id f =
+    let h = primitive_of_accepted shape leaf i octets more there id f in
     let w = h.within in
     let p = w.primitive in
     let same = identifier_unique (tag_of shape) (tag_of shape) false false (take i octets) p.identifier (drop i octets ++ more) (p.size ++ (w.contents ++ w.rest)) id p.tagged
     (sym (front_of_more i octets more) ∙ (w.parts ∙ parts_of_definite ber (tag_of shape) false w.contents w.part w.rest p)) in
-    record { contents = length w.contents; size = p.size; rest = w.contents ++ w.rest; sized = p.sized; parts = same.rest; can = length_of_contents shape f.2.0 w.contents f.2.1.encoding.conforms h.holds }
+    record { contents = length w.contents; size = p.size; rest = w.contents ++ w.rest; sized = p.sized; parts = same.rest; can = length_of_contents shape f.2.0 w.contents (conforms_of_encoding ber shape f.2.0 (take f.0 (octets ++ more)) leaf f.2.1.encoding) h.holds }
 
 -- where they are constructed, so is the encoding
 no_constructed : (shape : Shape) (v : Val) (i : ℕ) (octets front rest : List ℕ) → IsNoString shape → IsIdentifier (tag_of shape) true (take i octets) → octets ≡ front ++ rest → HasForm shape v front → ⊥
 no_constructed (Shape.simple tag type) v i octets front rest none id is f = not_primitive tag i f.contents octets front rest id is f.primitive
 no_constructed (Shape.string tag type) v i octets front rest none id is f = absurd (none tt)
+no_constructed (Shape.sequence tag components) v i octets front rest none id is f = absurd f
+no_constructed (Shape.set tag components) v i octets front rest none id is f = absurd f
+no_constructed (Shape.sequence_of tag type) v i octets front rest none id is f = absurd f
+no_constructed (Shape.set_of tag type) v i octets front rest none id is f = absurd f
+no_constructed (Shape.choice alternatives) v i octets front rest none id is f = absurd f
+no_constructed (Shape.explicit tag type) v i octets front rest none id is f = absurd f
 
-pub none_constructed : (shape : Shape) (i : ℕ) (octets more : List ℕ) → i ≤ length octets → IsNoString shape → IsIdentifier (tag_of shape) true (take i octets) → HasFront (IsSomeAccepted ber shape) (octets ++ more) → ⊥
-none_constructed shape i octets more there none id f =
+pub none_constructed : (shape : Shape) (leaf : IsLeaf shape) (i : ℕ) (octets more : List ℕ) → i ≤ length octets → IsNoString shape → IsIdentifier (tag_of shape) true (take i octets) → HasFront (IsSomeAccepted ber shape) (octets ++ more) → ⊥
+none_constructed shape leaf i octets more there none id f =
     let front = take f.0 (octets ++ more) in
     let id' : IsIdentifier (tag_of shape) true (take i (octets ++ more)) = subst (IsIdentifier (tag_of shape) true) (sym (take-append-le i octets more there)) id in
-    no_constructed shape f.2.0 i (octets ++ more) front (drop f.0 (octets ++ more)) none id' (whole_front f.0 (octets ++ more)) (form_of_encoding shape f.2.0 front f.2.1.encoding)
+    no_constructed shape f.2.0 i (octets ++ more) front (drop f.0 (octets ++ more)) none id' (whole_front f.0 (octets ++ more)) (form_of_encoding shape f.2.0 front leaf f.2.1.encoding)
 
 segments_form : (kind : Kind) (tag : Tag) (v : Val) (i : ℕ) (octets front rest : List ℕ) → IsIdentifier tag true (take i octets) → octets ≡ front ++ rest → HasForm (string_shape tag kind) v front → IsOfSegments kind tag (string_shape tag kind) v front
 segments_form Bits tag v i octets front rest id is (inl f) = absurd (not_primitive tag i f.contents octets front rest id is f.primitive)
 segments_form Bits tag v i octets front rest id is (inr f) = f
 segments_form Octets tag v i octets front rest id is (inl f) = absurd (not_primitive tag i f.contents octets front rest id is f.primitive)
 segments_form Octets tag v i octets front rest id is (inr f) = f
+
+string_leaf : (tag : Tag) (kind : Kind) → IsLeaf (string_shape tag kind)
+string_leaf tag Bits = tt
+string_leaf tag Octets = tt
 
 -- an accepted constructed encoding, by what opens it
 pub record IsCompleted (kind : Kind) (tag : Tag) (octets : List ℕ) : Type 0 where
@@ -271,7 +328,7 @@ pub completed : (kind : Kind) (tag : Tag) (i : ℕ) (octets : List ℕ) → IsId
 completed kind tag i octets id f =
     let front = take f.0 octets in
     let end = drop f.0 octets in
-    let s = segments_form kind tag f.2.0 i octets front end id (whole_front f.0 octets) (form_of_encoding (string_shape tag kind) f.2.0 front f.2.1.encoding) in
+    let s = segments_form kind tag f.2.0 i octets front end id (whole_front f.0 octets) (form_of_encoding (string_shape tag kind) f.2.0 front (string_leaf tag kind) f.2.1.encoding) in
     let c = s.segments.contents in
     let fr = framed tag MAX_ENCODING 0 c front s.segments.constructed (omega (arith, f.2.1.size)) in
     let deep = deeper most_nested tag c front front [] [] s.segments.constructed f.2.1.depth refl in
@@ -307,7 +364,7 @@ pub record IsFrontOfString (kind : Kind) (tag : Tag) (octets : List ℕ) (total 
   pub depth : IsNested most_nested front
   pub size : length front ≤ MAX_ENCODING
 
-pub front_of_string : (kind : Kind) (tag : Tag) (opened : Frame) (head octets others : List ℕ) (total : List (Element kind)) (rest : List ℕ) → IsKept tag → IsOpening tag MAX_ENCODING 0 opened head → octets ≡ head ++ others
+pub front_of_string : (kind : Kind) (tag : Tag) (opened : Frame) (head octets others : List ℕ) (total : List (Element kind)) (rest : List ℕ) → IsUsable tag → IsOpening tag MAX_ENCODING 0 opened head → octets ≡ head ++ others
     → CompletesBy kind (opened ∷ []) (length head) [] others total rest → IsFrontOfString kind tag octets total rest
 front_of_string kind tag opened head octets others total rest kept h is k =
     let l = unwind (segment_of kind) (HoldsPiece kind) (IsWholePiece kind) (kept_segment kind) (joins_whole kind) (parts_whole kind) (opened ∷ []) (length head) [] total others rest k in
@@ -320,7 +377,7 @@ front_of_string kind tag opened head octets others total rest kept h is k =
       front = front;
       parts = is ∙ (ap (λ x. head ++ x) (l.is ∙ (ap (λ x. c ++ (l.mark ++ x)) l.next.1 ∙ sym (append_assoc c l.mark rest))) ∙ sym (append_assoc head (c ++ l.mark) rest));
       segments = record { contents = c; segments = subst (λ p. AreSegments (segment_of kind) (HoldsPiece kind) (IsWholePiece kind) p c) whole l.segments; constructed = w };
-      depth = nested_constructed 63 front record { tag = tag; kept = kept; parts = l.encodings; each = l.each; whole = w };
+      depth = nested_constructed 63 front record { tag = tag; usable = kept; parts = l.encodings; each = l.each; whole = w };
       size = omega (arith, size, end_within MAX_ENCODING (0 + length h.identifier) (length head + length c) opened h.size l.mark h.form l.ends);
     }
 

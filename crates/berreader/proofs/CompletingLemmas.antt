@@ -7,7 +7,7 @@ use Rattle.octets.specs.Identifier.{IsIdentifier}
 use Rattle.octets.specs.Length.{IsLength}
 use Rattle.octets.specs.Rule.{ber}
 use Rattle.types.specs.Form.{IsConstructed}
-use Rattle.types.specs.WellFormed.{IsKept}
+use Rattle.types.specs.FirstTags.{IsUsable}
 use Rattle.types.specs.Depth.{IsNested}
 use Rattle.types.specs.Encoding.{most_nested}
 use Rattle.types.specs.Strings.{AreSegments}
@@ -97,7 +97,7 @@ constructed_of_frame tag end taken after opened head contents mark h e place =
     subst (λ x. IsConstructed ber tag contents (x ++ (contents ++ mark))) (sym h.joined)
     (form_of_frame tag end taken after opened h.identifier h.size contents mark h.tagged h.form e (omega (arith, place, ap length h.joined, length-append h.identifier h.size)))
 
-module _ {A : Type 0} (inner : Tag) (Holds : List A → List ℕ → Type 0) (Whole : List A → Type 0) (kept : IsKept inner)
+module _ {A : Type 0} (inner : Tag) (Holds : List A → List ℕ → Type 0) (Whole : List A → Type 0) (kept : IsUsable inner)
     (joins : (a b : List A) → Whole a → Whole b → Whole (a ++ b)) (parts : (a b : List A) → Whole a → Whole (a ++ b) → Whole b) where
   -- segments, and then what completes the string
   pub completes_segments : (n : ℕ) (p : List A) (c : List ℕ) → SegmentsWithin inner Holds Whole n p c
@@ -185,7 +185,7 @@ module _ {A : Type 0} (inner : Tag) (Holds : List A → List ℕ → Type 0) (Wh
         piece = piece ++ l.piece;
         encodings = part ∷ l.encodings;
         segments = AreSegments.primitive piece s.contents part s.holds s.primitive l.segments (λ more. parts string piece whole (subst Whole join (l.gate more)));
-        each = (nested_primitive (most_nested - length (f ∷ fs)) part record { tag = inner; kept = kept; contents = s.contents; whole = s.primitive }, l.each);
+        each = (nested_primitive (most_nested - length (f ∷ fs)) part record { tag = inner; usable = kept; contents = s.contents; whole = s.primitive }, l.each);
         gate = λ more. whole;
         mark = l.mark;
         others = l.others;
@@ -205,7 +205,7 @@ module _ {A : Type 0} (inner : Tag) (Holds : List A → List ℕ → Type 0) (Wh
       let segment = part ++ (c ++ i.mark) in
       let w : IsConstructed ber inner c segment = constructed_of_frame inner f.end taken (after + length c) opened part c i.mark opening i.ends (omega (arith, place)) in
       let level : most_nested - length (f ∷ fs) ≡ suc (most_nested - length (opened ∷ f ∷ fs)) = omega (arith, deep) in
-      let nested : IsNested (suc (most_nested - length (opened ∷ f ∷ fs))) segment = nested_constructed (most_nested - length (opened ∷ f ∷ fs)) segment record { tag = inner; kept = kept; parts = i.encodings; each = i.each; whole = w } in
+      let nested : IsNested (suc (most_nested - length (opened ∷ f ∷ fs))) segment = nested_constructed (most_nested - length (opened ∷ f ∷ fs)) segment record { tag = inner; usable = kept; parts = i.encodings; each = i.each; whole = w } in
       let size : length segment ≡ length part + (length c + length i.mark) = length-append part (c ++ i.mark) ∙ ap (λ x. length part + x) (length-append c i.mark) in
       let sizes : length (segment ++ d) ≡ length segment + length d = length-append segment d in
       record {

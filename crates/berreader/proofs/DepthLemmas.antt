@@ -5,7 +5,7 @@ use Rattle.std.proofs.lemmas.List.{append_cancel_left}
 use Rattle.octets.specs.declared.tag.Tag.{Tag}
 use Rattle.octets.specs.Rule.{ber}
 use Rattle.types.specs.Form.{IsPrimitive, IsConstructed}
-use Rattle.types.specs.WellFormed.{IsKept}
+use Rattle.types.specs.FirstTags.{IsUsable}
 use Rattle.types.specs.Depth.{IsSomePrimitive, IsConstructedOf, IsNested}
 use Rattle.types.specs.Strings.{AreSegments}
 use Rattle.types.proofs.FormLemmas.{definite_unique}
@@ -41,7 +41,7 @@ pub data SegmentsWithin {A : Type 0} (inner : Tag) (Holds : List A → List ℕ 
   constructed : {n : ℕ} {others : List A} {rest : List ℕ} (m : ℕ) (piece : List A) (contents segment : List ℕ) → n ≡ suc m → SegmentsWithin inner Holds Whole m piece contents → IsConstructed ber inner contents segment
       → SegmentsWithin inner Holds Whole n others rest → (rest ≢ [] → Whole piece) → SegmentsWithin inner Holds Whole n (piece ++ others) (segment ++ rest)
 
-module _ {A : Type 0} (inner : Tag) (Holds : List A → List ℕ → Type 0) (Whole : List A → Type 0) (kept : IsKept inner) where
+module _ {A : Type 0} (inner : Tag) (Holds : List A → List ℕ → Type 0) (Whole : List A → Type 0) (kept : IsUsable inner) where
   -- the segments are the parts
   pub record AreParts (n : ℕ) (p : List A) (c d : List ℕ) : Type 0 where
     pub same : c ≡ d
@@ -77,7 +77,7 @@ module _ {A : Type 0} (inner : Tag) (Holds : List A → List ℕ → Type 0) (Wh
       absurd (not_end b (d ++ x) y (constructed_above inner contents b kept w) e (sym whole ∙ append_assoc b d x))
   match_parts n p c (q ∷ qs) x y (AreSegments.primitive {others = s} {rest = d} piece contents b h w others f) k m e whole =
       let z : b ++ (d ++ x) ≡ q ++ (concat qs ++ y) = sym (append_assoc b d x) ∙ (whole ∙ append_assoc q (concat qs) y) in
-      let same : b ≡ q = nested_unique 0 n b q (d ++ x) (concat qs ++ y) (nested_primitive 0 b record { tag = inner; kept = kept; contents = contents; whole = w }) k.0 z in
+      let same : b ≡ q = nested_unique 0 n b q (d ++ x) (concat qs ++ y) (nested_primitive 0 b record { tag = inner; usable = kept; contents = contents; whole = w }) k.0 z in
       let rest = match_parts n s d qs x y others k.1 m e (rest_of b q d (concat qs) x y same z) in
       record { same = ap₂ (λ g l. g ++ l) same rest.same; within = SegmentsWithin.primitive piece contents b h w rest.within f }
   match_parts n p c (q ∷ qs) x y (AreSegments.constructed {others = s} {rest = d} piece contents b h w others f) k m e whole =

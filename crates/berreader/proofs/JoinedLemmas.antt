@@ -5,14 +5,14 @@ use Rattle.std.proofs.lemmas.List.{take-append-drop, length-take-le, length-drop
 use Rattle.octets.specs.Rule.{ber}
 use Rattle.primitives.specs.Bits.{IsBits, IsFrontOf, bits_of, bits_before, CanBeUnused}
 use Rattle.primitives.proofs.BitsLemmas.{one_bits_value, length-bits_of, bits_of-append, IsBits-from_front}
-use Rattle.types.specs.WellFormed.{IsKept}
+use Rattle.types.specs.FirstTags.{IsUsable}
 use Rattle.berreader.specs.declared.joined.Kind.{Kind}
 use Rattle.berreader.specs.declared.joined.Kind.TheVariants.{Bits, Octets}
 use Rattle.berreader.specs.declared.joined.Joined.{Joined}
 use Rattle.berreader.specs.Joined.{Element, segment_of, HoldsPiece, IsWholePiece, string_held, AreHeld, AreBitsHeld, IsJoined}
 use Rattle.std.proofs.lemmas.List.Elements.{All-append, All-tail, All-from_get_or}
 
-pub kept_segment : (kind : Kind) → IsKept (segment_of kind)
+pub kept_segment : (kind : Kind) → IsUsable (segment_of kind)
 kept_segment Bits = λ u. omega arith
 kept_segment Octets = λ u. omega arith
 

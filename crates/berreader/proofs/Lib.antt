@@ -1,3 +1,5 @@
+pub mod LeafLemmas
+pub mod ContentsLengthLemmas
 pub mod HeadLemmas
 pub mod DepthLemmas
 pub mod CompletingLemmas

@@ -9,7 +9,7 @@ use Rattle.octets.specs.Identifier.{IsIdentifier}
 use Rattle.octets.specs.Rule.{ber}
 use Rattle.octets.proofs.FrontLemmas.{same_front}
 use Rattle.types.specs.Conforms.{Conforms}
-use Rattle.types.specs.WellFormed.{IsKept}
+use Rattle.types.specs.FirstTags.{IsUsable}
 use Rattle.types.specs.Encoding.{IsAccepted, IsSomeAccepted}
 use Rattle.berreader.specs.declared.frame.Frame.{Frame}
 use Rattle.berreader.specs.declared.joined.Kind.{Kind}
@@ -66,7 +66,7 @@ can_complete kind tag i start s frame octets more there below id h top place emp
     (subst (λ x. CompletesBy kind (x ∷ []) (length c.head) [] c.others c.total c.rest) (sym same.frame) c.completes))) in
     (c.total, c.rest, to_stack kind s (frame ∷ []) start [] (drop start octets ++ more) c.total c.rest top place empty k)
 
-pub string_accepted : (kind : Kind) (tag : Tag) (start end : ℕ) (s new : Segments) (frame : Frame) (octets : List ℕ) → IsKept tag → start ≤ length octets → IsOpening tag MAX_ENCODING 0 frame (take start octets)
+pub string_accepted : (kind : Kind) (tag : Tag) (start end : ℕ) (s new : Segments) (frame : Frame) (octets : List ℕ) → IsUsable tag → start ≤ length octets → IsOpening tag MAX_ENCODING 0 frame (take start octets)
     → stack s.frames.items ≡ frame ∷ [] → s.taken ≡ start → string_of kind s.joined ≡ [] → IsTaken kind s new (drop start octets) end → stack new.frames.items ≡ [] → IsHeld kind new.joined
     → (start + end ≤ length octets) × IsAccepted ber (string_shape tag kind) (string_value kind (string_of kind new.joined)) (take (start + end) octets)
 string_accepted kind tag start end s new frame octets kept below h top place empty taken done held =

@@ -7,7 +7,7 @@ use Rattle.octets.specs.Rule.{ber}
 use Rattle.octets.proofs.IdentifierLemmas.{identifier_unique}
 use Rattle.octets.proofs.LengthLemmas.{length_unique}
 use Rattle.types.specs.Form.{IsPrimitive}
-use Rattle.types.specs.WellFormed.{IsKept}
+use Rattle.types.specs.FirstTags.{IsUsable}
 use Rattle.types.specs.Encoding.{most_nested}
 use Rattle.types.proofs.FormLemmas.{definite_unique, parts_of_definite, length-definite}
 use Rattle.types.proofs.NestingLemmas.{IsAboveZero, identifier_above, definite_above, not_end, no_length-128}
@@ -28,7 +28,7 @@ pub end_alone : (f : Frame) (taken : ℕ) (mark part x y : List ℕ) → IsEndOf
 end_alone f taken mark part x y (inl e) above fits whole = omega (arith, e.there, ap length above.is)
 end_alone f taken mark part x y (inr e) above fits whole = not_end part y (0 ∷ 0 ∷ x) above refl (ap (λ z. z ++ x) (sym e.zeros) ∙ whole)
 
-pub opening_above : (tag : Tag) (end taken : ℕ) (opened : Frame) (part : List ℕ) → IsKept tag → IsOpening tag end taken opened part → IsAboveZero part
+pub opening_above : (tag : Tag) (end taken : ℕ) (opened : Frame) (part : List ℕ) → IsUsable tag → IsOpening tag end taken opened part → IsAboveZero part
 opening_above tag end taken opened part kept h =
     let begins = identifier_above tag true h.identifier kept h.tagged in
     record { first = begins.first; others = begins.others ++ h.size; above = begins.above; is = h.joined ∙ ap (λ x. x ++ h.size) begins.is }
@@ -97,7 +97,7 @@ extent_of_opening tag end taken i opened head octets more s there f h is =
     let place : taken + length h.identifier ≡ taken + i = omega (arith, size, ap length same.octets) in
     subst (λ x. IsExtentWithin true end x (drop i octets ++ more)) place (extent_of_opens end (taken + length h.identifier) opened h.size s (drop i octets ++ more) h.form same.rest)
 
-module _ {A : Type 0} (inner : Tag) (Holds : List A → List ℕ → Type 0) (Whole : List A → Type 0) (one : (p q : List A) (c : List ℕ) → Holds p c → Holds q c → p ≡ q) (kept : IsKept inner) where
+module _ {A : Type 0} (inner : Tag) (Holds : List A → List ℕ → Type 0) (Whole : List A → Type 0) (one : (p q : List A) (c : List ℕ) → Holds p c → Holds q c → p ≡ q) (kept : IsUsable inner) where
   pub after_end : (f : Frame) (fs : List Frame) (taken : ℕ) (s t : List A) (octets r mark z : List ℕ) → IsEndOf f taken mark → octets ≡ mark ++ z → Completes inner Holds Whole (f ∷ fs) taken s octets t r
       → Completes inner Holds Whole fs (taken + length mark) s z t r
   after_end f fs taken s t octets r mark z e is (Completes.ends other others after e' is' place k) =

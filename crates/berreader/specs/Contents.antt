@@ -1,19 +1,74 @@
 -- The contents octets that primitive encodings hold.
-use Rattle.std.specs.Prelude.{◌≡◌, ℕ, List, ⊤}
+use Rattle.std.specs.Prelude.{◌≡◌, ℕ, ℤ, Bool, List, ⊤}
 use Rattle.octets.specs.Rule.{Rule}
 use Rattle.types.specs.declared.ty.Ty.{Ty}
 use Rattle.types.specs.declared.ty.Ty.TheVariants.{Enumerated as EnumeratedType, Text as TextType, Time as TimeType}
 use Rattle.types.specs.declared.refusal.Refusal.{Refusal}
 use Rattle.types.specs.declared.refusal.Refusal.TheVariants.{Contents, Alphabet, NoMemory}
 use Rattle.primitives.specs.declared.fault.Fault as fault
-use Rattle.types.specs.Contents.{IsContents, IsStringContents}
+use Rattle.primitives.specs.Boolean.{IsBoolean}
+use Rattle.primitives.specs.Integer.{IsInteger}
+use Rattle.primitives.specs.Null.{IsNull}
+use Rattle.primitives.specs.Oid.{IsOid, IsRelativeOid}
+use Rattle.primitives.specs.Bits.{IsBits}
 use Rattle.types.specs.Shape.{SimpleType, StringType, SimpleValue, StringValue, Shape, Val}
+
+pub record IsBooleanContents (rule : Rule) (value : SimpleValue) (contents : List ℕ) : Type 0 where
+  pub truth : Bool
+  pub is : value ≡ SimpleValue.boolean truth
+  pub spelt : IsBoolean rule truth contents
+
+pub record IsIntegerContents (value : SimpleValue) (contents : List ℕ) : Type 0 where
+  pub number : ℤ
+  pub is : value ≡ SimpleValue.integer number
+  pub spelt : IsInteger number contents
+
+pub record IsEnumeratedContents (value : SimpleValue) (contents : List ℕ) : Type 0 where
+  pub number : ℤ
+  pub is : value ≡ SimpleValue.enumerated number
+  pub spelt : IsInteger number contents
+
+pub record IsNullContents (value : SimpleValue) (contents : List ℕ) : Type 0 where
+  pub is : value ≡ SimpleValue.null
+  pub spelt : IsNull contents
+
+pub record IsOidContents (value : SimpleValue) (contents : List ℕ) : Type 0 where
+  pub arcs : List ℕ
+  pub is : value ≡ SimpleValue.oid arcs
+  pub spelt : IsOid arcs contents
+
+pub record IsRelativeOidContents (value : SimpleValue) (contents : List ℕ) : Type 0 where
+  pub arcs : List ℕ
+  pub is : value ≡ SimpleValue.relative_oid arcs
+  pub spelt : IsRelativeOid arcs contents
+
+-- these are contents octets of the value under the rule
+abbrev pub IsSimpleContents : Rule → SimpleType → SimpleValue → List ℕ → Type 0
+IsSimpleContents rule SimpleType.boolean value contents = IsBooleanContents rule value contents
+IsSimpleContents rule SimpleType.integer value contents = IsIntegerContents value contents
+IsSimpleContents rule (SimpleType.enumerated numbers) value contents = IsEnumeratedContents value contents
+IsSimpleContents rule SimpleType.null value contents = IsNullContents value contents
+IsSimpleContents rule SimpleType.oid value contents = IsOidContents value contents
+IsSimpleContents rule SimpleType.relative_oid value contents = IsRelativeOidContents value contents
+
+-- the contents octets of a primitive BIT STRING (8.6.2)
+pub record IsBitsContents (rule : Rule) (value : StringValue) (contents : List ℕ) : Type 0 where
+  pub bits : List Bool
+  pub is : value ≡ StringValue.bits bits
+  pub spelt : IsBits rule bits contents
+
+-- 8.7.2: the contents octets of a primitive OCTET STRING are the value's octets
+abbrev pub IsStringContents : Rule → StringType → StringValue → List ℕ → Type 0
+IsStringContents rule StringType.bit_string value contents = IsBitsContents rule value contents
+IsStringContents rule StringType.octet_string value contents = value ≡ StringValue.octets contents
+IsStringContents rule (StringType.text kind) value contents = value ≡ StringValue.text contents
+IsStringContents rule (StringType.time kind) value contents = value ≡ StringValue.text contents
 
 -- they are those of a value without parts that is no string
 pub record HoldsSimple (rule : Rule) (type : SimpleType) (v : Val) (contents : List ℕ) : Type 0 where
   pub value : SimpleValue
   pub is : v ≡ Val.simple value
-  pub spelt : IsContents rule type value contents
+  pub spelt : IsSimpleContents rule type value contents
 
 -- or of a string
 pub record HoldsString (rule : Rule) (type : StringType) (v : Val) (contents : List ℕ) : Type 0 where
@@ -25,6 +80,7 @@ pub record HoldsString (rule : Rule) (type : StringType) (v : Val) (contents : L
 abbrev pub HoldsContents : Rule → Shape → Val → List ℕ → Type 0
 HoldsContents rule (Shape.simple tag type) v contents = HoldsSimple rule type v contents
 HoldsContents rule (Shape.string tag type) v contents = HoldsString rule type v contents
+HoldsContents _ _ _ _ = ⊥
 
 -- the type is an ENUMERATED
 abbrev pub IsEnumerated : Ty → Type 0

@@ -75,8 +75,8 @@ string_value Octets string = Val.string (StringValue.octets string)
 
 -- the type is a string, which may be cut into segments
 abbrev pub IsString : Shape → Type 0
-IsString (Shape.simple tag type) = ⊥
 IsString (Shape.string tag type) = ⊤
+IsString _ = ⊥
 
 -- or it has no constructed encoding
 abbrev pub IsNoString : Shape → Type 0

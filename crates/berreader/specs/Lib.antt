@@ -1,4 +1,5 @@
 pub mod Contents
+pub mod Lengths
 pub mod Head
 pub mod Joined
 pub mod Completing

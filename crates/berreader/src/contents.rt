@@ -3,6 +3,7 @@
 ghost use Rattle.std.specs.Prelude.{◌≡◌, IfOk, IfErr, IsErr};
 ghost use Rattle.octets.specs.Rule.{ber};
 ghost use Rattle.types.specs.Conforms.{Conforms};
+ghost use Rattle.types.specs.Leaf.{IsLeaf};
 ghost use Rattle.types.specs.Refusal.{IsFinal};
 ghost use Rattle.types.specs.Shape.{Val};
 ghost use Rattle.types.specs.View.{ty_view, value_view};
@@ -16,6 +17,7 @@ use types::{Refusal, Ty, Value, conforms};
 
 // The value of `ty` that the contents octets are.
 pub fn read_contents(alloc: Global, ty: &Ty, contents: &[u8]) -> Result<Value, Refusal>
+    requires { IsLeaf (ty_view ty.now) }
     ensures value { IfOk result (λ value. Conforms (ty_view ty.now) (value_view value)
         × HoldsContents ber (ty_view ty.now) (value_view value) contents.now) }
     ensures none { IfErr result (λ refusal. IsFinal refusal → (v : Val) → Conforms (ty_view ty.now) v →
@@ -54,6 +56,12 @@ pub fn read_contents(alloc: Global, ty: &Ty, contents: &[u8]) -> Result<Value, R
         },
         Ty::Text(_, _) => read_text(alloc, ty, contents),
         Ty::Time(_, _) => read_text(alloc, ty, contents),
+        Ty::Sequence(_, _) => Err(Refusal::Form),
+        Ty::Set(_, _) => Err(Refusal::Form),
+        Ty::SequenceOf(_, _) => Err(Refusal::Form),
+        Ty::SetOf(_, _) => Err(Refusal::Form),
+        Ty::Choice(_) => Err(Refusal::Form),
+        Ty::Explicit(_, _) => Err(Refusal::Form),
     }
 }
 
@@ -94,6 +102,7 @@ fn read_text(alloc: Global, ty: &Ty, contents: &[u8]) -> Result<Value, Refusal>
 
 // The text of a character string or a time whose octets these are, if the type allows them.
 pub fn text_of(ty: &Ty, octets: Vec<u8>) -> Result<Value, Refusal>
+    requires { IsTextual ty.now }
     ensures value { IfOk result (λ value. (value_view value ≡ text_view octets.items)
         × Conforms (ty_view ty.now) (value_view value)) }
     ensures none { IsErr result → ¬ Conforms (ty_view ty.now) (text_view octets.items) }

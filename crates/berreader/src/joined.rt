@@ -43,6 +43,12 @@ pub fn kind_of(ty: &Ty) -> Option<Kind>
         Ty::Null(_) => None,
         Ty::Oid(_) => None,
         Ty::RelativeOid(_) => None,
+        Ty::Sequence(_, _) => None,
+        Ty::Set(_, _) => None,
+        Ty::SequenceOf(_, _) => None,
+        Ty::SetOf(_, _) => None,
+        Ty::Choice(_) => None,
+        Ty::Explicit(_, _) => None,
     }
 }
 
@@ -138,7 +144,19 @@ impl Joined {
                 None => Err(Refusal::Contents),
             },
             Ty::Text(_, _) | Ty::Time(_, _) => text_of(ty, self.octets),
-            _ => Ok(Value::Octets(self.octets)),
+            Ty::Octets(_) => Ok(Value::Octets(self.octets)),
+            Ty::Boolean(_) => Err(Refusal::Contents),
+            Ty::Integer(_) => Err(Refusal::Contents),
+            Ty::Enumerated(_, _) => Err(Refusal::Contents),
+            Ty::Null(_) => Err(Refusal::Contents),
+            Ty::Oid(_) => Err(Refusal::Contents),
+            Ty::RelativeOid(_) => Err(Refusal::Contents),
+            Ty::Sequence(_, _) => Err(Refusal::Contents),
+            Ty::Set(_, _) => Err(Refusal::Contents),
+            Ty::SequenceOf(_, _) => Err(Refusal::Contents),
+            Ty::SetOf(_, _) => Err(Refusal::Contents),
+            Ty::Choice(_) => Err(Refusal::Contents),
+            Ty::Explicit(_, _) => Err(Refusal::Contents),
         }
     }
 }

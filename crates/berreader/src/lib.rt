@@ -9,6 +9,8 @@ mod contents;
 mod frame;
 mod head;
 mod joined;
+mod leaf;
+mod lengths;
 mod parts;
 mod reading;
 mod segments;

@@ -7,13 +7,15 @@ ghost use Rattle.octets.specs.Front.{HasFront};
 ghost use Rattle.octets.specs.Identifier.{IsIdentifier};
 ghost use Rattle.octets.specs.Length.{IsLength};
 ghost use Rattle.octets.specs.Rule.{ber};
-ghost use Rattle.types.specs.Contents.{CanHaveLength};
+ghost use Rattle.berreader.specs.Lengths.{CanHaveLength};
 ghost use Rattle.types.specs.Encoding.{IsAccepted, IsSomeAccepted};
 ghost use Rattle.types.specs.Refusal.{IsFinal, IsOfReading};
 ghost use Rattle.types.specs.Same.{IsSame};
-ghost use Rattle.types.specs.Shape.{Val, tag_of};
+ghost use Rattle.types.specs.Shape.{Val};
+ghost use Rattle.types.specs.Leaf.{tag_of, IsLeaf};
 ghost use Rattle.types.specs.View.{ty_view, value_view};
-ghost use Rattle.types.specs.WellFormed.{IsWellFormed, IsKept};
+ghost use Rattle.types.specs.WellFormed.{IsWellFormed};
+ghost use Rattle.types.specs.FirstTags.{IsUsable};
 ghost use Rattle.berreader.specs.Contents.{IsOfContents};
 ghost use Rattle.berreader.specs.Head.{IsReadTag};
 ghost use Rattle.berreader.specs.Joined.{string_of, string_shape, string_value, IsHeld};
@@ -23,11 +25,13 @@ use crate::contents::read_contents;
 use crate::frame::{OUTSIDE, top};
 use crate::head::read_tag;
 use crate::joined::{Joined, Kind, kind_of};
+use crate::leaf::leaf_tag;
+use crate::lengths::can_have_length;
 use crate::parts::{read_contents_place, read_opening};
 use crate::segments::Segments;
 use octets::{Length, read_length};
 use std::alloc::Global;
-use types::{Refusal, Ty, Value, WellTyped, can_have_length};
+use types::{Refusal, Ty, Value, WellTyped};
 
 /// Reads the one encoding at the front of `octets` under BER (X.690 clause 8), and answers the value of
 /// `ty` and how many octets the encoding has. What stands behind it is not looked at.
@@ -36,6 +40,7 @@ use types::{Refusal, Ty, Value, WellTyped, can_have_length};
 /// octets after these could make it an encoding within the limits, and with `NoMemory`: values of arcs,
 /// bits, octets and texts take memory, and so do more than eight open encodings.
 pub fn read(alloc: Global, ty: &WellTyped, octets: &[u8]) -> Result<(Value, usize), Refusal>
+    requires { IsLeaf (ty_view ty.now) }
     ensures value { IfOk result (λ p. (p.1 ≤ length octets.now)
         × IsAccepted ber (ty_view ty.now) (value_view p.0) (take p.1 octets.now)) }
     ensures only { IfOk result (λ p. (v : Val) (n : ℕ) → n ≤ length octets.now →
@@ -49,7 +54,7 @@ pub fn read(alloc: Global, ty: &WellTyped, octets: &[u8]) -> Result<(Value, usiz
     ensures well_formed { IsWellFormed (ty_view ty.now) }
 {
     let ty = ty.as_type();
-    let (constructed, identifier) = read_tag(ty.tag(), OUTSIDE.end, 0, octets)?;
+    let (constructed, identifier) = read_tag(leaf_tag(ty), OUTSIDE.end, 0, octets)?;
     if constructed {
         read_constructed(alloc, ty, identifier, octets)
     } else {
@@ -64,6 +69,7 @@ fn read_primitive(
     identifier: usize,
     octets: &[u8],
 ) -> Result<(Value, usize), Refusal>
+    requires leaf { IsLeaf (ty_view ty.now) }
     requires well_formed { IsWellFormed (ty_view ty.now) }
     requires tagged { IsReadTag (tag_of (ty_view ty.now)) MAX_ENCODING 0 octets.now false identifier }
     ensures value { IfOk result (λ p. (p.1 ≤ length octets.now)
@@ -109,6 +115,7 @@ fn read_constructed(
     identifier: usize,
     octets: &[u8],
 ) -> Result<(Value, usize), Refusal>
+    requires leaf { IsLeaf (ty_view ty.now) }
     requires well_formed { IsWellFormed (ty_view ty.now) }
     requires tagged { IsReadTag (tag_of (ty_view ty.now)) MAX_ENCODING 0 octets.now true identifier }
     ensures value { IfOk result (λ p. (p.1 ≤ length octets.now)
@@ -136,7 +143,7 @@ fn read_joined(
 ) -> Result<(Joined, usize), Refusal>
     requires there { identifier ≤ length octets.now }
     requires within { identifier ≤ MAX_ENCODING }
-    ensures value { IfOk result (λ p. (tag : Tag) → IsKept tag →
+    ensures value { IfOk result (λ p. (tag : Tag) → IsUsable tag →
         IsIdentifier tag true (take identifier octets.now) → (p.1 ≤ length octets.now)
         × IsAccepted ber (string_shape tag kind) (string_value kind (string_of kind p.0)) (take p.1 octets.now)) }
     ensures held { IfOk result (λ p. IsHeld kind p.0) }

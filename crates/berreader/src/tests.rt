@@ -60,7 +60,8 @@ fn refusal_of(read: Result<(Value, usize), Refusal>) -> Option<u8> {
 
 fn refused(alloc: Global, ty: Ty, octets: &[u8]) -> Option<u8> {
     match WellTyped::new(ty) {
-        Ok(ty) => refusal_of(read(alloc, &ty, octets)),
+        Ok(ty) if ty.as_type().has_no_parts() => refusal_of(read(alloc, &ty, octets)),
+        Ok(_) => None,
         Err(_) => None,
     }
 }
@@ -70,6 +71,9 @@ fn is_read(alloc: Global, ty: Ty, octets: &[u8], want: &[u8], unused: u8) -> boo
     let Ok(ty) = WellTyped::new(ty) else {
         return false;
     };
+    if !ty.as_type().has_no_parts() {
+        return false;
+    }
     for cut in 0..octets.len() {
         if refusal_of(read(alloc, &ty, &octets[..cut])) != Some(1) {
             return false;

@@ -4,7 +4,7 @@ use Rattle.octets.specs.declared.tag.Tag.{Tag}
 use Rattle.octets.specs.Rule.{Rule, ber, cer, der}
 use Rattle.types.specs.Depth.{IsNested, IsSomePrimitive}
 use Rattle.types.specs.Form.{IsPrimitive}
-use Rattle.types.specs.WellFormed.{IsKept}
+use Rattle.types.specs.FirstTags.{IsUsable}
 
 -- BER takes the primitive encodings of every rule
 pub primitive_by_ber : (rule : Rule) (tag : Tag) (contents octets : List ℕ) → IsPrimitive rule tag contents octets → IsPrimitive ber tag contents octets
@@ -25,5 +25,5 @@ unfolding IsNested
 nested_primitive zero octets h = h
 nested_primitive (suc n) octets h = inl h
 
-pub nested_canonical : (n : ℕ) (tag : Tag) (contents octets : List ℕ) → IsKept tag → IsPrimitive cer tag contents octets → IsNested n octets
-nested_canonical n tag contents octets kept h = nested_primitive n octets record { tag = tag; kept = kept; contents = contents; whole = primitive_by_ber cer tag contents octets h }
+pub nested_canonical : (n : ℕ) (tag : Tag) (contents octets : List ℕ) → IsUsable tag → IsPrimitive cer tag contents octets → IsNested n octets
+nested_canonical n tag contents octets usable h = nested_primitive n octets record { tag = tag; usable = usable; contents = contents; whole = primitive_by_ber cer tag contents octets h }

@@ -1,20 +1,18 @@
--- Lemmas on the CER encodings of values: each has one.
+-- Lemmas on CER: it cuts a string in one way, and spells what is not cut as DER does.
 use Rattle.std.proofs.Common.{◌≡◌, ℕ, ◌+◌, ◌*◌, ◌<◌, List, [], ◌∷◌, ◌++◌, Bool, true, false, inl, inr, length, refl, sym, ◌∙◌, ap, ap₂, subst, arith, length-append}
 use Rattle.octets.specs.declared.tag.Tag.{Tag}
 use Rattle.octets.specs.Rule.{Rule, cer, der}
-use Rattle.octets.proofs.RuleLemmas.{der_is_canonical}
 use Rattle.octets.proofs.UniqueLemmas.{one_identifier}
+use Rattle.octets.proofs.RuleLemmas.{der_is_canonical}
 use Rattle.primitives.specs.Bits.{IsBits}
 use Rattle.primitives.specs.Boolean.{IsBoolean}
 use Rattle.primitives.proofs.BitsLemmas.{length-bits_of, one_canonical_bits}
-use Rattle.types.specs.Shape.{SimpleType, StringType, SimpleValue, StringValue, Shape, Val}
+use Rattle.types.specs.Shape.{SimpleType, SimpleValue, Val}
 use Rattle.types.specs.Contents.{IsContents}
-use Rattle.types.specs.Encoding.{EncodesSimple, EncodesText}
+use Rattle.types.specs.Encoding.{IsSimpleEncoding}
 use Rattle.types.specs.Form.{IsPrimitive, IsIndefinite}
-use Rattle.types.specs.Laws.{OneCerEncoding}
-use Rattle.types.specs.Strings.{segment_octets, AreCerSegments, IsStringEncoding, IsWholeOctets, AreOctets, AlwaysWhole, bit_segment, octet_segment}
+use Rattle.types.specs.Strings.{segment_octets, AreCerSegments, IsStringEncoding, IsWholeOctets, AreOctets, AlwaysWhole}
 use Rattle.types.proofs.CanonicalLemmas.{primitive_by_cer, primitive_by_der}
-use Rattle.types.proofs.EncodingLemmas.{canonical_unique}
 use Rattle.types.proofs.FormLemmas.{one_definite}
 
 -- equal contents octets have one primitive encoding
@@ -91,6 +89,9 @@ bits_by_der bits contents h = record { unused = h.unused; octets = h.octets; tai
 pub bits_by_cer : (bits : List Bool) (contents : List ℕ) → IsBits der bits contents → IsBits cer bits contents
 bits_by_cer bits contents h = record { unused = h.unused; octets = h.octets; tail = h.tail; contents_are = h.contents_are; at_most_7 = h.at_most_7; below_256 = h.below_256; bits_are = h.bits_are; tail_is = h.tail_is; free = h.free }
 
+pub one_der_bits : (bits : List Bool) (c d : List ℕ) → IsBits der bits c → IsBits der bits d → c ≡ d
+one_der_bits bits c d h k = one_canonical_bits der der bits c d der_is_canonical der_is_canonical h k
+
 -- a full segment of whole octets
 full_bits : (bits : List Bool) (contents : List ℕ) → IsBits cer bits contents → length contents ≡ segment_octets → IsWholeOctets bits → length bits ≡ 7992
 full_bits bits contents h full whole = omega (arith, bits_count cer bits contents h, full, h.at_most_7, whole.1)
@@ -98,7 +99,7 @@ full_bits bits contents h full whole = omega (arith, bits_count cer bits content
 -- bits are cut in one way
 pub bits_cut_once : IsCutOnce (IsBits cer) IsWholeOctets
 bits_cut_once = record {
-  one = λ p c d h k. one_canonical_bits der der p c d der_is_canonical der_is_canonical (bits_by_der p c h) (bits_by_der p d k);
+  one = λ p c d h k. one_der_bits p c d (bits_by_der p c h) (bits_by_der p d k);
   level = λ p q c d h k l m f g. full_bits p c h l f ∙ sym (full_bits q d k m g);
   longer = λ p q c d h k f l less. omega (arith, full_bits p c h l f, bits_count cer q d k, less);
 }
@@ -111,50 +112,27 @@ boolean_by_cer : (truth : Bool) (contents : List ℕ) → IsBoolean der truth co
 boolean_by_cer true contents h = h
 boolean_by_cer false contents h = h
 
-pub contents_by_der : (type : SimpleType) (v : SimpleValue) (contents : List ℕ) → IsContents cer type v contents → IsContents der type v contents
-contents_by_der SimpleType.boolean v contents h = record { truth = h.truth; is = h.is; spelt = boolean_by_der h.truth contents h.spelt }
-contents_by_der SimpleType.integer v contents h = h
-contents_by_der (SimpleType.enumerated numbers) v contents h = h
-contents_by_der SimpleType.null v contents h = h
-contents_by_der SimpleType.oid v contents h = h
-contents_by_der SimpleType.relative_oid v contents h = h
+pub contents_by_der : (v : SimpleValue) (contents : List ℕ) → IsContents cer v contents → IsContents der v contents
+contents_by_der (SimpleValue.boolean truth) contents h = boolean_by_der truth contents h
+contents_by_der (SimpleValue.integer number) contents h = h
+contents_by_der (SimpleValue.enumerated number) contents h = h
+contents_by_der SimpleValue.null contents h = h
+contents_by_der (SimpleValue.oid arcs) contents h = h
+contents_by_der (SimpleValue.relative_oid arcs) contents h = h
 
-pub contents_by_cer : (type : SimpleType) (v : SimpleValue) (contents : List ℕ) → IsContents der type v contents → IsContents cer type v contents
-contents_by_cer SimpleType.boolean v contents h = record { truth = h.truth; is = h.is; spelt = boolean_by_cer h.truth contents h.spelt }
-contents_by_cer SimpleType.integer v contents h = h
-contents_by_cer (SimpleType.enumerated numbers) v contents h = h
-contents_by_cer SimpleType.null v contents h = h
-contents_by_cer SimpleType.oid v contents h = h
-contents_by_cer SimpleType.relative_oid v contents h = h
+pub contents_by_cer : (v : SimpleValue) (contents : List ℕ) → IsContents der v contents → IsContents cer v contents
+contents_by_cer (SimpleValue.boolean truth) contents h = boolean_by_cer truth contents h
+contents_by_cer (SimpleValue.integer number) contents h = h
+contents_by_cer (SimpleValue.enumerated number) contents h = h
+contents_by_cer SimpleValue.null contents h = h
+contents_by_cer (SimpleValue.oid arcs) contents h = h
+contents_by_cer (SimpleValue.relative_oid arcs) contents h = h
 
 -- CER and DER have the same encodings of a type without strings
-pub simple_by_der : (tag : Tag) (type : SimpleType) (v : Val) (octets : List ℕ) → EncodesSimple cer tag type v octets → EncodesSimple der tag type v octets
-simple_by_der tag type v octets h = record { value = h.value; is = h.is; contents = h.contents; spelt = contents_by_der type h.value h.contents h.spelt; primitive = primitive_by_der tag h.contents octets h.primitive }
+pub simple_by_der : (tag : Tag) (type : SimpleType) (v : Val) (octets : List ℕ) → IsSimpleEncoding cer tag type v octets → IsSimpleEncoding der tag type v octets
+simple_by_der tag type v octets h =
+    record { value = h.value; is = h.is; conforms = h.conforms; contents = h.contents; spelt = contents_by_der h.value h.contents h.spelt; primitive = primitive_by_der tag h.contents octets h.primitive }
 
-pub simple_by_cer : (tag : Tag) (type : SimpleType) (v : Val) (octets : List ℕ) → EncodesSimple der tag type v octets → EncodesSimple cer tag type v octets
-simple_by_cer tag type v octets h = record { value = h.value; is = h.is; contents = h.contents; spelt = contents_by_cer type h.value h.contents h.spelt; primitive = primitive_by_cer tag h.contents octets h.primitive }
-
-one_text_encoding : (tag : Tag) (v : Val) (a b : List ℕ) → EncodesText cer tag v a → EncodesText cer tag v b → a ≡ b
-one_text_encoding tag v a b f g =
-    let whole : Val.string (StringValue.text f.text_octets) ≡ Val.string (StringValue.text g.text_octets) = sym f.is ∙ g.is in
-    let same : f.text_octets ≡ g.text_octets = cc whole in
-    one_string_encoding octet_segment AreOctets AlwaysWhole octets_cut_once tag g.text_octets a b
-    (subst (λ s. IsStringEncoding cer tag octet_segment AreOctets AlwaysWhole s a) same f.string) g.string
-
-pub cer_unique : OneCerEncoding
-cer_unique (Shape.simple tag type) v a b well f g =
-    canonical_unique (Shape.simple tag type) v a b well
-    record { conforms = f.conforms; encodes = simple_by_der tag type v a f.encodes }
-    record { conforms = g.conforms; encodes = simple_by_der tag type v b g.encodes }
-cer_unique (Shape.string tag StringType.bit_string) v a b well f g =
-    let whole : Val.string (StringValue.bits f.encodes.bits) ≡ Val.string (StringValue.bits g.encodes.bits) = sym f.encodes.is ∙ g.encodes.is in
-    let same : f.encodes.bits ≡ g.encodes.bits = cc whole in
-    one_string_encoding bit_segment (IsBits cer) IsWholeOctets bits_cut_once tag g.encodes.bits a b
-    (subst (λ s. IsStringEncoding cer tag bit_segment (IsBits cer) IsWholeOctets s a) same f.encodes.string) g.encodes.string
-cer_unique (Shape.string tag StringType.octet_string) v a b well f g =
-    let whole : Val.string (StringValue.octets f.encodes.string_octets) ≡ Val.string (StringValue.octets g.encodes.string_octets) = sym f.encodes.is ∙ g.encodes.is in
-    let same : f.encodes.string_octets ≡ g.encodes.string_octets = cc whole in
-    one_string_encoding octet_segment AreOctets AlwaysWhole octets_cut_once tag g.encodes.string_octets a b
-    (subst (λ s. IsStringEncoding cer tag octet_segment AreOctets AlwaysWhole s a) same f.encodes.string) g.encodes.string
-cer_unique (Shape.string tag (StringType.text kind)) v a b well f g = one_text_encoding tag v a b f.encodes g.encodes
-cer_unique (Shape.string tag (StringType.time kind)) v a b well f g = one_text_encoding tag v a b f.encodes g.encodes
+pub simple_by_cer : (tag : Tag) (type : SimpleType) (v : Val) (octets : List ℕ) → IsSimpleEncoding der tag type v octets → IsSimpleEncoding cer tag type v octets
+simple_by_cer tag type v octets h =
+    record { value = h.value; is = h.is; conforms = h.conforms; contents = h.contents; spelt = contents_by_cer h.value h.contents h.spelt; primitive = primitive_by_cer tag h.contents octets h.primitive }

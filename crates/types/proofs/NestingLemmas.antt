@@ -10,7 +10,7 @@ use Rattle.octets.specs.Length.{IsLength}
 use Rattle.octets.specs.Rule.{ber}
 use Rattle.octets.proofs.IdentifierLemmas.{identifier_unique}
 use Rattle.types.specs.Form.{IsDefinite, IsIndefinite, IsPrimitive, IsConstructed}
-use Rattle.types.specs.WellFormed.{IsKept}
+use Rattle.types.specs.FirstTags.{IsUsable}
 use Rattle.types.specs.Depth.{IsSomePrimitive, IsConstructedOf, IsNested}
 use Rattle.types.proofs.FormLemmas.{definite_unique, parts_of_definite}
 
@@ -39,19 +39,19 @@ first_above Application j n h = omega arith
 first_above Context j n h = omega arith
 first_above Private j n h = omega arith
 
-pub identifier_above : (t : Tag) (j : Bool) (a : List ℕ) → IsKept t → IsIdentifier t j a → IsAboveZero a
-identifier_above t j a kept (inl h) = record { first = class_bits t.class + form_bit j + t.number; others = []; above = first_above t.class j t.number kept; is = h.spelt }
-identifier_above t j a kept (inr h) = record { first = class_bits t.class + form_bit j + 31; others = h.following; above = omega arith; is = h.spelt }
+pub identifier_above : (t : Tag) (j : Bool) (a : List ℕ) → IsUsable t → IsIdentifier t j a → IsAboveZero a
+identifier_above t j a usable (inl h) = record { first = class_bits t.class + form_bit j + t.number; others = []; above = first_above t.class j t.number usable; is = h.spelt }
+identifier_above t j a usable (inr h) = record { first = class_bits t.class + form_bit j + 31; others = h.following; above = omega arith; is = h.spelt }
 
-pub definite_above : (t : Tag) (j : Bool) (c a : List ℕ) → IsKept t → IsDefinite ber t j c a → IsAboveZero a
-definite_above t j c a kept h =
-    let begins = identifier_above t j h.identifier kept h.tagged in
+pub definite_above : (t : Tag) (j : Bool) (c a : List ℕ) → IsUsable t → IsDefinite ber t j c a → IsAboveZero a
+definite_above t j c a usable h =
+    let begins = identifier_above t j h.identifier usable h.tagged in
     record { first = begins.first; others = begins.others ++ (h.size ++ c); above = begins.above; is = h.joined ∙ ap (λ x. x ++ (h.size ++ c)) begins.is }
 
-pub constructed_above : (t : Tag) (c a : List ℕ) → IsKept t → IsConstructed ber t c a → IsAboveZero a
-constructed_above t c a kept (inl h) = definite_above t true c a kept h
-constructed_above t c a kept (inr h) =
-    let begins = identifier_above t true h.identifier kept h.tagged in
+pub constructed_above : (t : Tag) (c a : List ℕ) → IsUsable t → IsConstructed ber t c a → IsAboveZero a
+constructed_above t c a usable (inl h) = definite_above t true c a usable h
+constructed_above t c a usable (inr h) =
+    let begins = identifier_above t true h.identifier usable h.tagged in
     let rest = 128 ∷ (c ++ (0 ∷ 0 ∷ [])) in
     record { first = begins.first; others = begins.others ++ rest; above = begins.above; is = h.joined ∙ ap (λ x. x ++ rest) begins.is }
 
@@ -131,9 +131,9 @@ constructed_unique P Q apart f g a b r s h k whole = constructed_parts P Q apart
 
 pub nested_above : (n : ℕ) (a : List ℕ) → IsNested n a → IsAboveZero a
 unfolding IsNested
-nested_above zero a h = definite_above h.tag false h.contents a h.kept h.whole
-nested_above (suc n) a (inl h) = definite_above h.tag false h.contents a h.kept h.whole
-nested_above (suc n) a (inr h) = constructed_above h.tag (concat h.parts) a h.kept h.whole
+nested_above zero a h = definite_above h.tag false h.contents a h.usable h.whole
+nested_above (suc n) a (inl h) = definite_above h.tag false h.contents a h.usable h.whole
+nested_above (suc n) a (inr h) = constructed_above h.tag (concat h.parts) a h.usable h.whole
 
 primitives_unique : AreApart IsSomePrimitive IsSomePrimitive
 primitives_unique a b r s h k whole = (definite_unique ber ber h.tag k.tag false false h.contents k.contents a b r s h.whole k.whole whole).octets

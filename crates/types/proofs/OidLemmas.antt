@@ -2,7 +2,7 @@
 use Rattle.std.proofs.Common.{◌≡◌, ℕ, ◌+◌, ◌*◌, ◌^◌, ◌<◌, List, ◌∷◌, length, refl, subst, arith, All}
 use Rattle.std.proofs.lemmas.List.Elements.{All-cons, All-head}
 use Rattle.primitives.specs.Oid.{IsOidValue}
-use Rattle.types.specs.Conforms.{CanShare}
+use Rattle.types.specs.Arcs.{CanShare}
 
 pub oid_value : (first second : ℕ) (rest : List ℕ) → CanShare first second → length rest < 128 → All (λ n. n < 2 ^ 128) rest → IsOidValue (first ∷ second ∷ rest)
 oid_value first second rest share few below = record {

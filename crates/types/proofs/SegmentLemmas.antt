@@ -4,12 +4,12 @@ use Rattle.std.proofs.lemmas.List.{append_cancel_left}
 use Rattle.octets.specs.declared.tag.Tag.{Tag}
 use Rattle.octets.specs.Rule.{ber}
 use Rattle.types.specs.Form.{IsConstructed}
-use Rattle.types.specs.WellFormed.{IsKept}
+use Rattle.types.specs.FirstTags.{IsUsable}
 use Rattle.types.specs.Strings.{AreSegments, IsStringEncoding}
 use Rattle.types.proofs.FormLemmas.{definite_unique}
 use Rattle.types.proofs.NestingLemmas.{IsEnd, not_end, definite_above, constructed_above, definite_not_indefinite, indefinite_opening, primitive_not_constructed}
 
-module _ {A : Type 0} (inner : Tag) (Holds : List A → List ℕ → Type 0) (Whole : List A → Type 0) (one : (p q : List A) (c : List ℕ) → Holds p c → Holds q c → p ≡ q) (kept : IsKept inner) where
+module _ {A : Type 0} (inner : Tag) (Holds : List A → List ℕ → Type 0) (Whole : List A → Type 0) (one : (p q : List A) (c : List ℕ) → Holds p c → Holds q c → p ≡ q) (usable : IsUsable inner) where
   pub record AreSame (p : List A) (c : List ℕ) (q : List A) (d : List ℕ) : Type 0 where
     pub octets : c ≡ d
     pub string : p ≡ q
@@ -24,13 +24,13 @@ module _ {A : Type 0} (inner : Tag) (Holds : List A → List ℕ → Type 0) (Wh
   pub segments_unique : (p : List A) (c : List ℕ) (q : List A) (d x y : List ℕ) → AreSegments inner Holds Whole p c → AreSegments inner Holds Whole q d → IsEnd x → IsEnd y → c ++ x ≡ d ++ y → AreSame p c q d
   segments_unique p c q d x y AreSegments.none AreSegments.none m n e = record { octets = refl; string = refl }
   segments_unique p c q d x y AreSegments.none (AreSegments.primitive {rest = d'} piece contents b h w k f) m n e =
-      absurd (not_end b (d' ++ y) x (definite_above inner false contents b kept w) m (e ∙ append_assoc b d' y))
+      absurd (not_end b (d' ++ y) x (definite_above inner false contents b usable w) m (e ∙ append_assoc b d' y))
   segments_unique p c q d x y AreSegments.none (AreSegments.constructed {rest = d'} piece contents b h w k f) m n e =
-      absurd (not_end b (d' ++ y) x (constructed_above inner contents b kept w) m (e ∙ append_assoc b d' y))
+      absurd (not_end b (d' ++ y) x (constructed_above inner contents b usable w) m (e ∙ append_assoc b d' y))
   segments_unique p c q d x y (AreSegments.primitive {rest = c'} piece contents b h w k f) AreSegments.none m n e =
-      absurd (not_end b (c' ++ x) y (definite_above inner false contents b kept w) n (sym e ∙ append_assoc b c' x))
+      absurd (not_end b (c' ++ x) y (definite_above inner false contents b usable w) n (sym e ∙ append_assoc b c' x))
   segments_unique p c q d x y (AreSegments.constructed {rest = c'} piece contents b h w k f) AreSegments.none m n e =
-      absurd (not_end b (c' ++ x) y (constructed_above inner contents b kept w) n (sym e ∙ append_assoc b c' x))
+      absurd (not_end b (c' ++ x) y (constructed_above inner contents b usable w) n (sym e ∙ append_assoc b c' x))
   segments_unique p c q d x y (AreSegments.primitive {others = s1} {rest = c1} p1 o1 b1 h1 w1 k1 f1) (AreSegments.primitive {others = s2} {rest = c2} p2 o2 b2 h2 w2 k2 f2) m n e =
       let z : b1 ++ (c1 ++ x) ≡ b2 ++ (c2 ++ y) = sym (append_assoc b1 c1 x) ∙ (e ∙ append_assoc b2 c2 y) in
       let same = definite_unique ber ber inner inner false false o1 o2 b1 b2 (c1 ++ x) (c2 ++ y) w1 w2 z in

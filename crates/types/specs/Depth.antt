@@ -4,19 +4,19 @@ use Rattle.std.specs.List.{AllByRecursion, concat}
 use Rattle.octets.specs.declared.tag.Tag.{Tag}
 use Rattle.octets.specs.Rule.{ber}
 use Rattle.types.specs.Form.{IsPrimitive, IsConstructed}
-use Rattle.types.specs.WellFormed.{IsKept}
+use Rattle.types.specs.FirstTags.{IsUsable}
 
 -- a primitive encoding of some contents
 pub record IsSomePrimitive (octets : List ℕ) : Type 0 where
   pub tag : Tag
-  pub kept : IsKept tag
+  pub usable : IsUsable tag
   pub contents : List ℕ
   pub whole : IsPrimitive ber tag contents octets
 
 -- a constructed encoding around zero or more others
 pub record IsConstructedOf (IsPart : List ℕ → Type 0) (octets : List ℕ) : Type 0 where
   pub tag : Tag
-  pub kept : IsKept tag
+  pub usable : IsUsable tag
   pub parts : List (List ℕ)
   pub each : AllByRecursion IsPart parts
   pub whole : IsConstructed ber tag (concat parts) octets

@@ -1,14 +1,19 @@
 -- Types and values as the definitions see them: without where they lie in memory.
-use Rattle.std.specs.Prelude.{ℕ, ℤ, Bool, List}
+use Rattle.std.specs.Prelude.{ℕ, ℤ, Bool, List, [], ◌∷◌}
 use Rattle.strings.specs.declared.time.TimeKind.{TimeKind}
 use Rattle.strings.specs.declared.text.TextKind.{TextKind}
 use Rattle.octets.specs.declared.tag.Tag.{Tag}
 
--- a type without parts whose encodings are primitive; an ENUMERATED has the numbers of its items
+-- an item of an ENUMERATED (X.680 clause 20)
+pub record EnumerationItem : Type 0 where
+  pub name : List ℕ
+  pub number : ℤ
+
+-- a type without parts whose encodings are primitive
 pub data SimpleType : Type 0 where
   boolean : SimpleType
   integer : SimpleType
-  enumerated : List ℤ → SimpleType
+  enumerated : List EnumerationItem → SimpleType
   null : SimpleType
   oid : SimpleType
   relative_oid : SimpleType
@@ -19,11 +24,6 @@ pub data StringType : Type 0 where
   octet_string : StringType
   text : TextKind → StringType
   time : TimeKind → StringType
-
--- a type, with its outermost tag
-pub data Shape : Type 0 where
-  simple : Tag → SimpleType → Shape
-  string : Tag → StringType → Shape
 
 -- a value of a type without parts whose encodings are primitive
 pub data SimpleValue : Type 0 where
@@ -40,12 +40,55 @@ pub data StringValue : Type 0 where
   octets : List ℕ → StringValue
   text : List ℕ → StringValue
 
--- a value
-pub data Val : Type 0 where
-  simple : SimpleValue → Val
-  string : StringValue → Val
+mutual
+  -- a value
+  pub data Val : Type 0 where
+    simple : SimpleValue → Val
+    string : StringValue → Val
+    fields : Slots → Val
+    items : Items → Val
+    chosen : ℕ → Val → Val
 
--- the tag that the encodings of a type begin with
-abbrev pub tag_of : Shape → Tag
-tag_of (Shape.simple tag type) = tag
-tag_of (Shape.string tag type) = tag
+  -- a slot for each component of a SEQUENCE or SET, in order of declaration
+  pub data Slots : Type 0 where
+    no_slot : Slots
+    absent : Slots → Slots
+    present : Val → Slots → Slots
+
+  -- the items of a SEQUENCE OF or SET OF
+  pub data Items : Type 0 where
+    no_item : Items
+    item : Val → Items → Items
+
+-- whether a component may be absent, and what its absence then means
+pub data Requirement : Type 0 where
+  required : Requirement
+  optional : Requirement
+  default : Val → Requirement
+
+mutual
+  -- a type; each node but CHOICE has its outermost tag
+  pub data Shape : Type 0 where
+    simple : Tag → SimpleType → Shape
+    string : Tag → StringType → Shape
+    sequence : Tag → Components → Shape
+    set : Tag → Components → Shape
+    sequence_of : Tag → Shape → Shape
+    set_of : Tag → Shape → Shape
+    choice : Alternatives → Shape
+    explicit : Tag → Shape → Shape
+
+  -- the components of a SEQUENCE or SET, each with its name
+  pub data Components : Type 0 where
+    no_component : Components
+    component : List ℕ → Shape → Requirement → Components → Components
+
+  -- the alternatives of a CHOICE, each with its name
+  pub data Alternatives : Type 0 where
+    no_alternative : Alternatives
+    alternative : List ℕ → Shape → Alternatives → Alternatives
+
+-- the items as a list
+abbrev pub listed : Items → List Val
+listed no_item = []
+listed (item value others) = value ∷ listed others

@@ -1,43 +1,118 @@
 -- Types that are well formed.
-use Rattle.types.specs.declared.TheConstants.{MAX_ITEMS}
-use Rattle.std.specs.Prelude.{◌≡◌, ◌≢◌, ◌≤◌, ⊤, length, AllPairs}
-use Rattle.octets.specs.declared.TheConstants.{MAX_TAG_NUMBER}
-use Rattle.octets.specs.declared.tag.Class.TheVariants.{Universal}
+use Rattle.std.specs.Prelude.{◌≢◌, ◌≤◌, ⊤, ℕ, suc, max, map, length, List, [], ◌∷◌, ◌++◌}
+use Rattle.std.specs.List.{AllPairs, AllByRecursion}
+use Rattle.strings.specs.declared.text.TextKind.TheVariants.{Bmp}
 use Rattle.octets.specs.declared.tag.Tag.{Tag}
-use Rattle.types.specs.Shape.{Shape, tag_of, SimpleType}
+use Rattle.types.specs.Shape.{SimpleType, StringType, Requirement, required, optional, default, Shape, Components, no_component, component, Alternatives, no_alternative, alternative}
+use Rattle.types.specs.FirstTags.{HasDistinctTags}
+use Rattle.types.specs.Conforms.{Conforms}
 
--- not the tag that is kept for the end of contents (X.690 8.1.5)
-abbrev pub IsKept : Tag → Type 0
-IsKept tag = tag.class ≡ Universal → tag.number ≢ 0
+-- a type and all types within it, one that stands twice counted twice
+abbrev mutual
+  pub nodes_of : Shape → List Shape
+  nodes_of (Shape.simple tag type) = Shape.simple tag type ∷ []
+  nodes_of (Shape.string tag type) = Shape.string tag type ∷ []
+  nodes_of (Shape.sequence tag components) = Shape.sequence tag components ∷ nodes_of_components components
+  nodes_of (Shape.set tag components) = Shape.set tag components ∷ nodes_of_components components
+  nodes_of (Shape.sequence_of tag type) = Shape.sequence_of tag type ∷ nodes_of type
+  nodes_of (Shape.set_of tag type) = Shape.set_of tag type ∷ nodes_of type
+  nodes_of (Shape.choice alternatives) = Shape.choice alternatives ∷ nodes_of_alternatives alternatives
+  nodes_of (Shape.explicit tag type) = Shape.explicit tag type ∷ nodes_of type
 
--- no tag of the type is that of the end of contents
-abbrev pub HasKeptTag : Shape → Type 0
-HasKeptTag shape = IsKept (tag_of shape)
+  pub nodes_of_components : Components → List Shape
+  nodes_of_components no_component = []
+  nodes_of_components (component name type requirement others) = nodes_of type ++ nodes_of_components others
 
--- an ENUMERATED has at least one item and no more than the limit
-abbrev pub HasItemsWithin : SimpleType → Type 0
-HasItemsWithin (SimpleType.enumerated numbers) = (1 ≤ length numbers) × (length numbers ≤ MAX_ITEMS)
-HasItemsWithin _ = ⊤
+  pub nodes_of_alternatives : Alternatives → List Shape
+  nodes_of_alternatives no_alternative = []
+  nodes_of_alternatives (alternative name type others) = nodes_of type ++ nodes_of_alternatives others
 
-abbrev pub ListsWithin : Shape → Type 0
-ListsWithin (Shape.simple tag type) = HasItemsWithin type
-ListsWithin (Shape.string tag type) = ⊤
+-- how many constructed encodings nest in an encoding of the type, those of strings not counted
+abbrev mutual
+  pub levels_of : Shape → ℕ
+  levels_of (Shape.simple tag type) = 0
+  levels_of (Shape.string tag type) = 0
+  levels_of (Shape.sequence tag components) = suc (levels_of_components components)
+  levels_of (Shape.set tag components) = suc (levels_of_components components)
+  levels_of (Shape.sequence_of tag type) = suc (levels_of type)
+  levels_of (Shape.set_of tag type) = suc (levels_of type)
+  levels_of (Shape.choice alternatives) = levels_of_alternatives alternatives
+  levels_of (Shape.explicit tag type) = suc (levels_of type)
 
--- tag numbers and lists are within their limits
+  pub levels_of_components : Components → ℕ
+  levels_of_components no_component = 0
+  levels_of_components (component name type requirement others) = max (levels_of type) (levels_of_components others)
+
+  pub levels_of_alternatives : Alternatives → ℕ
+  levels_of_alternatives no_alternative = 0
+  levels_of_alternatives (alternative name type others) = max (levels_of type) (levels_of_alternatives others)
+
+abbrev pub count_of_components : Components → ℕ
+count_of_components no_component = 0
+count_of_components (component name type requirement others) = suc (count_of_components others)
+
+abbrev pub count_of_alternatives : Alternatives → ℕ
+count_of_alternatives no_alternative = 0
+count_of_alternatives (alternative name type others) = suc (count_of_alternatives others)
+
+abbrev pub IsTagWithin : Tag → Type 0
+IsTagWithin tag = tag.number ≤ 268_435_455
+
+abbrev pub AreItemsWithin : SimpleType → Type 0
+AreItemsWithin (SimpleType.enumerated items) = (1 ≤ length items) × (length items ≤ 256)
+AreItemsWithin _ = ⊤
+
+-- a node's tag number and list are within their limits
+abbrev pub IsNodeWithin : Shape → Type 0
+IsNodeWithin (Shape.simple tag type) = IsTagWithin tag × AreItemsWithin type
+IsNodeWithin (Shape.string tag type) = IsTagWithin tag
+IsNodeWithin (Shape.sequence tag components) = IsTagWithin tag × (count_of_components components ≤ 256)
+IsNodeWithin (Shape.set tag components) = IsTagWithin tag × (count_of_components components ≤ 256)
+IsNodeWithin (Shape.sequence_of tag type) = IsTagWithin tag
+IsNodeWithin (Shape.set_of tag type) = IsTagWithin tag
+IsNodeWithin (Shape.choice alternatives) = (1 ≤ count_of_alternatives alternatives) × (count_of_alternatives alternatives ≤ 256)
+IsNodeWithin (Shape.explicit tag type) = IsTagWithin tag
+
 pub record KeepsLimits (shape : Shape) : Type 0 where
-  pub tag : (tag_of shape).number ≤ MAX_TAG_NUMBER
-  pub lists : ListsWithin shape
+  pub nodes : length (nodes_of shape) ≤ 4_096
+  pub levels : levels_of shape ≤ 60
+  pub each : AllByRecursion IsNodeWithin (nodes_of shape)
 
 -- the numbers of an ENUMERATED's items differ (X.680 clause 20)
-abbrev pub ItemsDiffer : SimpleType → Type 0
-ItemsDiffer (SimpleType.enumerated numbers) = AllPairs (λ a b. a ≢ b) numbers
-ItemsDiffer _ = ⊤
-
 abbrev pub NumbersDiffer : Shape → Type 0
-NumbersDiffer (Shape.simple tag type) = ItemsDiffer type
-NumbersDiffer (Shape.string tag type) = ⊤
+NumbersDiffer (Shape.simple tag (SimpleType.enumerated items)) = AllPairs (λ a b. a ≢ b) (map (λ item. item.number) items)
+NumbersDiffer _ = ⊤
 
+-- the types that take a DEFAULT in this profile, seen through explicit tags
+abbrev pub TakesDefault : Shape → Type 0
+TakesDefault (Shape.simple tag SimpleType.boolean) = ⊤
+TakesDefault (Shape.simple tag SimpleType.integer) = ⊤
+TakesDefault (Shape.simple tag (SimpleType.enumerated items)) = ⊤
+TakesDefault (Shape.string tag StringType.bit_string) = ⊤
+TakesDefault (Shape.string tag StringType.octet_string) = ⊤
+TakesDefault (Shape.string tag (StringType.text Bmp)) = ⊥
+TakesDefault (Shape.string tag (StringType.text kind)) = ⊤
+TakesDefault (Shape.explicit tag type) = TakesDefault type
+TakesDefault _ = ⊥
+
+abbrev pub IsGoodDefault : Shape → Requirement → Type 0
+IsGoodDefault type required = ⊤
+IsGoodDefault type optional = ⊤
+IsGoodDefault type (default value) = TakesDefault type × Conforms type value
+
+abbrev pub AreGoodDefaults : Components → Type 0
+AreGoodDefaults no_component = ⊤
+AreGoodDefaults (component name type requirement others) = IsGoodDefault type requirement × AreGoodDefaults others
+
+-- each default of a node's components is a value of a type that takes one
+abbrev pub HasGoodDefaults : Shape → Type 0
+HasGoodDefaults (Shape.sequence tag components) = AreGoodDefaults components
+HasGoodDefaults (Shape.set tag components) = AreGoodDefaults components
+HasGoodDefaults _ = ⊤
+
+-- each field is said of the type and of all types within it
 pub record IsWellFormed (shape : Shape) : Type 0 where
-  pub tags : HasKeptTag shape
   pub limits : KeepsLimits shape
-  pub numbers : NumbersDiffer shape
+  pub tags : AllByRecursion HasDistinctTags (nodes_of shape)
+  pub numbers : AllByRecursion NumbersDiffer (nodes_of shape)
+  pub defaults : AllByRecursion HasGoodDefaults (nodes_of shape)

@@ -1,68 +1,59 @@
 //! The items of an ENUMERATED (X.680 clause 20).
 
-ghost use Rattle.std.specs.Prelude.{◌≢◌, ◌↔◌, AllPairs, Contains, map, IsTrue};
+ghost use Rattle.std.specs.Prelude.{◌≢◌, ◌↔◌, AllPairs, ◌≤◌, Contains, map, length, IsTrue};
+ghost use Rattle.types.specs.Judging.{HasFewItems};
 ghost use Rattle.types.specs.View.{ty_view};
-ghost use Rattle.types.specs.WellFormed.{ListsWithin, NumbersDiffer};
+ghost use Rattle.types.specs.WellFormed.{NumbersDiffer};
 
-use crate::{Item, MAX_ITEMS, Ty};
+use crate::{Item, MAX_LIST, Ty};
 
-// Whether an ENUMERATED has 1 to 256 items.
-pub fn lists_are_within(ty: &Ty) -> bool
-    ensures { IsTrue result ↔ ListsWithin (ty_view ty.now) }
-{
-    match ty {
-        Ty::Enumerated(_, items) => !items.is_empty() && items.len() <= MAX_ITEMS,
-        Ty::Boolean(_) => true,
-        Ty::Integer(_) => true,
-        Ty::Null(_) => true,
-        Ty::Oid(_) => true,
-        Ty::RelativeOid(_) => true,
-        Ty::Bits(_) => true,
-        Ty::Octets(_) => true,
-        Ty::Text(_, _) => true,
-        Ty::Time(_, _) => true,
-    }
-}
-
-// Whether the items of an ENUMERATED have a number each of their own.
+// Whether the items of an ENUMERATED have a number each of their own. Of more items than the limit
+// allows nothing is asked here.
 pub fn numbers_differ(ty: &Ty) -> bool
-    ensures { IsTrue result ↔ NumbersDiffer (ty_view ty.now) }
+    ensures { IsTrue result ↔ (HasFewItems (ty_view ty.now) → NumbersDiffer (ty_view ty.now)) }
 {
     match ty {
-        Ty::Enumerated(_, items) => all_differ(items.as_slice()),
-        Ty::Boolean(_) => true,
-        Ty::Integer(_) => true,
-        Ty::Null(_) => true,
-        Ty::Oid(_) => true,
-        Ty::RelativeOid(_) => true,
-        Ty::Bits(_) => true,
-        Ty::Octets(_) => true,
-        Ty::Text(_, _) => true,
-        Ty::Time(_, _) => true,
+        Ty::Enumerated(_, items) => items.len() > MAX_LIST || all_differ(items),
+        Ty::Boolean(_) | Ty::Integer(_) | Ty::Null(_) => true,
+        Ty::Oid(_) | Ty::RelativeOid(_) => true,
+        Ty::Bits(_) | Ty::Octets(_) | Ty::Text(_, _) | Ty::Time(_, _) => true,
+        Ty::Sequence(_, _) | Ty::Set(_, _) | Ty::Choice(_) => true,
+        Ty::SequenceOf(_, _) | Ty::SetOf(_, _) | Ty::Explicit(_, _) => true,
     }
 }
 
 fn all_differ(items: &[Item]) -> bool
+    requires { length items.now ≤ MAX_LIST }
     ensures { IsTrue result ↔ AllPairs (λ a b. a ≢ b) (map (λ item. item.number) items.now) }
 {
-    let Some((first, others)) = items.split_first() else {
-        return true;
-    };
-    if has_number(others, &first.number) {
-        return false;
+    let mut numbers = [0; MAX_LIST];
+    for (i, item) in items.iter().enumerate() {
+        numbers[i] = item.number;
     }
-    all_differ(others)
+    differ(&mut numbers[..items.len()])
+}
+
+// Whether the numbers differ. Once they are in order, equal ones are neighbours.
+fn differ(numbers: &mut [i128]) -> bool
+    ensures { IsTrue result ↔ AllPairs (λ a b. a ≢ b) numbers.old }
+{
+    numbers.sort_unstable();
+    for i in 1..numbers.len() {
+        if numbers[i - 1] == numbers[i] {
+            return false;
+        }
+    }
+    true
 }
 
 // Whether an item has the number.
 pub fn has_number(items: &[Item], number: &i128) -> bool
     ensures { IsTrue result ↔ Contains (map (λ item. item.number) items.now) number.now }
 {
-    let Some((first, others)) = items.split_first() else {
-        return false;
-    };
-    if first.number == *number {
-        return true;
+    for item in items {
+        if item.number == *number {
+            return true;
+        }
     }
-    has_number(others, number)
+    false
 }

@@ -1,13 +1,14 @@
 //! Types and values of ASN.1, and what they are encoded as (X.680, and X.690 clauses 8 to 11).
-//!
-//! The definitions of `specs/` are what every promise of the readers and writers above is made of:
-//! which types are well formed, which values conform to a type, and which octets encode a value.
 #![tactic(auto)]
 
+mod condition;
 mod conforming;
+mod defaults;
+mod distinctness;
+mod equality;
 mod items;
 mod laws;
-mod lengths;
+mod limits;
 mod oid_values;
 mod refusal;
 mod ty;
@@ -15,15 +16,24 @@ mod value;
 mod well_typed;
 
 pub use conforming::conforms;
-pub use laws::{no_encoding_begins_another, one_canonical_encoding, one_cer_encoding};
-pub use lengths::can_have_length;
+pub use laws::{
+    canonical_encodings_are_ber, encoded_values_conform, encodings_that_tie_are_equal,
+    equal_canonical_encodings_exactly_if_same, every_value_has_a_canonical_encoding,
+    no_encoding_begins_another, one_canonical_encoding, same_values_have_the_same_encodings,
+};
 pub use refusal::{Refusal, TypeFault};
-pub use ty::{Item, Ty};
+pub use ty::{Alternative, Field, Item, Presence, Ty};
 pub use value::Value;
 pub use well_typed::WellTyped;
 
-/// The most items of one ENUMERATED.
-pub const MAX_ITEMS: usize = 256;
+/// The most nodes of a type, those of all types within it counted.
+pub const MAX_NODES: usize = 4_096;
+
+/// The most levels of a type: constructed encodings that nest, those of strings not counted.
+pub const MAX_LEVELS: usize = 60;
+
+/// The most components of one SEQUENCE or SET, alternatives of one CHOICE and items of one ENUMERATED.
+pub const MAX_LIST: usize = 256;
 
 #[cfg(test)]
 mod tests;

@@ -2,7 +2,7 @@
 
 ghost use Rattle.std.specs.Prelude.{◌↔◌, IsTrue};
 ghost use Rattle.primitives.specs.Oid.{IsOidValue, IsRelativeOidValue};
-ghost use Rattle.types.specs.Conforms.{CanShare};
+ghost use Rattle.types.specs.Arcs.{CanShare};
 
 use primitives::MAX_SUBIDENTIFIERS;
 

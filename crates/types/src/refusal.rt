@@ -1,6 +1,10 @@
 //! Why octets or types are refused.
 
 use octets::NoMemory;
+use primitives::Fault;
+use std::alloc::{AllocError, AllocFailed};
+use std::error::Error;
+use std::fmt;
 
 /// Why a call over octets gave no value, or wrote none. The numbers are printed by the program and
 /// never change.
@@ -79,6 +83,20 @@ impl Refusal {
     }
 }
 
+/// Its number and its name, as `2 Identifier`.
+impl fmt::Display for Refusal {
+    ghost use Rattle.std.specs.Prelude.{Some, ◌++◌, codes, decimal};
+    ghost use Rattle.types.specs.Refusal.{refusal_number, refusal_name};
+
+    ghost output = { λ refusal. Some (decimal (refusal_number refusal) ++ codes " " ++ refusal_name refusal) };
+
+    fn fmt<W: fmt::Write>(&self, f: &mut fmt::Formatter<W>) -> fmt::Result {
+        write!(f, "{} {}", self.number(), self.name())
+    }
+}
+
+impl Error for Refusal {}
+
 impl From<NoMemory> for Refusal {
     ghost use Rattle.std.specs.Prelude.{◌≡◌};
     ghost use Rattle.types.specs.declared.refusal.Refusal.TheVariants.{NoMemory as RefusedMemory};
@@ -87,6 +105,42 @@ impl From<NoMemory> for Refusal {
 
     fn from(_refused: NoMemory) -> Refusal {
         Refusal::NoMemory
+    }
+}
+
+impl From<AllocError> for Refusal {
+    ghost use Rattle.std.specs.Prelude.{◌≡◌};
+    ghost use Rattle.types.specs.declared.refusal.Refusal.TheVariants.{NoMemory as RefusedMemory};
+
+    ghost from_gives = { λ _ refusal. refusal ≡ RefusedMemory };
+
+    fn from(_refused: AllocError) -> Refusal {
+        Refusal::from(NoMemory)
+    }
+}
+
+impl<T: Drop> From<AllocFailed<T>> for Refusal {
+    ghost use Rattle.std.specs.Prelude.{◌≡◌};
+    ghost use Rattle.types.specs.declared.refusal.Refusal.TheVariants.{NoMemory as RefusedMemory};
+
+    ghost from_gives = { λ _ refusal. refusal ≡ RefusedMemory };
+
+    fn from(_refused: AllocFailed<T>) -> Refusal {
+        Refusal::from(AllocError)
+    }
+}
+
+impl From<Fault> for Refusal {
+    ghost use Rattle.std.specs.Prelude.{◌≡◌};
+    ghost use Rattle.types.specs.OfContents.{refusal_of_fault};
+
+    ghost from_gives = { λ fault refusal. refusal ≡ refusal_of_fault fault };
+
+    fn from(fault: Fault) -> Refusal {
+        match fault {
+            Fault::Contents => Refusal::Contents,
+            Fault::NoMemory => Refusal::NoMemory,
+        }
     }
 }
 
@@ -105,6 +159,7 @@ pub enum TypeFault {
 
 impl TypeFault {
     ghost use Rattle.std.specs.Prelude.{◌≡◌};
+    ghost use Rattle.types.specs.FaultName.{type_fault_name};
     ghost use Rattle.types.specs.Refusal.{type_fault_number};
 
     /// The number of the fault: 27, 28, 30 or 31.
@@ -113,4 +168,31 @@ impl TypeFault {
     {
         self as u8
     }
+
+    /// The name of the fault, as its variant is spelt.
+    pub fn name(self) -> &'static str
+        ensures { result.now ≡ type_fault_name self }
+    {
+        match self {
+            TypeFault::RepeatedNumber => "RepeatedNumber",
+            TypeFault::TagsNotDistinct => "TagsNotDistinct",
+            TypeFault::BadDefault => "BadDefault",
+            TypeFault::TooLarge => "TooLarge",
+        }
+    }
 }
+
+/// Its number and its name, as `28 TagsNotDistinct`.
+impl fmt::Display for TypeFault {
+    ghost use Rattle.std.specs.Prelude.{Some, ◌++◌, codes, decimal};
+    ghost use Rattle.types.specs.FaultName.{type_fault_name};
+    ghost use Rattle.types.specs.Refusal.{type_fault_number};
+
+    ghost output = { λ fault. Some (decimal (type_fault_number fault) ++ codes " " ++ type_fault_name fault) };
+
+    fn fmt<W: fmt::Write>(&self, f: &mut fmt::Formatter<W>) -> fmt::Result {
+        write!(f, "{} {}", self.number(), self.name())
+    }
+}
+
+impl Error for TypeFault {}

@@ -2,10 +2,12 @@
 
 ghost use Rattle.std.specs.Prelude.{◌≡◌};
 
+use crate::Value;
 use octets::Tag;
 use strings::{TextKind, TimeKind};
 
-/// A type. Each node carries its outermost tag.
+/// A type. Each node but CHOICE carries its outermost tag.
+#[cycle(ty)]
 #[derive(Debug, PartialEq, Eq, Drop)]
 pub enum Ty {
     /// BOOLEAN.
@@ -28,6 +30,18 @@ pub enum Ty {
     Text(Tag, TextKind),
     /// UTCTime or GeneralizedTime.
     Time(Tag, TimeKind),
+    /// SEQUENCE, with its components.
+    Sequence(Tag, Vec<Field>),
+    /// SET, with its components.
+    Set(Tag, Vec<Field>),
+    /// SEQUENCE OF, with the type of its items.
+    SequenceOf(Tag, Box<Ty>),
+    /// SET OF, with the type of its items.
+    SetOf(Tag, Box<Ty>),
+    /// CHOICE, with its alternatives. It has no tag of its own.
+    Choice(Vec<Alternative>),
+    /// An explicit tag around a type.
+    Explicit(Tag, Box<Ty>),
 }
 
 /// An item of an ENUMERATED.
@@ -39,15 +53,54 @@ pub struct Item {
     pub number: i128,
 }
 
+/// A component of a SEQUENCE or SET.
+#[cycle(ty)]
+#[derive(Debug, PartialEq, Eq, Drop)]
+pub struct Field {
+    /// Its name.
+    pub name: String,
+    /// Its type.
+    pub ty: Ty,
+    /// Whether it may be absent.
+    pub presence: Presence,
+}
+
+/// Whether a component may be absent.
+#[derive(Debug, PartialEq, Eq, Drop)]
+pub enum Presence {
+    /// It stands in every value.
+    Required,
+    /// It may be absent.
+    Optional,
+    /// It may be absent, which means this value.
+    Default(Value),
+}
+
+/// An alternative of a CHOICE.
+#[cycle(ty)]
+#[derive(Debug, PartialEq, Eq, Drop)]
+pub struct Alternative {
+    /// Its name.
+    pub name: String,
+    /// Its type.
+    pub ty: Ty,
+}
+
 impl Ty {
-    ghost use Rattle.types.specs.Shape.{tag_of};
+    ghost use Rattle.std.specs.Prelude.{◌∷◌, [], ◌↔◌, IfSome, IsNone, IsTrue};
+    ghost use Rattle.types.specs.FirstTags.{first_tags};
+    ghost use Rattle.types.specs.Leaf.{IsLeaf};
+    ghost use Rattle.types.specs.Shape.{Shape, Alternatives};
     ghost use Rattle.types.specs.View.{ty_view};
 
-    /// The tag that its encodings begin with. Takes no memory.
-    pub fn tag(&self) -> Tag
-        ensures { result ≡ tag_of (ty_view self.now) }
+    /// The tag that each encoding begins with; None of a CHOICE, whose alternatives have tags of their
+    /// own. Takes no memory.
+    pub fn tag(&self) -> Option<Tag>
+        ensures value { IfSome result (λ tag. first_tags (ty_view self.now) ≡ tag ∷ []) }
+        ensures none { IsNone result → (alternatives : Alternatives) × (ty_view self.now ≡ Shape.choice alternatives) }
     {
         match self {
+            Ty::Choice(_) => None,
             Ty::Boolean(tag)
             | Ty::Integer(tag)
             | Ty::Enumerated(tag, _)
@@ -57,7 +110,37 @@ impl Ty {
             | Ty::Bits(tag)
             | Ty::Octets(tag)
             | Ty::Text(tag, _)
-            | Ty::Time(tag, _) => *tag,
+            | Ty::Time(tag, _)
+            | Ty::Sequence(tag, _)
+            | Ty::Set(tag, _)
+            | Ty::SequenceOf(tag, _)
+            | Ty::SetOf(tag, _)
+            | Ty::Explicit(tag, _) => Some(*tag),
+        }
+    }
+
+    /// Whether the type has no parts: it is no SEQUENCE, SET, SEQUENCE OF, SET OF or CHOICE, and has no
+    /// explicit tag. Takes no memory.
+    pub fn has_no_parts(&self) -> bool
+        ensures { IsTrue result ↔ IsLeaf (ty_view self.now) }
+    {
+        match self {
+            Ty::Boolean(_)
+            | Ty::Integer(_)
+            | Ty::Enumerated(_, _)
+            | Ty::Null(_)
+            | Ty::Oid(_)
+            | Ty::RelativeOid(_)
+            | Ty::Bits(_)
+            | Ty::Octets(_)
+            | Ty::Text(_, _)
+            | Ty::Time(_, _) => true,
+            Ty::Sequence(_, _)
+            | Ty::Set(_, _)
+            | Ty::SequenceOf(_, _)
+            | Ty::SetOf(_, _)
+            | Ty::Choice(_)
+            | Ty::Explicit(_, _) => false,
         }
     }
 }

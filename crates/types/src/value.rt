@@ -2,8 +2,8 @@
 
 use primitives::Bits;
 
-/// A value of some type.
-#[derive(Debug, Drop)]
+/// A value of some type. Under an explicit tag it is a value of the type within.
+#[derive(Debug, PartialEq, Eq, Drop)]
 pub enum Value {
     /// A value of BOOLEAN.
     Boolean(bool),
@@ -23,4 +23,11 @@ pub enum Value {
     Octets(Vec<u8>),
     /// The octets of a character string or a time.
     Text(Vec<u8>),
+    /// The components of a SEQUENCE or SET in order of declaration. One that is absent, or equal to
+    /// its default, is None.
+    Fields(Vec<Option<Value>>),
+    /// The items of a SEQUENCE OF or SET OF.
+    Items(Vec<Value>),
+    /// The chosen alternative of a CHOICE, counted from 0, and its value.
+    Chosen(usize, Box<Value>),
 }

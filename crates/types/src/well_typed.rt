@@ -1,14 +1,15 @@
 //! Types that are well formed.
 
-ghost use Rattle.std.specs.Prelude.{◌≡◌, ◌≢◌, ◌↔◌, IsOk, IfOk};
+ghost use Rattle.std.specs.Prelude.{◌≡◌, ◌↔◌, IsOk, IfOk};
+ghost use Rattle.std.specs.List.{AllByRecursion};
 
-use crate::items::{lists_are_within, numbers_differ};
-use crate::{Ty, TypeFault};
-use octets::{Class, MAX_TAG_NUMBER};
+use crate::condition::{Condition, each_meets};
+use crate::limits::nodes_left;
+use crate::{MAX_LEVELS, MAX_NODES, Ty, TypeFault};
 use std::marker::Model;
 
-/// A type that is well formed: no tag is universal 0, tag numbers and lists keep their limits, and the
-/// numbers of an ENUMERATED's items differ.
+/// A type that is well formed: it keeps the limits, the tags that tell its parts apart differ and none
+/// is universal 0, the numbers of an ENUMERATED differ, and each default is a value of its type.
 #[derive(Debug, Drop)]
 pub struct WellTyped {
     ty: Ty,
@@ -16,10 +17,13 @@ pub struct WellTyped {
 
 impl Model for WellTyped {
     ghost use Rattle.types.specs.declared.ty.Ty.{Ty};
+    ghost use Rattle.types.specs.contracts.ty.Ty as ty_contract;
     ghost use Rattle.types.specs.View.{ty_view};
     ghost use Rattle.types.specs.WellFormed.{IsWellFormed};
 
     ghost Value = { Ty };
+
+    ghost coded = { ty_contract.the_row.coded };
 
     ghost view = { λ w. w.ty };
 
@@ -28,28 +32,35 @@ impl Model for WellTyped {
 
 impl WellTyped {
     ghost use Rattle.types.specs.View.{ty_view};
-    ghost use Rattle.types.specs.WellFormed.{IsWellFormed, KeepsLimits, HasKeptTag, NumbersDiffer};
+    ghost use Rattle.types.specs.FirstTags.{HasDistinctTags};
+    ghost use Rattle.types.specs.WellFormed.{IsWellFormed, KeepsLimits, NumbersDiffer, HasGoodDefaults, nodes_of};
 
-    /// The type, where it is well formed. `TooLarge` says that a tag number or a list is beyond its
-    /// limit, `RepeatedNumber` that two items have one number, `TagsNotDistinct` that the tag is
-    /// universal 0. Takes no memory.
+    /// The type, where it is well formed. Of several faults it names the first of `TooLarge`,
+    /// `RepeatedNumber`, `TagsNotDistinct` and `BadDefault`.
+    ///
+    /// The nodes and levels are counted first, and no further than to the limits. On a type that keeps
+    /// them, the numbers of each ENUMERATED are put in order, each pair of tags that must differ is
+    /// compared once, and each default is looked at once: some ten million steps at most, and those
+    /// that the octets of the defaults take. Takes no memory.
     pub fn new(ty: Ty) -> Result<WellTyped, TypeFault>
         ensures value { IfOk result (λ well_typed. well_typed ≡ ty) }
         ensures exact { IsOk result ↔ IsWellFormed (ty_view ty) }
-        ensures tags { result ≡ Err TypeFault.TagsNotDistinct → ¬ HasKeptTag (ty_view ty) }
         ensures limits { result ≡ Err TypeFault.TooLarge → ¬ KeepsLimits (ty_view ty) }
-        ensures numbers { result ≡ Err TypeFault.RepeatedNumber → ¬ NumbersDiffer (ty_view ty) }
-        ensures defaults { result ≢ Err TypeFault.BadDefault }
+        ensures numbers { result ≡ Err TypeFault.RepeatedNumber → ¬ AllByRecursion NumbersDiffer (nodes_of (ty_view ty)) }
+        ensures tags { result ≡ Err TypeFault.TagsNotDistinct → ¬ AllByRecursion HasDistinctTags (nodes_of (ty_view ty)) }
+        ensures defaults { result ≡ Err TypeFault.BadDefault → ¬ AllByRecursion HasGoodDefaults (nodes_of (ty_view ty)) }
     {
-        let tag = ty.tag();
-        if tag.number > MAX_TAG_NUMBER || !lists_are_within(&ty) {
+        if nodes_left(&ty, MAX_NODES, MAX_LEVELS).is_none() || !each_meets(Condition::Limits, &ty) {
             return Err(TypeFault::TooLarge);
         }
-        if !numbers_differ(&ty) {
+        if !each_meets(Condition::Numbers, &ty) {
             return Err(TypeFault::RepeatedNumber);
         }
-        if tag.class == Class::Universal && tag.number == 0 {
+        if !each_meets(Condition::Tags, &ty) {
             return Err(TypeFault::TagsNotDistinct);
+        }
+        if !each_meets(Condition::Defaults, &ty) {
+            return Err(TypeFault::BadDefault);
         }
         Ok(WellTyped { ty })
     }

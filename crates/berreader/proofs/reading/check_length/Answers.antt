@@ -1,6 +1,6 @@
 use Rattle.std.proofs.Common.{◌≡◌, false, true, take, drop, ◌++◌, sym, ◌∙◌, subst}
 use Rattle.octets.proofs.LengthLemmas.{length_unique}
-use Rattle.types.specs.Contents.{CanHaveLength}
+use Rattle.berreader.specs.Lengths.{CanHaveLength}
 use Rattle.types.specs.View.{ty_view}
 use Rattle.octets.proofs.FrontLemmas.{front_of_more}
 use Rattle.berreader.proofs.reading.check_length.Goals as goal

@@ -5,7 +5,8 @@ use Rattle.octets.specs.Rule.{ber}
 use Rattle.types.specs.Encoding.{IsAccepted, IsSomeAccepted}
 use Rattle.types.specs.Refusal.{IsFinal}
 use Rattle.types.specs.Same.{IsSame}
-use Rattle.types.specs.Shape.{Shape, Val, tag_of}
+use Rattle.types.specs.Shape.{Shape, Val}
+use Rattle.types.specs.Leaf.{tag_of, IsLeaf}
 use Rattle.types.specs.View.{ty_view, value_view}
 use Rattle.types.specs.WellFormed.{IsWellFormed}
 use Rattle.types.specs.declared.refusal.Refusal.{Refusal}
@@ -20,16 +21,16 @@ returns-in_err-constructed-clause-truncated c = λ refused f.
     let shape = ty_view c.args.ty.now in
     let octets = c.args.octets.now in
     let known = Err-known c.from_residual.result _ _ refused c.from_residual.ensures.1 in
-    let tag : tag_of shape ≡ c.tag.result = sym (c.tag.ensures ∙ ap (λ t. tag_of (ty_view t)) c.as_type-ty.ensures.value) in
-    c.in_err-constructed.ensures.truncated (ap Err (sym known)) (subst (λ t. IsTagWithin t MAX_ENCODING 0 octets) tag (tag_of_accepted shape octets f))
+    let tag : tag_of shape ≡ c.leaf_tag.result = sym (c.leaf_tag.ensures ∙ ap (λ t. tag_of (ty_view t)) c.as_type-ty.ensures.value) in
+    c.in_err-constructed.ensures.truncated (ap Err (sym known)) (subst (λ t. IsTagWithin t MAX_ENCODING 0 octets) tag (tag_of_accepted shape c.requires octets f))
 
 pub returns-in_err-constructed-clause-never : goal.returns-in_err-constructed-clause-never
 returns-in_err-constructed-clause-never c =
     let shape = ty_view c.args.ty.now in
     let octets = c.args.octets.now in
-    let tag : tag_of shape ≡ c.tag.result = sym (c.tag.ensures ∙ ap (λ t. tag_of (ty_view t)) c.as_type-ty.ensures.value) in
+    let tag : tag_of shape ≡ c.leaf_tag.result = sym (c.leaf_tag.ensures ∙ ap (λ t. tag_of (ty_view t)) c.as_type-ty.ensures.value) in
     IfErr-from c.from_residual.result _ (λ refusal. IsFinal refusal → (more : List ℕ) → HasFront (IsSomeAccepted ber shape) (octets ++ more) → ⊥) c.from_residual.ensures.1
-    (λ refusal same final more f. c.in_err-constructed.ensures.never (subst IsFinal same final) more (subst (λ t. IsTagWithin t MAX_ENCODING 0 (octets ++ more)) tag (tag_of_accepted shape (octets ++ more) f)))
+    (λ refusal same final more f. c.in_err-constructed.ensures.never (subst IsFinal same final) more (subst (λ t. IsTagWithin t MAX_ENCODING 0 (octets ++ more)) tag (tag_of_accepted shape c.requires (octets ++ more) f)))
 
 -- what is read is the only reading
 only : (shape : Shape) (value : Value) (used : ℕ) (octets : List ℕ) → IsWellFormed shape → used ≤ length octets → IsAccepted ber shape (value_view value) (take used octets)

@@ -1,14 +1,15 @@
-use Rattle.std.proofs.Common.{◌≡◌, List, Bool, sym, ap, ◌∙◌, subst}
+use Rattle.std.proofs.Common.{◌≡◌, List, Bool, sym, ap, ◌∙◌, subst, subst₂}
 use Rattle.primitives.proofs.BitsLemmas.{bits_before-parts}
 use Rattle.types.specs.Conforms.{Conforms}
 use Rattle.types.specs.Refusal.{IsFinal}
-use Rattle.types.specs.Shape.{StringValue, Val}
+use Rattle.types.specs.Shape.{StringValue, Shape, Val}
+use Rattle.types.proofs.ViewLemmas.{ty-Bits, ty-Octets, value-Bits, value-Octets}
 use Rattle.types.specs.View.{ty_view, value_view}
 use Rattle.types.specs.declared.refusal.Refusal.{Refusal}
 use Rattle.types.specs.declared.ty.Ty.{Ty}
 use Rattle.types.specs.declared.value.Value.{Value}
 use Rattle.berreader.specs.Contents.{text_view}
-use Rattle.berreader.specs.Joined.{value_of}
+use Rattle.berreader.specs.Joined.{value_of, IsHeldFor}
 use Rattle.octets.proofs.ResultLemmas.{IfOk-map, IfErr-all}
 use Rattle.berreader.proofs.TypedLemmas.{octets_value, text_value}
 use Rattle.berreader.proofs.joined.Joined.into_value.Goals as goal
@@ -18,15 +19,8 @@ returns-in-Some-clause-value c =
     let f = c.in-Some.ensures.value in
     let bits : List Bool = c.in-Some.bits in
     let v = Val.string (StringValue.bits bits) in
-    subst (λ (t : Ty). (v ≡ value_of (ty_view t) c.args.self) × Conforms (ty_view t) v) (sym c.in-Bits.is)
+    subst₂ (λ (shape : Shape) (w : Val). (w ≡ value_of shape c.args.self) × Conforms shape w) (sym (ap ty_view c.in-Bits.is ∙ ty-Bits c.in-Bits.field-0)) (sym (value-Bits bits))
     (ap (λ x. Val.string (StringValue.bits x)) (sym (bits_before-parts c.args.self.octets.items c.args.self.unused bits f.tail f.bits_are f.tail_is)), tt)
-
-pub returns-in_default : goal.returns-in_default
-returns-in_default c = record {
-  value = octets_value c.args.ty.now c.args.self c.in_default.not-Bits c.in_default.not-Text c.in_default.not-Time c.requires.held.0 c.requires.held.1;
-  none = tt;
-  numbers = tt;
-}
 
 pub returns-in-Text-clause-value : goal.returns-in-Text-clause-value
 returns-in-Text-clause-value c =
@@ -38,3 +32,9 @@ pub returns-in-Text-clause-none : goal.returns-in-Text-clause-none
 returns-in-Text-clause-none c =
     IfErr-all c.text_of.result (λ (refusal : Refusal). IsFinal refusal → Conforms (ty_view c.args.ty.now) (value_of (ty_view c.args.ty.now) c.args.self) → ⊥)
     (λ err refusal final conforms. c.text_of.ensures.none err (subst (Conforms (ty_view c.args.ty.now)) (sym (text_value c.args.ty.now c.args.self c.in-Text.is)) conforms))
+
+pub returns-in-Octets-clause-value : goal.returns-in-Octets-clause-value
+returns-in-Octets-clause-value c =
+    let shape = ap ty_view c.in-Octets.is in
+    let held = subst (λ (s : Shape). IsHeldFor s c.args.self) shape c.requires.held in
+    subst₂ (λ (s : Shape) (w : Val). (w ≡ value_of s c.args.self) × Conforms s w) (sym shape) (sym (value-Octets c.args.self.octets)) (octets_value c.in-Octets.field-0 c.args.self held)
