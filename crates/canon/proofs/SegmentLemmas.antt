@@ -1,6 +1,5 @@
 -- Lemmas on the segments of octets.
-use Rattle.std.proofs.Common.{◌≡◌, ℕ, ◌+◌, ◌*◌, ◌-◌, ◌/◌, ◌^◌, ◌≤◌, ◌⊎◌, inl, inr, take, drop, append-nil, List, zero, suc, [], ◌∷◌, ◌++◌, true, false, length, refl, sym, ap, subst, arith, length-append}
-use Rattle.std.specs.List.{AllByRecursion, concat}
+use Rattle.std.proofs.Common.{◌≡◌, ℕ, ◌+◌, ◌*◌, ◌-◌, ◌/◌, ◌^◌, ◌≤◌, ◌⊎◌, inl, inr, take, drop, List, zero, suc, [], ◌∷◌, ◌++◌, true, false, length, refl, ap, subst, arith, length-append}
 use Rattle.std.proofs.lemmas.Bool.{cases_lt}
 use Rattle.std.proofs.lemmas.List.{take-append-drop, length-take-le, length-drop}
 use Rattle.octets.specs.declared.TheConstants.{MAX_TAG_NUMBER}
@@ -9,10 +8,7 @@ use Rattle.octets.specs.Length.{IsShortestLength}
 use Rattle.octets.specs.Rule.{cer}
 use Rattle.octets.proofs.IdentifierOctetsLemmas.{IsIdentifier-size_low, identifier}
 use Rattle.octets.proofs.SizeLemmas.{long_length_size}
-use Rattle.types.specs.Depth.{IsNested}
-use Rattle.types.specs.WellFormed.{IsKept}
-use Rattle.types.specs.Form.{IsPrimitive, IsIndefinite}
-use Rattle.types.proofs.CanonicalLemmas.{nested_canonical}
+use Rattle.types.specs.Form.{IsPrimitive}
 use Rattle.types.proofs.FormLemmas.{length-definite}
 use Rattle.canon.proofs.PrimitiveLemmas.{primitive_exists}
 use Rattle.canon.specs.Segments.{AreSegmentsOf, IsCutOf, IsWholeString, IsCutString}
@@ -133,17 +129,3 @@ string_exists tag segment whole lead string kept low same small =
           let p = primitive_exists tag (lead ++ string) kept (omega (arith, short, wide)) in
           (p.0, inl (record { short = short; primitive = p.1 }))
     ]
-
--- the segments nest nothing
-segment_parts : (n : ℕ) (segment : Tag) (whole lead string octets : List ℕ) → IsKept segment → AreSegmentsOf segment whole lead string octets → (parts : List (List ℕ)) × AllByRecursion (IsNested n) parts × (octets ≡ concat parts)
-segment_parts n segment whole lead string octets kept (AreSegmentsOf.last s b some few p) = (b ∷ [], (nested_canonical n segment (lead ++ s) b kept p, tt), sym (append-nil b))
-segment_parts n segment whole lead string octets kept (AreSegmentsOf.more {others = others} {rest = rest} s b here p later) =
-    let parts = segment_parts n segment whole lead others rest kept later in
-    (b ∷ parts.0, (nested_canonical n segment (whole ++ s) b kept p, parts.1), ap (λ x. b ++ x) parts.2)
-
--- a cut string nests one constructed encoding
-pub nested_cut : (n : ℕ) (tag segment : Tag) (whole lead string octets : List ℕ) → IsKept tag → IsKept segment → IsCutOf tag segment whole lead string octets → IsNested (suc n) octets
-unfolding IsNested
-nested_cut n tag segment whole lead string octets kept other h =
-    let parts = segment_parts n segment whole lead string h.segments_octets other h.segments in
-    inr record { tag = tag; kept = kept; parts = parts.0; each = parts.1; whole = inr (subst (λ x. IsIndefinite tag x octets) parts.2 h.constructed) }

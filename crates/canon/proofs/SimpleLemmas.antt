@@ -1,71 +1,69 @@
--- Lemmas on the values whose encodings are primitive.
-use Rattle.std.proofs.Common.{◌≡◌, ℕ, List, refl, sym, ◌∙◌, ap, subst, vec_items}
+-- Lemmas on values whose encodings are primitive.
+use Rattle.std.proofs.Common.{◌≡◌, ◌≤◌, ◌∙◌, ◌^◌, ℕ, List, ◌++◌, false, length, refl, sym, ap, subst, arith, append_assoc}
+use Rattle.octets.specs.declared.TheConstants.{MAX_TAG_NUMBER}
 use Rattle.octets.specs.declared.tag.Tag.{Tag}
-use Rattle.octets.specs.Rule.{der}
-use Rattle.octets.proofs.RuleLemmas.{der_is_canonical}
-use Rattle.primitives.specs.Boolean.{IsBoolean}
-use Rattle.primitives.specs.Integer.{IsInteger}
-use Rattle.primitives.specs.Oid.{IsOid, IsRelativeOid}
-use Rattle.primitives.proofs.BitsLemmas.{one_canonical_bits}
-use Rattle.primitives.proofs.BooleanLemmas.{one_canonical_boolean}
-use Rattle.primitives.proofs.IntegerLemmas.{one_integer_encoding}
-use Rattle.primitives.proofs.OidLemmas.{one_oid_encoding, one_relative_oid_encoding}
-use Rattle.types.specs.declared.value.Value.{Value}
-use Rattle.types.specs.declared.value.Value.TheVariants.{Boolean, Integer, Enumerated, Null, Oid, RelativeOid, Bits, Octets, Text}
-use Rattle.types.specs.Shape.{SimpleType, SimpleValue, Shape, Val}
-use Rattle.types.specs.View.{value_view}
-use Rattle.types.specs.Conforms.{Conforms}
+use Rattle.octets.specs.Front.{Appends}
+use Rattle.octets.specs.Identifier.{IsIdentifier}
+use Rattle.octets.specs.Length.{IsShortestLength}
+use Rattle.octets.specs.Rule.{Rule, der, IsCanonical}
+use Rattle.octets.proofs.RuleLemmas.{cer_is_canonical, der_is_canonical}
+use Rattle.types.specs.Shape.{SimpleType, SimpleValue, Val}
 use Rattle.types.specs.Contents.{IsContents}
-use Rattle.canon.specs.Primitive.{IsContentsOf}
+use Rattle.types.specs.Form.{IsPrimitive}
+use Rattle.types.proofs.CanonicalLemmas.{primitive_by_cer, primitive_by_der}
+use Rattle.types.proofs.ContentsExistenceLemmas.{simple_contents}
+use Rattle.canon.specs.declared.rule.CanonicalRule.{CanonicalRule}
+use Rattle.canon.specs.declared.rule.CanonicalRule.TheVariants.{Cer, Der}
+use Rattle.canon.specs.Rule.{rule_of}
+use Rattle.canon.specs.Leaf.{IsContentsOf, IsSimple, IsWithin, IsSimplyEncoded}
+use Rattle.canon.specs.Size.{HasSize}
+use Rattle.canon.proofs.PrimitiveLemmas.{primitive_exists}
+use Rattle.canon.proofs.StringSizeLemmas.{SizesPrimitive}
 
--- the contents octets are those of the value under DER
-pub record HoldsSimple (type : SimpleType) (v : Val) (contents : List ℕ) : Type 0 where
-  pub value : SimpleValue
-  pub is : v ≡ Val.simple value
-  pub spelt : IsContents der type value contents
+pub rule_is_canonical : (rule : CanonicalRule) → IsCanonical (rule_of rule)
+rule_is_canonical Cer = cer_is_canonical
+rule_is_canonical Der = der_is_canonical
 
-pub simple_contents : (tag : Tag) (type : SimpleType) (value : Value) (contents : List ℕ) → Conforms (Shape.simple tag type) (value_view value) → IsContentsOf value contents → HoldsSimple type (value_view value) contents
-simple_contents tag SimpleType.boolean (Boolean truth) contents conforms h = record { value = SimpleValue.boolean truth; is = refl; spelt = record { truth = truth; is = refl; spelt = h } }
-simple_contents tag SimpleType.integer (Integer number) contents conforms h = record { value = SimpleValue.integer number; is = refl; spelt = record { number = number; is = refl; spelt = h } }
-simple_contents tag (SimpleType.enumerated numbers) (Enumerated number) contents conforms h = record { value = SimpleValue.enumerated number; is = refl; spelt = record { number = number; is = refl; spelt = h } }
-simple_contents tag SimpleType.null Null contents conforms h = record { value = SimpleValue.null; is = refl; spelt = record { is = refl; spelt = h } }
-simple_contents tag SimpleType.oid (Oid arcs) contents conforms h = record { value = SimpleValue.oid (vec_items arcs); is = refl; spelt = record { arcs = vec_items arcs; is = refl; spelt = h } }
-simple_contents tag SimpleType.relative_oid (RelativeOid arcs) contents conforms h = record { value = SimpleValue.relative_oid (vec_items arcs); is = refl; spelt = record { arcs = vec_items arcs; is = refl; spelt = h } }
-simple_contents tag type value contents conforms h = absurd conforms
+-- CER and DER have the same primitive encodings
+primitive_to_der : (rule : CanonicalRule) (tag : Tag) (contents octets : List ℕ) → IsPrimitive (rule_of rule) tag contents octets → IsPrimitive der tag contents octets
+primitive_to_der Cer tag contents octets h = primitive_by_der tag contents octets h
+primitive_to_der Der tag contents octets h = h
 
--- and the value has them
-pub contents_of_simple : (tag : Tag) (type : SimpleType) (value : Value) (v : SimpleValue) (contents : List ℕ) → Conforms (Shape.simple tag type) (value_view value) → value_view value ≡ Val.simple v → IsContents der type v contents → IsContentsOf value contents
-contents_of_simple tag SimpleType.boolean (Boolean truth) v contents conforms is h =
-    let whole : Val.simple (SimpleValue.boolean truth) ≡ Val.simple (SimpleValue.boolean h.truth) = is ∙ ap Val.simple h.is in
-    let same : h.truth ≡ truth = cc whole in
-    subst (λ t. IsBoolean der t contents) same h.spelt
-contents_of_simple tag SimpleType.integer (Integer number) v contents conforms is h =
-    let whole : Val.simple (SimpleValue.integer number) ≡ Val.simple (SimpleValue.integer h.number) = is ∙ ap Val.simple h.is in
-    let same : h.number ≡ number = cc whole in
-    subst (λ n. IsInteger n contents) same h.spelt
-contents_of_simple tag (SimpleType.enumerated numbers) (Enumerated number) v contents conforms is h =
-    let whole : Val.simple (SimpleValue.enumerated number) ≡ Val.simple (SimpleValue.enumerated h.number) = is ∙ ap Val.simple h.is in
-    let same : h.number ≡ number = cc whole in
-    subst (λ n. IsInteger n contents) same h.spelt
-contents_of_simple tag SimpleType.null Null v contents conforms is h = h.spelt
-contents_of_simple tag SimpleType.oid (Oid arcs) v contents conforms is h =
-    let whole : Val.simple (SimpleValue.oid (vec_items arcs)) ≡ Val.simple (SimpleValue.oid h.arcs) = is ∙ ap Val.simple h.is in
-    let same : h.arcs ≡ vec_items arcs = cc whole in
-    subst (λ a. IsOid a contents) same h.spelt
-contents_of_simple tag SimpleType.relative_oid (RelativeOid arcs) v contents conforms is h =
-    let whole : Val.simple (SimpleValue.relative_oid (vec_items arcs)) ≡ Val.simple (SimpleValue.relative_oid h.arcs) = is ∙ ap Val.simple h.is in
-    let same : h.arcs ≡ vec_items arcs = cc whole in
-    subst (λ a. IsRelativeOid a contents) same h.spelt
-contents_of_simple tag type value v contents conforms is h = absurd conforms
+primitive_from_der : (rule : CanonicalRule) (tag : Tag) (contents octets : List ℕ) → IsPrimitive der tag contents octets → IsPrimitive (rule_of rule) tag contents octets
+primitive_from_der Cer tag contents octets h = primitive_by_cer tag contents octets h
+primitive_from_der Der tag contents octets h = h
 
--- a value has one sequence of contents octets
-pub one_contents_of : (value : Value) (c d : List ℕ) → IsContentsOf value c → IsContentsOf value d → c ≡ d
-one_contents_of (Boolean truth) c d h k = one_canonical_boolean der der truth c d der_is_canonical der_is_canonical h k
-one_contents_of (Integer number) c d h k = one_integer_encoding number c d h k
-one_contents_of (Enumerated number) c d h k = one_integer_encoding number c d h k
-one_contents_of Null c d h k = h ∙ sym k
-one_contents_of (Oid arcs) c d h k = one_oid_encoding (vec_items arcs) c d h k
-one_contents_of (RelativeOid arcs) c d h k = one_relative_oid_encoding (vec_items arcs) c d h k
-one_contents_of (Bits bits) c d h k = one_canonical_bits der der bits c d der_is_canonical der_is_canonical h k
-one_contents_of (Octets octets) c d h k = h ∙ sym k
-one_contents_of (Text octets) c d h k = h ∙ sym k
+-- identifier octets, length octets and contents octets that were appended
+pub simple_made : (rule : CanonicalRule) (tag : Tag) (v : Val) (n : ℕ) (old one two new : List ℕ) → Appends (IsIdentifier tag false) old one → Appends (IsShortestLength n) one two → Appends (IsContentsOf (rule_of rule) v) two new
+    → ((contents : List ℕ) → IsContentsOf (rule_of rule) v contents → length contents ≡ n) → Appends (IsSimplyEncoded (rule_of rule) tag v) old new
+simple_made rule tag v n old one two new front size contents count =
+    let whole = front.0 ++ (size.0 ++ contents.0) in
+    let sized : IsShortestLength (length contents.0) size.0 = subst (λ k. IsShortestLength k size.0) (sym (count contents.0 contents.2)) size.2 in (
+      whole,
+      contents.1 ∙ ap (λ x. x ++ contents.0) (size.1 ∙ ap (λ x. x ++ size.0) front.1) ∙ append_assoc (old ++ front.0) size.0 contents.0 ∙ append_assoc old front.0 (size.0 ++ contents.0),
+      record { contents = contents.0; spelt = contents.2; primitive = primitive_from_der rule tag contents.0 whole record { identifier = front.0; size = size.0; tagged = front.2; sized = sized; joined = refl } },
+    )
+
+-- some contents octets
+within_contents : (rule : Rule) (value : SimpleValue) → IsCanonical rule → IsWithin value → (contents : List ℕ) × IsContents rule value contents
+within_contents rule (SimpleValue.boolean truth) canonical h = let made = simple_contents rule SimpleType.boolean (SimpleValue.boolean truth) canonical h in (made.0, made.1)
+within_contents rule (SimpleValue.integer number) canonical h = let made = simple_contents rule SimpleType.integer (SimpleValue.integer number) canonical h in (made.0, made.1)
+within_contents rule (SimpleValue.enumerated number) canonical h = let made = simple_contents rule SimpleType.integer (SimpleValue.integer number) canonical h in (made.0, made.1)
+within_contents rule SimpleValue.null canonical h = let made = simple_contents rule SimpleType.null SimpleValue.null canonical h in (made.0, made.1)
+within_contents rule (SimpleValue.oid arcs) canonical h = let made = simple_contents rule SimpleType.oid (SimpleValue.oid arcs) canonical h in (made.0, made.1)
+within_contents rule (SimpleValue.relative_oid arcs) canonical h = let made = simple_contents rule SimpleType.relative_oid (SimpleValue.relative_oid arcs) canonical h in (made.0, made.1)
+
+contents_there : (rule : CanonicalRule) (v : Val) → IsSimple v → (contents : List ℕ) × IsContentsOf (rule_of rule) v contents
+contents_there rule (Val.simple value) h = within_contents (rule_of rule) value (rule_is_canonical rule) h
+contents_there rule v h = elim h [ ]
+
+pub simple_size : (rule : CanonicalRule) (tag : Tag) (v : Val) (n size : ℕ) → tag.number ≤ MAX_TAG_NUMBER → IsSimple v → n ≤ 2451 → ((contents : List ℕ) → IsContentsOf (rule_of rule) v contents → length contents ≡ n) → SizesPrimitive tag n size
+    → HasSize (IsSimplyEncoded (rule_of rule) tag v) size
+simple_size rule tag v n size kept simple few count sizes = record {
+  each = λ octets h. sizes h.contents octets (omega (arith, count h.contents h.spelt, few)) (primitive_to_der rule tag h.contents octets h.primitive);
+  there = λ within.
+      let some = contents_there rule v simple in
+      let wide : 2 ^ 64 ≡ 18446744073709551616 = refl in
+      let p = primitive_exists tag some.0 kept (omega (arith, count some.0 some.1, few, wide)) in
+      (p.0, record { contents = some.0; spelt = some.1; primitive = primitive_from_der rule tag some.0 p.0 (primitive_by_der tag some.0 p.0 p.1) });
+}

@@ -1,9 +1,8 @@
 -- Strings under CER by the octets that they are made of (X.690 9.2): those of an OCTET STRING, and those
 -- of a BIT STRING after a count of unused bits, which each segment has and none but the last uses.
 use Rattle.std.specs.Prelude.{◌≡◌, ◌⊎◌, ℕ, ◌≤◌, ◌<◌, List, ◌++◌, length}
-use Rattle.octets.specs.declared.TheConstants.{MAX_ENCODING}
 use Rattle.octets.specs.declared.tag.Tag.{Tag}
-use Rattle.octets.specs.Rule.{cer}
+use Rattle.octets.specs.Rule.{Rule, ber, cer, der}
 use Rattle.types.specs.Form.{IsPrimitive, IsIndefinite}
 use Rattle.types.specs.Strings.{segment_octets}
 
@@ -29,7 +28,8 @@ pub record IsCutString (tag segment : Tag) (whole lead string octets : List ℕ)
   pub long : segment_octets < length (lead ++ string)
   pub cut : IsCutOf tag segment whole lead string octets
 
--- an encoding of the string within the limit
-abbrev pub IsStringWithin : Tag → Tag → List ℕ → List ℕ → List ℕ → List ℕ → Type 0
-IsStringWithin tag segment whole lead string octets =
-    (IsWholeString tag lead string octets ⊎ IsCutString tag segment whole lead string octets) × (length octets ≤ MAX_ENCODING)
+-- an encoding of the string; under DER it is primitive, however long (10.2)
+abbrev pub IsStringOf : Rule → Tag → Tag → List ℕ → List ℕ → List ℕ → List ℕ → Type 0
+IsStringOf ber tag segment whole lead string octets = ⊥
+IsStringOf cer tag segment whole lead string octets = IsWholeString tag lead string octets ⊎ IsCutString tag segment whole lead string octets
+IsStringOf der tag segment whole lead string octets = IsPrimitive der tag (lead ++ string) octets

@@ -3,31 +3,27 @@
 ghost use Rattle.octets.specs.Rule.{cer};
 
 use crate::Canon;
-use crate::contents::put_simple;
-use crate::segments::put_string;
-use octets::{Class, Tag};
+use crate::put::put_within;
+use crate::rule::CanonicalRule;
 use std::alloc::Global;
 use types::{Refusal, Value, WellTyped};
-
-// The tags of segments, whatever the tag of the string (X.690 8.6.4 and 8.7.3).
-const BIT_SEGMENT: Tag = Tag {
-    class: Class::Universal,
-    number: 3,
-};
-
-const OCTET_SEGMENT: Tag = Tag {
-    class: Class::Universal,
-    number: 4,
-};
 
 /// Writes CER.
 #[derive(Clone, Copy, Debug, PartialEq, Eq)]
 pub struct Cer;
 
 impl Canon for Cer {
+    ghost use Rattle.octets.proofs.RuleLemmas.{cer_is_canonical};
+    ghost use Rattle.types.proofs.OneEncodingLemmas.{one_canonical};
+    ghost use Rattle.types.proofs.SameExactlyLemmas.{equal_exactly_if_same as exactly_if_same};
+
     ghost rule = { cer };
 
-    // Only strings of more than 1000 contents octets are constructed (X.690 9.1 and 9.2).
+    ghost one_spelling = { λ shape v a b well h g. one_canonical cer shape v a b well cer_is_canonical h g };
+
+    ghost equal_exactly_if_same = { λ shape v w a b well h g.
+        exactly_if_same cer shape v w a b well cer_is_canonical h g };
+
     fn put(
         &self,
         alloc: Global,
@@ -35,13 +31,6 @@ impl Canon for Cer {
         value: &Value,
         out: &mut Vec<u8>,
     ) -> Result<(), Refusal> {
-        let tag = ty.as_type().tag();
-        if let Value::Octets(octets) | Value::Text(octets) = value {
-            return put_string(tag, OCTET_SEGMENT, &[], &[], octets.as_slice(), out);
-        }
-        if let Value::Bits(bits) = value {
-            return put_string(tag, BIT_SEGMENT, &[0], &[bits.unused()], bits.octets(), out);
-        }
-        put_simple(alloc, tag, value, out)
+        put_within(alloc, CanonicalRule::Cer, ty, value, out)
     }
 }

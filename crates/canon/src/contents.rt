@@ -1,53 +1,138 @@
-//! Values that have the same encoding under CER and DER, a primitive one of few octets.
+//! Contents octets of the values whose encodings are primitive.
 
-ghost use Rattle.std.specs.Prelude.{◌≡◌, ◌≤◌, ◌↔◌, ℕ, List, OnOk, OnErr, IfErr};
-ghost use Rattle.octets.specs.declared.TheConstants.{MAX_TAG_NUMBER};
+ghost use Rattle.std.specs.Prelude.{◌≡◌, ◌≤◌, ◌<◌, ◌*◌, ◌^◌, ◌∷◌, ℕ, List, length, Bool, All, OnOk};
+ghost use Rattle.octets.specs.Base128.{IsBase128};
 ghost use Rattle.octets.specs.Front.{Appends};
-ghost use Rattle.types.specs.Refusal.{IsOfWriting};
-ghost use Rattle.canon.specs.Primitive.{HasArcs, IsContentsOf, IsSmall, IsSimplyWithin};
+ghost use Rattle.primitives.specs.Integer.{IsInteger, number_at};
+ghost use Rattle.primitives.specs.Oid.{AreSubidentifiers, IsOid, IsOidValue, IsRelativeOid, IsRelativeOidValue};
+ghost use Rattle.types.specs.View.{value_view};
+ghost use Rattle.canon.specs.Rule.{rule_of};
+ghost use Rattle.canon.specs.Leaf.{IsContentsOf, IsSimple};
 
-use crate::primitive::put_primitive;
-use octets::{NoMemory, Tag};
-use primitives::{put_bits, put_boolean, put_integer, put_null, put_oid, put_relative_oid};
-use std::alloc::Global;
-use types::{Refusal, Value};
+use crate::rule::CanonicalRule;
+use octets::NoMemory;
+use primitives::{put_boolean, put_integer, put_null, put_oid, put_relative_oid};
+use types::Value;
 
-// Appends the primitive encoding of a value under `tag`.
-pub(crate) fn put_simple(
-    alloc: Global,
-    tag: Tag,
+// Appends the contents octets of a value, which are the same under both rules.
+pub(crate) fn put_contents(
+    rule: CanonicalRule,
     value: &Value,
     out: &mut Vec<u8>,
-) -> Result<(), Refusal>
-    requires tag { tag.number ≤ MAX_TAG_NUMBER }
-    requires small { IsSmall value.now }
-    ensures appended { OnOk result (Appends (IsSimplyWithin tag value.now) out.old.items out.new.items) }
-    ensures unchanged { OnErr result (out.new.items ≡ out.old.items) }
-    ensures too_long { (result ≡ Err Refusal.OutputTooLong) ↔
-        ((b : List ℕ) → ¬ IsSimplyWithin tag value.now b) }
-    ensures numbers { IfErr result IsOfWriting }
+) -> Result<(), NoMemory>
+    requires { IsSimple (value_view value.now) }
+    ensures { OnOk result
+        (Appends (IsContentsOf (rule_of rule) (value_view value.now)) out.old.items out.new.items) }
 {
-    let mut contents = Vec::new(alloc);
-    match put_contents(value, &mut contents) {
-        Ok(()) => put_primitive(tag, &[], contents.as_slice(), out),
-        Err(NoMemory) => Err(Refusal::NoMemory),
+    let _ = rule;
+    match value {
+        Value::Boolean(truth) => put_boolean(out, *truth),
+        Value::Integer(number) | Value::Enumerated(number) => put_integer(out, *number),
+        Value::Null => put_null(out),
+        Value::Oid(arcs) => put_oid(out, arcs.as_slice()),
+        Value::RelativeOid(arcs) => put_relative_oid(out, arcs.as_slice()),
+        Value::Bits(_)
+        | Value::Octets(_)
+        | Value::Text(_)
+        | Value::Fields(_)
+        | Value::Items(_)
+        | Value::Chosen(..) => unreachable!(),
     }
 }
 
-// Appends the contents octets of a value's primitive encoding.
-fn put_contents(value: &Value, contents: &mut Vec<u8>) -> Result<(), NoMemory>
-    requires { HasArcs value.now }
-    ensures appended { OnOk result (Appends (IsContentsOf value.now) contents.old.items contents.new.items) }
+// How many contents octets the value has.
+pub(crate) fn size_of_contents(rule: CanonicalRule, value: &Value) -> usize
+    requires { IsSimple (value_view value.now) }
+    ensures size { (contents : List ℕ) → IsContentsOf (rule_of rule) (value_view value.now) contents →
+        length contents ≡ result }
+    ensures at_most { result ≤ 2451 }
 {
+    let _ = rule;
     match value {
-        Value::Boolean(truth) => put_boolean(contents, *truth),
-        Value::Integer(number) | Value::Enumerated(number) => put_integer(contents, *number),
-        Value::Null => put_null(contents),
-        Value::Oid(arcs) => put_oid(contents, arcs.as_slice()),
-        Value::RelativeOid(arcs) => put_relative_oid(contents, arcs.as_slice()),
-        Value::Bits(bits) => put_bits(contents, bits),
-        Value::Octets(octets) | Value::Text(octets) => Ok(contents.extend_from_slice(
-            octets.as_slice(),
-        )?),
+        Value::Boolean(_) => 1,
+        Value::Integer(number) | Value::Enumerated(number) => size_of_integer(*number),
+        Value::Null => 0,
+        Value::Oid(arcs) => size_of_oid(arcs.as_slice()),
+        Value::RelativeOid(arcs) => size_of_relative_oid(arcs.as_slice()),
+        Value::Bits(_)
+        | Value::Octets(_)
+        | Value::Text(_)
+        | Value::Fields(_)
+        | Value::Items(_)
+        | Value::Chosen(..) => unreachable!(),
     }
+}
+
+// The same of an INTEGER.
+fn size_of_integer(number: i128) -> usize
+    ensures size { (contents : List ℕ) → IsInteger number contents → length contents ≡ result }
+    ensures at_most { result ≤ 16 }
+{
+    if number < 0 {
+        size_of_signed(true, (-1 - number) as u128)
+    } else {
+        size_of_signed(false, number as u128)
+    }
+}
+
+// The same of the number that stands `distance` above 0, or below -1.
+fn size_of_signed(negative: bool, distance: u128) -> usize
+    requires { distance < 2 ^ 127 }
+    ensures size { (contents : List ℕ) → IsInteger (number_at negative distance) contents → length contents ≡ result }
+    ensures at_most { result ≤ 16 }
+{
+    let _ = negative;
+    let mut rest = distance;
+    for size in 1..16usize {
+        if rest < 0x80 {
+            return size;
+        }
+        rest /= 256;
+    }
+    16
+}
+
+// The same of an OBJECT IDENTIFIER.
+fn size_of_oid(arcs: &[u128]) -> usize
+    requires { IsOidValue arcs.now }
+    ensures size { (contents : List ℕ) → IsOid arcs.now contents → length contents ≡ result }
+    ensures at_most { result ≤ 2451 }
+{
+    size_of_base_128(40 * arcs[0] + arcs[1]) + size_of_subidentifiers(&arcs[2..])
+}
+
+// The same of a RELATIVE-OID.
+fn size_of_relative_oid(arcs: &[u128]) -> usize
+    requires { IsRelativeOidValue arcs.now }
+    ensures size { (contents : List ℕ) → IsRelativeOid arcs.now contents → length contents ≡ result }
+    ensures at_most { result ≤ 2451 }
+{
+    size_of_subidentifiers(arcs)
+}
+
+// How many octets subidentifiers have.
+fn size_of_subidentifiers(numbers: &[u128]) -> usize
+    requires few { length numbers.now ≤ 128 }
+    ensures size { (contents : List ℕ) → AreSubidentifiers numbers.now contents → length contents ≡ result }
+    ensures at_most { result ≤ 19 * length numbers.now }
+{
+    let Some((first, others)) = numbers.split_first() else {
+        return 0;
+    };
+    size_of_base_128(*first) + size_of_subidentifiers(others)
+}
+
+// How many octets a number in base 128 has.
+fn size_of_base_128(number: u128) -> usize
+    ensures size { (octets : List ℕ) → IsBase128 number octets → length octets ≡ result }
+    ensures at_most { result ≤ 19 }
+{
+    let mut rest = number;
+    for size in 1..19usize {
+        if rest < 0x80 {
+            return size;
+        }
+        rest /= 128;
+    }
+    19
 }

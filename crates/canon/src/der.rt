@@ -3,8 +3,8 @@
 ghost use Rattle.octets.specs.Rule.{der};
 
 use crate::Canon;
-use crate::contents::put_simple;
-use crate::primitive::put_primitive;
+use crate::put::put_within;
+use crate::rule::CanonicalRule;
 use std::alloc::Global;
 use types::{Refusal, Value, WellTyped};
 
@@ -13,9 +13,17 @@ use types::{Refusal, Value, WellTyped};
 pub struct Der;
 
 impl Canon for Der {
+    ghost use Rattle.octets.proofs.RuleLemmas.{der_is_canonical};
+    ghost use Rattle.types.proofs.OneEncodingLemmas.{one_canonical};
+    ghost use Rattle.types.proofs.SameExactlyLemmas.{equal_exactly_if_same as exactly_if_same};
+
     ghost rule = { der };
 
-    // Lengths have the definite form, and strings are primitive (X.690 10.1 and 10.2).
+    ghost one_spelling = { λ shape v a b well h g. one_canonical der shape v a b well der_is_canonical h g };
+
+    ghost equal_exactly_if_same = { λ shape v w a b well h g.
+        exactly_if_same der shape v w a b well der_is_canonical h g };
+
     fn put(
         &self,
         alloc: Global,
@@ -23,13 +31,6 @@ impl Canon for Der {
         value: &Value,
         out: &mut Vec<u8>,
     ) -> Result<(), Refusal> {
-        let tag = ty.as_type().tag();
-        if let Value::Octets(octets) | Value::Text(octets) = value {
-            return put_primitive(tag, &[], octets.as_slice(), out);
-        }
-        if let Value::Bits(bits) = value {
-            return put_primitive(tag, &[bits.unused()], bits.octets(), out);
-        }
-        put_simple(alloc, tag, value, out)
+        put_within(alloc, CanonicalRule::Der, ty, value, out)
     }
 }

@@ -1,20 +1,34 @@
 //! Writers of the canonical encodings: CER and DER (X.690 clauses 9 to 11).
 //!
 //! Each gives a value one encoding. Its length is known before the vector grows, so that want of memory
-//! never hides an encoding that is too long.
+//! never hides an encoding that is too long. It is written from the last octet to the first, so that each
+//! length is known once it comes, and turned round at the end.
 #![tactic(auto)]
 
+mod back;
 mod canon;
 mod cer;
 mod contents;
 mod der;
-mod primitive;
+mod heads;
+mod leaf;
+mod parts;
+mod put;
+mod rule;
+mod sameness;
 mod segments;
+mod size_of;
 mod sizes;
+mod spans;
+mod tags;
 
 pub use canon::Canon;
 pub use cer::Cer;
 pub use der::Der;
+pub use sameness::same;
 
 /// The most contents octets of a primitive encoding of a string under CER (X.690 9.2).
 pub const SEGMENT_OCTETS: usize = 1_000;
+
+#[cfg(test)]
+mod tests;

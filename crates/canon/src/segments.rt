@@ -1,91 +1,105 @@
-//! Strings under CER, long ones in segments (X.690 9.2).
+//! Strings: one primitive encoding, or under CER a long one in segments (X.690 9.2 and 10.2).
 //!
-//! A string that needs at most 1000 contents octets is one primitive encoding. A longer one is a
-//! constructed encoding of primitive segments, each of 1000 contents octets but the last. The first
-//! contents octet of a BIT STRING segment counts unused bits, so 999 octets of it carry data.
+//! A string that needs at most 1000 contents octets is one primitive encoding. A longer one is, under
+//! CER, a constructed encoding of primitive segments, each of 1000 contents octets but the last. The
+//! first contents octet of a BIT STRING segment counts unused bits, so 999 octets of it carry data.
 //!
 //! That the last segment carries at least one octet of data is this project's own rule
 //! (`docs/PROFILE.md`, "The last segment").
 
-ghost use Rattle.std.specs.Prelude.{◌≡◌, ◌≤◌, ◌<◌, ◌↔◌, ◌++◌, ℕ, List, length, OnOk, OnErr, IfErr};
-ghost use Rattle.std.specs.Io.{StartsWith};
+ghost use Rattle.std.specs.Prelude.{◌≡◌, ◌≤◌, ◌<◌, ◌+◌, ◌^◌, ◌++◌, ℕ, List, length, OnOk};
 ghost use Rattle.octets.specs.declared.TheConstants.{MAX_ENCODING, MAX_TAG_NUMBER};
 ghost use Rattle.octets.specs.Front.{Appends};
-ghost use Rattle.types.specs.Refusal.{IsOfWriting};
-ghost use Rattle.canon.specs.Segments.{AreSegmentsOf, IsCutOf, IsStringWithin};
+ghost use Rattle.octets.specs.Rule.{cer};
+ghost use Rattle.types.specs.Form.{IsPrimitive};
+ghost use Rattle.canon.specs.Rule.{rule_of};
+ghost use Rattle.canon.specs.Segments.{AreSegmentsOf, IsCutOf, IsStringOf};
+ghost use Rattle.canon.specs.Size.{HasSize};
 
 use crate::SEGMENT_OCTETS;
-use crate::primitive::{append_primitive, put_primitive};
-use crate::sizes::size_of_cut;
-use octets::{MAX_ENCODING, NoMemory, Tag, put_identifier};
-use types::Refusal;
+use crate::rule::CanonicalRule;
+use crate::sizes::{size_of_definite, size_of_identifier, size_of_length};
+use octets::{MAX_ENCODING, NoMemory, Tag, put_identifier, put_shortest_length};
+
+// How many octets an encoding under `tag` has of a string of so many octets, after so many others that
+// its contents octets begin with.
+pub(crate) fn size_of_string(rule: CanonicalRule, tag: Tag, lead: usize, octets: usize) -> usize
+    requires tag { tag.number ≤ MAX_TAG_NUMBER }
+    requires lead { lead ≤ 1 }
+    ensures at_most { result ≤ MAX_ENCODING + 1 }
+    ensures size { (segment : Tag) (whole front string : List ℕ) → segment.number ≤ 30 →
+        length whole ≡ lead → length front ≡ lead → length string ≡ octets →
+        HasSize (IsStringOf (rule_of rule) tag segment whole front string) result }
+{
+    if octets > MAX_ENCODING {
+        return MAX_ENCODING + 1;
+    }
+    match rule {
+        CanonicalRule::Cer if octets > SEGMENT_OCTETS - lead => {
+            size_of_cut(tag, lead, octets).min(MAX_ENCODING + 1)
+        }
+        CanonicalRule::Cer => size_of_definite(tag, lead + octets),
+        CanonicalRule::Der => size_of_definite(tag, (lead + octets).min(MAX_ENCODING + 1)),
+    }
+}
+
+// The same of the constructed encoding of one that is cut.
+fn size_of_cut(tag: Tag, lead: usize, octets: usize) -> usize
+    requires tag { tag.number ≤ MAX_TAG_NUMBER }
+    requires lead { lead ≤ 1 }
+    requires some { 1 ≤ octets }
+    requires within { octets ≤ MAX_ENCODING }
+    ensures size { (segment : Tag) (whole front string b : List ℕ) → segment.number ≤ 30 →
+        length whole ≡ lead → length front ≡ lead → length string ≡ octets →
+        IsCutOf tag segment whole front string b → length b ≡ result }
+{
+    size_of_identifier(tag) + 1 + size_of_segments(lead, octets) + 2
+}
+
+// How many octets its segments have.
+fn size_of_segments(lead: usize, octets: usize) -> usize
+    requires lead { lead ≤ 1 }
+    requires some { 1 ≤ octets }
+    requires within { octets ≤ MAX_ENCODING }
+    ensures size { (segment : Tag) (whole front string b : List ℕ) → segment.number ≤ 30 →
+        length whole ≡ lead → length front ≡ lead → length string ≡ octets →
+        AreSegmentsOf segment whole front string b → length b ≡ result }
+    ensures at_most { result ≤ 2 ^ 24 }
+{
+    let room = SEGMENT_OCTETS - lead;
+    let full = (octets - 1) / room;
+    let last = lead + octets - full * room;
+    full * (1 + 3 + SEGMENT_OCTETS) + 1 + size_of_length(last) + last
+}
 
 // Appends the encoding under `tag` of a string of `octets`, after the contents octets `lead`. Segments
 // have the tag `segment`, and all but the last begin with `whole`, which is as long as `lead`.
 pub(crate) fn put_string(
+    rule: CanonicalRule,
     tag: Tag,
     segment: Tag,
     whole: &[u8],
     lead: &[u8],
     octets: &[u8],
     out: &mut Vec<u8>,
-) -> Result<(), Refusal>
+) -> Result<(), NoMemory>
     requires tag { tag.number ≤ MAX_TAG_NUMBER }
     requires segment { segment.number ≤ 30 }
     requires whole { length whole.now ≡ length lead.now }
     requires lead { length lead.now ≤ 1 }
-    ensures appended { OnOk result (Appends
-        (IsStringWithin tag segment whole.now lead.now octets.now) out.old.items out.new.items) }
-    ensures unchanged { OnErr result (out.new.items ≡ out.old.items) }
-    ensures too_long { (result ≡ Err Refusal.OutputTooLong) ↔
-        ((b : List ℕ) → ¬ IsStringWithin tag segment whole.now lead.now octets.now b) }
-    ensures numbers { IfErr result IsOfWriting }
+    ensures { OnOk result (Appends
+        (IsStringOf (rule_of rule) tag segment whole.now lead.now octets.now) out.old.items out.new.items) }
 {
-    if octets.len() <= SEGMENT_OCTETS - lead.len() {
-        put_primitive(tag, lead, octets, out)
-    } else {
-        put_cut(tag, segment, whole, lead, octets, out)
+    match rule {
+        CanonicalRule::Cer if octets.len() > SEGMENT_OCTETS - lead.len() => {
+            put_cut(tag, segment, whole, lead, octets, out)
+        }
+        CanonicalRule::Cer | CanonicalRule::Der => put_primitive(tag, lead, octets, out),
     }
 }
 
 // Appends the constructed encoding of such a string.
 fn put_cut(
-    tag: Tag,
-    segment: Tag,
-    whole: &[u8],
-    lead: &[u8],
-    octets: &[u8],
-    out: &mut Vec<u8>,
-) -> Result<(), Refusal>
-    requires tag { tag.number ≤ MAX_TAG_NUMBER }
-    requires segment { segment.number ≤ 30 }
-    requires whole { length whole.now ≡ length lead.now }
-    requires lead { length lead.now ≤ 1 }
-    requires some { 1 ≤ length octets.now }
-    ensures appended { OnOk result (Appends
-        (λ b. IsCutOf tag segment whole.now lead.now octets.now b × (length b ≤ MAX_ENCODING))
-        out.old.items out.new.items) }
-    ensures unchanged { OnErr result (out.new.items ≡ out.old.items) }
-    ensures too_long { (result ≡ Err Refusal.OutputTooLong) ↔ ((b : List ℕ) →
-        ¬ (IsCutOf tag segment whole.now lead.now octets.now b × (length b ≤ MAX_ENCODING))) }
-    ensures numbers { IfErr result IsOfWriting }
-{
-    let count = octets.len();
-    if count > MAX_ENCODING || size_of_cut(tag, lead.len(), count) > MAX_ENCODING {
-        return Err(Refusal::OutputTooLong);
-    }
-    let start = out.len();
-    match append_cut(tag, segment, whole, lead, octets, out) {
-        Ok(()) => Ok(()),
-        Err(NoMemory) => {
-            out.truncate(start);
-            Err(Refusal::NoMemory)
-        }
-    }
-}
-
-// The same, growing the vector once; a refusal may leave a part.
-fn append_cut(
     tag: Tag,
     segment: Tag,
     whole: &[u8],
@@ -98,12 +112,9 @@ fn append_cut(
     requires whole { length whole.now ≡ length lead.now }
     requires lead { length lead.now ≤ 1 }
     requires some { 1 ≤ length octets.now }
-    requires within { length octets.now ≤ MAX_ENCODING }
-    ensures appended { OnOk result (Appends
-        (IsCutOf tag segment whole.now lead.now octets.now) out.old.items out.new.items) }
-    ensures front { StartsWith out.new.items out.old.items }
+    ensures { OnOk result
+        (Appends (IsCutOf tag segment whole.now lead.now octets.now) out.old.items out.new.items) }
 {
-    out.reserve(size_of_cut(tag, lead.len(), octets.len()))?;
     put_identifier(out, tag, true)?;
     out.push(0x80)?;
     append_segments(segment, whole, lead, octets, out)?;
@@ -123,17 +134,29 @@ fn append_segments(
     requires whole { length whole.now ≡ length lead.now }
     requires lead { length lead.now ≤ 1 }
     requires some { 1 ≤ length octets.now }
-    requires within { length octets.now ≤ MAX_ENCODING }
-    ensures appended { OnOk result (Appends
-        (AreSegmentsOf segment whole.now lead.now octets.now) out.old.items out.new.items) }
-    ensures front { StartsWith out.new.items out.old.items }
+    ensures { OnOk result
+        (Appends (AreSegmentsOf segment whole.now lead.now octets.now) out.old.items out.new.items) }
 {
     let room = SEGMENT_OCTETS - lead.len();
     let mut rest = octets;
     while rest.len() > room {
         let (before, after) = rest.split_at(room);
-        append_primitive(segment, whole, before, out)?;
+        put_primitive(segment, whole, before, out)?;
         rest = after;
     }
-    append_primitive(segment, lead, rest, out)
+    put_primitive(segment, lead, rest, out)
+}
+
+// Appends the primitive encoding under `tag` whose contents octets are `lead` and then `octets`.
+fn put_primitive(tag: Tag, lead: &[u8], octets: &[u8], out: &mut Vec<u8>) -> Result<(), NoMemory>
+    requires tag { tag.number ≤ MAX_TAG_NUMBER }
+    requires lead { length lead.now ≤ 1 }
+    ensures { OnOk result
+        (Appends (IsPrimitive cer tag (lead.now ++ octets.now)) out.old.items out.new.items) }
+{
+    put_identifier(out, tag, false)?;
+    put_shortest_length(out, lead.len() + octets.len())?;
+    out.extend_from_slice(lead)?;
+    out.extend_from_slice(octets)?;
+    Ok(())
 }

@@ -1,54 +1,47 @@
-//! How many octets the parts of an encoding have.
+//! How many octets the parts of an encoding have. Sizes of whole encodings are counted up to one past
+//! the limit.
 
-ghost use Rattle.std.specs.Prelude.{◌≡◌, ◌≤◌, ◌<◌, ◌+◌, ◌^◌, ℕ, List, length, Bool};
+ghost use Rattle.std.specs.Prelude.{◌≡◌, ◌≤◌, ◌<◌, ◌+◌, ◌^◌, ℕ, List, length, Bool, min};
 ghost use Rattle.octets.specs.declared.TheConstants.{MAX_ENCODING, MAX_TAG_NUMBER};
 ghost use Rattle.octets.specs.Identifier.{IsIdentifier};
 ghost use Rattle.octets.specs.Length.{IsShortestLength};
-ghost use Rattle.octets.specs.Rule.{cer};
-ghost use Rattle.types.specs.Form.{IsPrimitive};
-ghost use Rattle.canon.specs.Segments.{AreSegmentsOf, IsCutOf};
+ghost use Rattle.octets.specs.Rule.{der};
+ghost use Rattle.types.specs.Form.{IsConstructed, IsDefinite};
+ghost use Rattle.canon.specs.Rule.{rule_of};
 
-use crate::SEGMENT_OCTETS;
-use octets::Tag;
+use crate::rule::CanonicalRule;
+use octets::{MAX_ENCODING, Tag};
 
-// How many octets the constructed encoding of a string under CER has, with segments that begin with so
-// many contents octets before those of the string.
-pub(crate) fn size_of_cut(tag: Tag, lead: usize, octets: usize) -> usize
+// How many octets the constructed encoding around so many contents octets has.
+pub(crate) fn size_of_constructed(rule: CanonicalRule, tag: Tag, contents: usize) -> usize
     requires tag { tag.number ≤ MAX_TAG_NUMBER }
-    requires lead { lead ≤ 1 }
-    requires some { 1 ≤ octets }
-    requires within { octets ≤ MAX_ENCODING }
-    ensures size { (segment : Tag) (whole front string b : List ℕ) → segment.number ≤ 30 →
-        length whole ≡ lead → length front ≡ lead → length string ≡ octets →
-        IsCutOf tag segment whole front string b → length b ≡ result }
+    requires at_most { contents ≤ MAX_ENCODING + 1 }
+    ensures at_most { result ≤ MAX_ENCODING + 1 }
+    ensures more { contents ≤ result }
+    ensures size { (inside octets : List ℕ) → contents ≡ min (length inside) (MAX_ENCODING + 1) →
+        IsConstructed (rule_of rule) tag inside octets → result ≡ min (length octets) (MAX_ENCODING + 1) }
 {
-    size_of_identifier(tag) + 1 + size_of_segments(lead, octets) + 2
+    match rule {
+        CanonicalRule::Cer => (size_of_identifier(tag) + 3 + contents).min(MAX_ENCODING + 1),
+        CanonicalRule::Der => size_of_definite(tag, contents),
+    }
 }
 
-// How many octets its segments have.
-fn size_of_segments(lead: usize, octets: usize) -> usize
-    requires lead { lead ≤ 1 }
-    requires some { 1 ≤ octets }
-    requires within { octets ≤ MAX_ENCODING }
-    ensures size { (segment : Tag) (whole front string b : List ℕ) → segment.number ≤ 30 →
-        length whole ≡ lead → length front ≡ lead → length string ≡ octets →
-        AreSegmentsOf segment whole front string b → length b ≡ result }
-    ensures at_most { result ≤ 2 ^ 24 }
-{
-    let room = SEGMENT_OCTETS - lead;
-    let full = (octets - 1) / room;
-    let last = lead + octets - full * room;
-    full * (1 + 3 + SEGMENT_OCTETS) + 1 + size_of_length(last) + last
-}
-
-// How many octets a primitive encoding has, with so many contents octets and the shortest length.
-pub(crate) fn size_of_primitive(tag: Tag, contents: usize) -> usize
+// The same of an encoding of the definite form with the shortest length.
+pub(crate) fn size_of_definite(tag: Tag, contents: usize) -> usize
     requires tag { tag.number ≤ MAX_TAG_NUMBER }
-    requires within { contents < 2 ^ 24 }
-    ensures size { (c b : List ℕ) → length c ≡ contents → IsPrimitive cer tag c b → length b ≡ result }
-    ensures at_most { result ≤ contents + 9 }
+    requires at_most { contents ≤ MAX_ENCODING + 1 }
+    ensures at_most { result ≤ MAX_ENCODING + 1 }
+    ensures more { contents ≤ result }
+    ensures size { (constructed : Bool) (inside octets : List ℕ) →
+        contents ≡ min (length inside) (MAX_ENCODING + 1) → IsDefinite der tag constructed inside octets →
+        result ≡ min (length octets) (MAX_ENCODING + 1) }
 {
-    size_of_identifier(tag) + size_of_length(contents) + contents
+    if contents > MAX_ENCODING {
+        return contents;
+    }
+    let size = size_of_identifier(tag) + size_of_length(contents) + contents;
+    size.min(MAX_ENCODING + 1)
 }
 
 // How many octets the identifier of a tag has.

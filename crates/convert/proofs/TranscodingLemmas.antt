@@ -10,6 +10,7 @@ use Rattle.types.specs.Shape.{Shape, Val}
 use Rattle.types.specs.WellFormed.{IsWellFormed}
 use Rattle.types.specs.Same.{IsSame}
 use Rattle.types.proofs.EncodingLemmas.{encoding_unique}
+use Rattle.types.proofs.SameLemmas.{same_encodings}
 use Rattle.convert.specs.declared.rule.Rule.{Rule}
 use Rattle.convert.specs.declared.rule.Rule.TheVariants.{Ber}
 use Rattle.convert.specs.Rule.{rule_of}
@@ -44,7 +45,9 @@ none_left_over shape v n octets more well left read h =
     let same = front_is_whole shape v n octets more well (omega arith) read h in
     absurd (omega (arith, same.0, length-append octets more))
 
--- values without parts are the same where they are equal
-pub IsSame-equal : (shape : Shape) (v w : Val) → IsSame shape v w → v ≡ w
-IsSame-equal (Shape.simple tag type) v w h = h
-IsSame-equal (Shape.string tag type) v w h = h
+-- the same values have the same accepted encodings
+pub accepted_as : (rule : encoding.Rule) (shape : Shape) (v w : Val) (octets : List ℕ) → IsWellFormed shape → IsSame shape v w → IsAccepted rule shape w octets → IsAccepted rule shape v octets
+accepted_as rule shape v w octets well same h = record { encoding = (same_encodings rule shape v w octets well same).1 h.encoding; depth = h.depth; size = h.size }
+
+pub accepted_of : (rule : encoding.Rule) (shape : Shape) (v w : Val) (octets : List ℕ) → IsWellFormed shape → IsSame shape v w → IsAccepted rule shape v octets → IsAccepted rule shape w octets
+accepted_of rule shape v w octets well same h = record { encoding = (same_encodings rule shape v w octets well same).0 h.encoding; depth = h.depth; size = h.size }

@@ -4,6 +4,7 @@ ghost use Rattle.std.specs.Prelude.{◌≡◌, ℕ, List, ◌⊎◌, OnOk, IfOk,
 ghost use Rattle.octets.specs.Front.{Appends, Begins};
 ghost use Rattle.types.specs.Conforms.{Conforms};
 ghost use Rattle.types.specs.Encoding.{IsAccepted, IsSomeAccepted};
+ghost use Rattle.types.specs.Leaf.{IsLeaf};
 ghost use Rattle.types.specs.Refusal.{IsFinal, IsOfTranscoding, IsOfWriting};
 ghost use Rattle.types.specs.View.{ty_view, value_view};
 ghost use Rattle.convert.specs.Rule.{rule_of, canonical_rule_of};
@@ -16,7 +17,8 @@ use std::alloc::Global;
 use types::{Refusal, Value, WellTyped};
 
 /// Reads exactly one value of `ty`, whose encoding by the rule `from` fills `octets`, and returns its
-/// one encoding by the rule `to`. Octets left over are refused with `Identifier`.
+/// one encoding by the rule `to`. Octets left over are refused with `Identifier`. Asks for a type
+/// without parts: its readers and writers take no others yet.
 pub fn transcode(
     alloc: Global,
     ty: &WellTyped,
@@ -24,6 +26,7 @@ pub fn transcode(
     to: Canonical,
     octets: &[u8],
 ) -> Result<Vec<u8>, Refusal>
+    requires { IsLeaf (ty_view ty.now) }
     ensures value { IfOk result (λ out.
         IsTranscoded (rule_of from) (canonical_rule_of to) (ty_view ty.now) octets.now out.items) }
     ensures truncated { result ≡ Err Refusal.Truncated →
@@ -54,7 +57,8 @@ fn put(
     value: &Value,
     out: &mut Vec<u8>,
 ) -> Result<(), Refusal>
-    requires { Conforms (ty_view ty.now) (value_view value.now) }
+    requires leaf { IsLeaf (ty_view ty.now) }
+    requires conforms { Conforms (ty_view ty.now) (value_view value.now) }
     ensures appended { OnOk result (Appends
         (IsAccepted (canonical_rule_of to) (ty_view ty.now) (value_view value.now)) out.old.items out.new.items) }
     ensures too_long { result ≡ Err Refusal.OutputTooLong →

@@ -1,6 +1,4 @@
 use Rattle.std.proofs.Common.{◌≡◌, ◌≤◌, ◌++◌, ℕ, List, length}
-use Rattle.std.specs.Io.{StartsWith}
-use Rattle.octets.specs.declared.TheConstants.{MAX_ENCODING}
 use Rattle.canon.specs.Segments.{AreSegmentsOf}
 use Rattle.canon.proofs.segments.append_segments.Given as goal
 
@@ -8,8 +6,6 @@ use Rattle.canon.proofs.segments.append_segments.Given as goal
 abbrev pub invariant-loop-rest : goal.invariant-loop-rest
 invariant-loop-rest l = record {
   some : 1 ≤ length l.rest;
-  within : length l.rest ≤ MAX_ENCODING;
-  front : StartsWith l.out.items l.initial.out.items;
   written : (written : List ℕ) × (l.out.items ≡ l.initial.out.items ++ written) × ((tail : List ℕ) → AreSegmentsOf l.segment l.whole l.lead l.rest tail → AreSegmentsOf l.segment l.whole l.lead l.octets (written ++ tail));
 }
 

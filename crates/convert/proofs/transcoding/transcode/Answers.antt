@@ -7,7 +7,8 @@ use Rattle.types.specs.View.{ty_view, value_view}
 use Rattle.convert.specs.Rule.{rule_of, canonical_rule_of}
 use Rattle.octets.proofs.ResultLemmas.{IfErr-from, Err-known, Err-same}
 use Rattle.octets.proofs.FrontLemmas.{HasFront-whole}
-use Rattle.convert.proofs.TranscodingLemmas.{rule_of-is, cases_of_reading, front_is_whole, none_left_over, IsSame-equal}
+use Rattle.convert.proofs.TranscodingLemmas.{rule_of-is, cases_of_reading, front_is_whole, none_left_over, accepted_of}
+use Rattle.types.proofs.EncodedLemmas.{encoded_conforms}
 use Rattle.convert.proofs.transcoding.transcode.Goals as goal
 
 pub returns-in_err-value-clause-truncated : goal.returns-in_err-value-clause-truncated
@@ -65,4 +66,8 @@ returns-clause-limit c = λ h.
     let accepted : IsAccepted encoding.ber shape h.value octets = subst (λ r. IsAccepted r shape h.value octets) (rule_of-is c.args.from) h.read in
     let by_ber : IsSomeAccepted encoding.ber shape (octets ++ []) = (h.value, subst (IsAccepted encoding.ber shape h.value) (sym (append-nil octets)) accepted) in
     let same = front_is_whole shape v c.in_ok-value.used octets [] c.in_ok-value.ensures.well_formed c.in_ok-value.ensures.value.0 c.in_ok-value.ensures.value.1 by_ber in
-    absurd (h.none put.0 (subst (λ w. IsAccepted (canonical_rule_of c.args.to) shape w put.0) (IsSame-equal shape v h.value same.1) put.2))
+    absurd (h.none put.0 (accepted_of (canonical_rule_of c.args.to) shape v h.value put.0 c.in_ok-value.ensures.well_formed same.1 put.2))
+
+pub put-requires-clause-conforms : goal.put-requires-clause-conforms
+put-requires-clause-conforms c =
+    encoded_conforms encoding.ber (ty_view c.args.ty.now) (value_view c.in_ok-value.value) _ c.in_ok-value.ensures.value.1.encoding

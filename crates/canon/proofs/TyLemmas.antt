@@ -1,0 +1,71 @@
+-- Lemmas on types of the code, by their nodes.
+use Rattle.std.proofs.Common.{◌≡◌, ◌⊎◌, inl, inr, ◌≤◌, ℕ, Vec, Box, Global, map, sym, ap, ◌∙◌, subst}
+use Rattle.octets.specs.declared.tag.Tag.{Tag}
+use Rattle.octets.specs.Rule.{Rule, IsCanonical}
+use Rattle.strings.specs.declared.text.TextKind.{TextKind}
+use Rattle.strings.specs.declared.time.TimeKind.{TimeKind}
+use Rattle.types.specs.declared.ty.Field.{Field}
+use Rattle.types.specs.declared.ty.Item.{Item}
+use Rattle.types.specs.declared.ty.Ty.{Ty}
+use Rattle.types.specs.declared.ty.Ty as node
+use Rattle.types.specs.Shape.{SimpleType, StringType, Val, listed, Shape, Components}
+use Rattle.types.specs.View.{item_view, ty_view, components_view}
+use Rattle.types.specs.Encoding.{IsEncoding}
+use Rattle.types.proofs.ViewLemmas.{ty-Boolean, ty-Integer, ty-Enumerated, ty-Null, ty-Oid, ty-RelativeOid, ty-Bits, ty-Octets, ty-Text, ty-Time, ty-Sequence, ty-Set, ty-SequenceOf, ty-SetOf}
+use Rattle.canon.specs.Node.{HasGoodNodes, AreItems, AreComponents}
+use Rattle.canon.specs.Leaf.{IsLeafOf}
+use Rattle.canon.specs.Size.{HasSize}
+use Rattle.canon.proofs.AlikeLemmas.{size_alike}
+use Rattle.canon.proofs.NodeLemmas.{IsListOf, IsRecordOf, HasItems, HasSlots, sequence_alike, set_alike, sequence_of_alike, set_of_alike}
+use Rattle.canon.proofs.NodeSizeLemmas.{SizesConstructed, around_size, ordered_items_size}
+use Rattle.canon.proofs.TagOrderLemmas.{by_tag_size}
+
+pub list_view : (ty : Ty) (tag : Tag) (inner : Box Ty Global) → ty ≡ node.SequenceOf tag inner → IsListOf tag (ty_view inner.value) (ty_view ty)
+list_view ty tag inner is = inl (ap ty_view is ∙ ty-SequenceOf tag inner)
+
+pub set_list_view : (ty : Ty) (tag : Tag) (inner : Box Ty Global) → ty ≡ node.SetOf tag inner → IsListOf tag (ty_view inner.value) (ty_view ty)
+set_list_view ty tag inner is = inr (ap ty_view is ∙ ty-SetOf tag inner)
+
+pub record_view : (ty : Ty) (tag : Tag) (fields : Vec Field Global) → (ty ≡ node.Sequence tag fields) ⊎ (ty ≡ node.Set tag fields) → IsRecordOf tag (components_view fields.items) (ty_view ty)
+record_view ty tag fields (inl is) = inl (ap ty_view is ∙ ty-Sequence tag fields)
+record_view ty tag fields (inr is) = inr (ap ty_view is ∙ ty-Set tag fields)
+
+pub leaf_view : (ty : Ty) (tag : Tag)
+    → (ty ≡ node.Boolean tag) ⊎ ((ty ≡ node.Integer tag) ⊎ (((items : Vec Item Global) × (ty ≡ node.Enumerated tag items)) ⊎ ((ty ≡ node.Null tag) ⊎ ((ty ≡ node.Oid tag) ⊎ ((ty ≡ node.RelativeOid tag)
+    ⊎ ((ty ≡ node.Bits tag) ⊎ ((ty ≡ node.Octets tag) ⊎ (((kind : TextKind) × (ty ≡ node.Text tag kind)) ⊎ ((kind : TimeKind) × (ty ≡ node.Time tag kind))))))))))
+    → IsLeafOf tag (ty_view ty)
+leaf_view ty tag (inl is) = inl (SimpleType.boolean, ap ty_view is ∙ ty-Boolean tag)
+leaf_view ty tag (inr (inl is)) = inl (SimpleType.integer, ap ty_view is ∙ ty-Integer tag)
+leaf_view ty tag (inr (inr (inl h))) = inl (SimpleType.enumerated (map item_view h.0.items), ap ty_view h.1 ∙ ty-Enumerated tag h.0)
+leaf_view ty tag (inr (inr (inr (inl is)))) = inl (SimpleType.null, ap ty_view is ∙ ty-Null tag)
+leaf_view ty tag (inr (inr (inr (inr (inl is))))) = inl (SimpleType.oid, ap ty_view is ∙ ty-Oid tag)
+leaf_view ty tag (inr (inr (inr (inr (inr (inl is)))))) = inl (SimpleType.relative_oid, ap ty_view is ∙ ty-RelativeOid tag)
+leaf_view ty tag (inr (inr (inr (inr (inr (inr (inl is))))))) = inr (StringType.bit_string, ap ty_view is ∙ ty-Bits tag)
+leaf_view ty tag (inr (inr (inr (inr (inr (inr (inr (inl is)))))))) = inr (StringType.octet_string, ap ty_view is ∙ ty-Octets tag)
+leaf_view ty tag (inr (inr (inr (inr (inr (inr (inr (inr (inl h))))))))) = inr (StringType.text h.0, ap ty_view h.1 ∙ ty-Text tag h.0)
+leaf_view ty tag (inr (inr (inr (inr (inr (inr (inr (inr (inr h))))))))) = inr (StringType.time h.0, ap ty_view h.1 ∙ ty-Time tag h.0)
+
+pub leaf_kept : (tag : Tag) (shape : Shape) → IsLeafOf tag shape → HasGoodNodes shape → tag.number ≤ 268_435_455
+leaf_kept tag shape (inl h) good = let whole : HasGoodNodes (Shape.simple tag h.0) = subst HasGoodNodes h.1 good in whole.within.0.0
+leaf_kept tag shape (inr h) good = let whole : HasGoodNodes (Shape.string tag h.0) = subst HasGoodNodes h.1 good in whole.within.0
+
+-- a SEQUENCE OF or SET OF, by its items
+pub list_size : (rule : Rule) (tag : Tag) (type shape : Shape) (v : Val) (n size : ℕ) → IsCanonical rule → IsListOf tag type shape → (parts : HasItems tag type v) → HasSize (AreItems (IsEncoding rule type) (listed parts.items)) n → n ≤ size → SizesConstructed rule tag n size
+    → HasSize (IsEncoding rule shape v) size
+list_size rule tag type shape v n size canonical (inl is) parts h more sizes =
+    subst (λ s. HasSize (IsEncoding rule s v) size) (sym is) (subst (λ w. HasSize (IsEncoding rule (Shape.sequence_of tag type) w) size) (sym parts.is)
+    (size_alike _ _ size (sequence_of_alike rule tag type parts.items) (around_size _ rule tag n size parts.kept h more sizes)))
+list_size rule tag type shape v n size canonical (inr is) parts h more sizes =
+    subst (λ s. HasSize (IsEncoding rule s v) size) (sym is) (subst (λ w. HasSize (IsEncoding rule (Shape.set_of tag type) w) size) (sym parts.is)
+    (size_alike _ _ size (set_of_alike rule tag type parts.items canonical) (around_size _ rule tag n size parts.kept (ordered_items_size (IsEncoding rule type) (listed parts.items) n h) more sizes)))
+
+-- a SEQUENCE or SET, by its components
+pub record_size : (rule : Rule) (tag : Tag) (components : Components) (shape : Shape) (v : Val) (n size : ℕ) → IsCanonical rule → IsRecordOf tag components shape → HasGoodNodes shape → (parts : HasSlots tag components v) → HasSize (AreComponents rule components parts.slots) n → n ≤ size
+    → SizesConstructed rule tag n size → HasSize (IsEncoding rule shape v) size
+record_size rule tag components shape v n size canonical (inl is) good parts h more sizes =
+    subst (λ s. HasSize (IsEncoding rule s v) size) (sym is) (subst (λ w. HasSize (IsEncoding rule (Shape.sequence tag components) w) size) (sym parts.is)
+    (size_alike _ _ size (sequence_alike rule tag components parts.slots) (around_size _ rule tag n size parts.kept h more sizes)))
+record_size rule tag components shape v n size canonical (inr is) good parts h more sizes =
+    let whole : HasGoodNodes (Shape.set tag components) = subst HasGoodNodes is good in
+    subst (λ s. HasSize (IsEncoding rule s v) size) (sym is) (subst (λ w. HasSize (IsEncoding rule (Shape.set tag components) w) size) (sym parts.is)
+    (size_alike _ _ size (set_alike rule tag components parts.slots canonical) (around_size _ rule tag n size parts.kept (by_tag_size rule components parts.slots n canonical whole.tags.0.1 h) more sizes)))

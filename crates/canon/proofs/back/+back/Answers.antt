@@ -1,0 +1,348 @@
+use Rattle.std.specs.List.{concat}
+use Rattle.std.proofs.Common.{◌≡◌, ◌∙◌, ◌+◌, ◌-◌, ◌<◌, ◌++◌, ℕ, List, OnOk, Option, Some, None, Vec, Global, length, take, drop, get_or, map, inl, inr, sym, ap, subst, arith, rules}
+use Rattle.std.specs.Prelude.{reverse}
+use Rattle.std.specs.declared.result.Result.{Result}
+use Rattle.octets.specs.declared.tag.Tag.{Tag}
+use Rattle.octets.specs.Rule.{Rule}
+use Rattle.octets.specs.Front.{Appends}
+use Rattle.octets.proofs.ResultLemmas.{OnOk-map}
+use Rattle.types.specs.declared.ty.Ty.{Ty}
+use Rattle.types.specs.declared.ty.Ty as node
+use Rattle.types.specs.declared.ty.Field.{Field}
+use Rattle.types.specs.declared.ty.Field as field
+use Rattle.types.specs.declared.ty.Alternative as alternative
+use Rattle.types.specs.declared.value.Value.{Value}
+use Rattle.types.specs.Shape.{Val, Shape, Slots, listed}
+use Rattle.types.specs.View.{ty_view, value_view, components_view, slots_view, alternatives_view}
+use Rattle.types.specs.Conforms.{Conforms}
+use Rattle.types.specs.Form.{IsConstructed}
+use Rattle.types.specs.Encoding.{IsEncoding}
+use Rattle.types.proofs.ViewLemmas.{ty-Sequence, ty-Set, ty-SequenceOf, ty-SetOf, ty-Choice, ty-Explicit}
+use Rattle.canon.specs.Node.{HasGoodNodes, IsAround, AreItems, AreItemsInOrder, AreComponents, AreComponentsByTag}
+use Rattle.canon.specs.Leaf.{IsLeafEncoding}
+use Rattle.canon.specs.Part.{IsPut, AreLaid}
+use Rattle.canon.specs.Rule.{rule_of}
+use Rattle.canon.specs.Turned.{Turned, end_octets}
+use Rattle.canon.proofs.AlikeLemmas.{appended_by, alike-chain}
+use Rattle.canon.proofs.LeafLemmas.{leaf_alike}
+use Rattle.canon.proofs.NodeLemmas.{choice_parts, choice_alike, has_items, has_slots, explicit_alike, sequence_alike, set_alike, sequence_of_alike, set_of_alike}
+use Rattle.canon.proofs.PutLemmas.{PutFrom, item_put, no_components_put, present_put, absent_put, laid_more, order_made}
+use Rattle.canon.proofs.SimpleLemmas.{rule_is_canonical}
+use Rattle.canon.proofs.StepLemmas.{item_conforms, as_many_slots, present_at}
+use Rattle.types.specs.Order.{Ascends, IsOrderTag}
+use Rattle.canon.specs.Span.{part_of, turned_part}
+use Rattle.canon.specs.declared.spans.Span.{Span}
+use Rattle.canon.specs.declared.spans.Tagged.{Tagged}
+use Rattle.canon.proofs.TagPutLemmas.{LaidFrom, none_laid_by_tag, present_laid, absent_laid, by_tag_made, part_put, distinct_drop}
+use Rattle.canon.proofs.TurnLemmas.{around_made}
+use Rattle.canon.proofs.TyLemmas.{leaf_view, list_view, set_list_view}
+use Rattle.canon.proofs.back.+back.Goals as goal
+use Rattle.canon.proofs.back.+back.Goals.{put_components-in-Some+in_ok-put_back-in-Some, put_components-in-None, put_by_tag-in-Some+in_ok-span-in-Some+in_ok-push-in-Some, put_by_tag-in-None}
+
+arm : {E : Type 0} (r : Result (Unit {0}) E) (rule : Rule) (tag : Tag) (P Q : List ℕ → Type 0) (start : ℕ) (old one two new : List ℕ) → start ≡ length old → one ≡ old ++ end_octets rule → Appends (Turned P) one two → ((b : List ℕ) → IsAround P rule tag b → Q b)
+    → OnOk r ((before contents : List ℕ) → length before ≡ start → two ≡ before ++ end_octets rule ++ reverse contents → Appends (Turned (IsConstructed rule tag contents)) before new) → OnOk r (Appends (Turned Q) old new)
+arm r rule tag P Q start old one two new at end a f h = OnOk-map r _ _ (λ head. let w = around_made rule tag P start old one two new at end a head in (w.0, w.1, f (reverse w.0) w.2)) h
+
+pub put_back-returns-in-Boolean : goal.put_back-returns-in-Boolean
+put_back-returns-in-Boolean t c =
+    let tag = c.in-Boolean.tag in
+    let rule = rule_of c.args.rule in
+    let shape = ty_view c.args.ty.now in
+    let v = value_view c.args.value.now in
+    let alike = leaf_alike rule tag shape v (leaf_view c.args.ty.now tag c.in-Boolean.is) c.requires.conforms in
+    appended_by c.put_leaf.result (Turned (IsLeafEncoding rule tag v)) (Turned (IsEncoding rule shape v)) c.args.out.now.items c.put_leaf.new.out.items (λ b h. alike.to (reverse b) h) c.put_leaf.ensures
+
+pub put_back-index-requires : goal.put_back-index-requires
+put_back-index-requires t c =
+    let alternatives = c.in-Choice.alternatives in
+    let is = ap ty_view c.in-Choice.is ∙ ty-Choice alternatives in
+    let parts = choice_parts alternatives.items (value_view c.args.value.now) (subst (λ (s : Shape). Conforms s (value_view c.args.value.now)) is c.requires.conforms) (subst HasGoodNodes is c.requires.nodes) in
+    let told = c.in-Some.ensures parts.which parts.value parts.is in
+    omega (arith, told.0, parts.alternative.there, alternatives.ok.0)
+
+pub put_back-put_back-requires : goal.put_back-put_back-requires
+put_back-put_back-requires t c =
+    let alternatives = c.in-Choice.alternatives in
+    let is = ap ty_view c.in-Choice.is ∙ ty-Choice alternatives in
+    let parts = choice_parts alternatives.items (value_view c.args.value.now) (subst (λ (s : Shape). Conforms s (value_view c.args.value.now)) is c.requires.conforms) (subst HasGoodNodes is c.requires.nodes) in
+    let told = c.in-Some.ensures parts.which parts.value parts.is in
+    let a = c.index.result.now in
+    let at : a ≡ get_or alternatives.items parts.which a = c.index.ensures ∙ ap (λ k. get_or alternatives.items k a) told.0 in
+    (search (rules, node.the_lemmas, alternative.the_lemmas), (parts.alternative.nodes a at, subst (Conforms (ty_view a.ty)) (sym told.1) (parts.alternative.conforms a at)))
+
+pub put_back-returns-in-Some : goal.put_back-returns-in-Some
+put_back-returns-in-Some t c =
+    let rule = rule_of c.args.rule in
+    let v = value_view c.args.value.now in
+    let alternatives = c.in-Choice.alternatives in
+    let is = ap ty_view c.in-Choice.is ∙ ty-Choice alternatives in
+    let parts = choice_parts alternatives.items v (subst (λ (s : Shape). Conforms s v) is c.requires.conforms) (subst HasGoodNodes is c.requires.nodes) in
+    let told = c.in-Some.ensures parts.which parts.value parts.is in
+    let a = c.index.result.now in
+    let at : a ≡ get_or alternatives.items parts.which a = c.index.ensures ∙ ap (λ k. get_or alternatives.items k a) told.0 in
+    let alike = alike-chain _ _ _ (parts.alternative.encodes rule a at) (choice_alike rule (alternatives_view alternatives.items) parts.which parts.value) in
+    appended_by c.put_back.result (Turned (IsEncoding rule (ty_view a.ty) (value_view c.in-Some.chosen.now))) (Turned (IsEncoding rule (ty_view c.args.ty.now) v)) c.args.out.now.items c.put_back.new.out.items
+    (λ b h.
+    let here : IsEncoding rule (ty_view a.ty) parts.value (reverse b) = subst (λ (w : Val). IsEncoding rule (ty_view a.ty) w (reverse b)) told.1 h in
+    subst (λ (s : Shape). IsEncoding rule s v (reverse b)) (sym is) (subst (λ (w : Val). IsEncoding rule (Shape.choice (alternatives_view alternatives.items)) w (reverse b)) (sym parts.is) (alike.to (reverse b) here)))
+    c.put_back.ensures
+
+pub put_back-returns-in_ok-put_components-in-Sequence : goal.put_back-returns-in_ok-put_components-in-Sequence
+put_back-returns-in_ok-put_components-in-Sequence t c =
+    let rule = rule_of c.args.rule in
+    let tag = c.in-Sequence.tag in
+    let v = value_view c.args.value.now in
+    let components = components_view c.in-Sequence.fields.items in
+    let is : ty_view c.args.ty.now ≡ Shape.sequence tag components = ap ty_view c.in-Sequence.is ∙ ty-Sequence tag c.in-Sequence.fields in
+    let parts = has_slots tag components (ty_view c.args.ty.now) v (inl is) c.requires.conforms c.requires.nodes in
+    let one = c.put_end.new.out.items in
+    let two = c.put_components.new.out.items in
+    let here : Appends (Turned (AreComponents rule components parts.slots)) one two = subst (λ (s : Slots). Appends (Turned (AreComponents rule components s)) one two) (sym (c.slots_in.ensures parts.slots parts.is))
+    (subst (λ (fs : List Field). Appends (Turned (AreComponents rule (components_view fs) (slots_view c.slots_in.result.now))) one two) c.deref.ensures.value c.in_ok-put_components-in-Sequence.ensures) in
+    arm c.put_head.result rule tag (AreComponents rule components parts.slots) (IsEncoding rule (ty_view c.args.ty.now) v) c.len-start.result c.args.out.now.items one two c.put_head.new.out.items
+    (omega (arith, c.len-start.ensures)) c.in_ok-put_end-in-Sequence.ensures here
+    (λ b h. subst (λ (s : Shape). IsEncoding rule s v b) (sym is) (subst (λ (w : Val). IsEncoding rule (Shape.sequence tag components) w b) (sym parts.is) ((sequence_alike rule tag components parts.slots).to b h)))
+    c.put_head.ensures
+
+pub put_back-returns-in_ok-put_by_tag-in-Set : goal.put_back-returns-in_ok-put_by_tag-in-Set
+put_back-returns-in_ok-put_by_tag-in-Set t c =
+    let rule = rule_of c.args.rule in
+    let tag = c.in-Set.tag in
+    let v = value_view c.args.value.now in
+    let components = components_view c.in-Set.fields.items in
+    let is : ty_view c.args.ty.now ≡ Shape.set tag components = ap ty_view c.in-Set.is ∙ ty-Set tag c.in-Set.fields in
+    let parts = has_slots tag components (ty_view c.args.ty.now) v (inr is) c.requires.conforms c.requires.nodes in
+    let one = c.put_end-in-Set.new.out.items in
+    let two = c.put_by_tag.new.out.items in
+    let here : Appends (Turned (AreComponentsByTag rule components parts.slots)) one two = subst (λ (s : Slots). Appends (Turned (AreComponentsByTag rule components s)) one two) (sym (c.slots_in-in-Set.ensures parts.slots parts.is))
+    (subst (λ (fs : List Field). Appends (Turned (AreComponentsByTag rule (components_view fs) (slots_view c.slots_in-in-Set.result.now))) one two) c.deref-in-Set.ensures.value c.in_ok-put_by_tag-in-Set.ensures) in
+    arm c.put_head-in-Set.result rule tag (AreComponentsByTag rule components parts.slots) (IsEncoding rule (ty_view c.args.ty.now) v) c.len-start.result c.args.out.now.items one two c.put_head-in-Set.new.out.items
+    (omega (arith, c.len-start.ensures)) c.in_ok-put_end-in-Set.ensures here
+    (λ b h. subst (λ (s : Shape). IsEncoding rule s v b) (sym is) (subst (λ (w : Val). IsEncoding rule (Shape.set tag components) w b) (sym parts.is) ((set_alike rule tag components parts.slots (rule_is_canonical c.args.rule)).to b h)))
+    c.put_head-in-Set.ensures
+
+pub put_back-returns-in_ok-put_items-in-SequenceOf : goal.put_back-returns-in_ok-put_items-in-SequenceOf
+put_back-returns-in_ok-put_items-in-SequenceOf t c =
+    let rule = rule_of c.args.rule in
+    let tag = c.in-SequenceOf.tag in
+    let inner = c.in-SequenceOf.inner in
+    let type = ty_view inner.value in
+    let v = value_view c.args.value.now in
+    let shape = list_view c.args.ty.now tag inner c.in-SequenceOf.is in
+    let is : ty_view c.args.ty.now ≡ Shape.sequence_of tag type = ap ty_view c.in-SequenceOf.is ∙ ty-SequenceOf tag inner in
+    let parts = has_items tag type (ty_view c.args.ty.now) v shape c.requires.conforms c.requires.nodes in
+    let one = c.put_end-in-SequenceOf.new.out.items in
+    let two = c.put_items.new.out.items in
+    let here : Appends (Turned (AreItems (IsEncoding rule type) (listed parts.items))) one two = subst (λ (vs : List Val). Appends (Turned (AreItems (IsEncoding rule type) vs)) one two) (sym (c.items_in.ensures parts.items parts.is))
+    (subst (λ (e : Ty). Appends (Turned (AreItems (IsEncoding rule (ty_view e)) (map value_view c.items_in.result.now))) one two) c.deref-in-SequenceOf.ensures c.in_ok-put_items-in-SequenceOf.ensures) in
+    arm c.put_head-in-SequenceOf.result rule tag (AreItems (IsEncoding rule type) (listed parts.items)) (IsEncoding rule (ty_view c.args.ty.now) v) c.len-start.result c.args.out.now.items one two c.put_head-in-SequenceOf.new.out.items
+    (omega (arith, c.len-start.ensures)) c.in_ok-put_end-in-SequenceOf.ensures here
+    (λ b h. subst (λ (s : Shape). IsEncoding rule s v b) (sym is) (subst (λ (w : Val). IsEncoding rule (Shape.sequence_of tag type) w b) (sym parts.is) ((sequence_of_alike rule tag type parts.items).to b h)))
+    c.put_head-in-SequenceOf.ensures
+
+pub put_back-returns-in_ok-put_in_order-in-SetOf : goal.put_back-returns-in_ok-put_in_order-in-SetOf
+put_back-returns-in_ok-put_in_order-in-SetOf t c =
+    let rule = rule_of c.args.rule in
+    let tag = c.in-SetOf.tag in
+    let inner = c.in-SetOf.inner in
+    let type = ty_view inner.value in
+    let v = value_view c.args.value.now in
+    let shape = set_list_view c.args.ty.now tag inner c.in-SetOf.is in
+    let is : ty_view c.args.ty.now ≡ Shape.set_of tag type = ap ty_view c.in-SetOf.is ∙ ty-SetOf tag inner in
+    let parts = has_items tag type (ty_view c.args.ty.now) v shape c.requires.conforms c.requires.nodes in
+    let one = c.put_end-in-SetOf.new.out.items in
+    let two = c.put_in_order.new.out.items in
+    let here : Appends (Turned (AreItemsInOrder (IsEncoding rule type) (listed parts.items))) one two = subst (λ (vs : List Val). Appends (Turned (AreItemsInOrder (IsEncoding rule type) vs)) one two) (sym (c.items_in-in-SetOf.ensures parts.items parts.is))
+    (subst (λ (e : Ty). Appends (Turned (AreItemsInOrder (IsEncoding rule (ty_view e)) (map value_view c.items_in-in-SetOf.result.now))) one two) c.deref-in-SetOf.ensures c.in_ok-put_in_order-in-SetOf.ensures) in
+    arm c.put_head-in-SetOf.result rule tag (AreItemsInOrder (IsEncoding rule type) (listed parts.items)) (IsEncoding rule (ty_view c.args.ty.now) v) c.len-start.result c.args.out.now.items one two c.put_head-in-SetOf.new.out.items
+    (omega (arith, c.len-start.ensures)) c.in_ok-put_end-in-SetOf.ensures here
+    (λ b h. subst (λ (s : Shape). IsEncoding rule s v b) (sym is) (subst (λ (w : Val). IsEncoding rule (Shape.set_of tag type) w b) (sym parts.is) ((set_of_alike rule tag type parts.items (rule_is_canonical c.args.rule)).to b h)))
+    c.put_head-in-SetOf.ensures
+
+pub put_back-returns-in_ok-put_back-in-Explicit : goal.put_back-returns-in_ok-put_back-in-Explicit
+put_back-returns-in_ok-put_back-in-Explicit t c =
+    let rule = rule_of c.args.rule in
+    let tag = c.in-Explicit.tag in
+    let type = ty_view c.in-Explicit.inner.value in
+    let v = value_view c.args.value.now in
+    let is : ty_view c.args.ty.now ≡ Shape.explicit tag type = ap ty_view c.in-Explicit.is ∙ ty-Explicit tag c.in-Explicit.inner in
+    let one = c.put_end-in-Explicit.new.out.items in
+    let two = c.put_back-in-Explicit.new.out.items in
+    let here : Appends (Turned (IsEncoding rule type v)) one two = subst (λ (e : Ty). Appends (Turned (IsEncoding rule (ty_view e) v)) one two) c.deref-in-Explicit.ensures c.in_ok-put_back-in-Explicit.ensures in
+    arm c.put_head-in-Explicit.result rule tag (IsEncoding rule type v) (IsEncoding rule (ty_view c.args.ty.now) v) c.len-start.result c.args.out.now.items one two c.put_head-in-Explicit.new.out.items
+    (omega (arith, c.len-start.ensures)) c.in_ok-put_end-in-Explicit.ensures here (λ b h. subst (λ (s : Shape). IsEncoding rule s v b) (sym is) ((explicit_alike rule tag type v).to b h)) c.put_head-in-Explicit.ensures
+
+pub put_items-put_back-requires : goal.put_items-put_back-requires
+put_items-put_back-requires t c =
+    (search rules, (c.requires.nodes, item_conforms (ty_view c.args.ty.now) c.args.items.now (length c.args.items.now - 1 - c.loop-done.done) c.index-items-count.result (omega arith) c.index-items-count.is c.requires.conform))
+
+pub put_items-loop-done-preserved : goal.put_items-loop-done-preserved
+put_items-loop-done-preserved t c =
+    let items = c.args.items.now in
+    let i = length items - (c.loop-done.done + 1) in
+    let place : length items - 1 - c.loop-done.done ≡ i = omega arith in
+    let at : c.index-items-count.result ≡ get_or items i c.index-items-count.result = c.index-items-count.is ∙ ap (λ k. get_or items k c.index-items-count.result) place in
+    item_put (IsEncoding (rule_of c.args.rule) (ty_view c.args.ty.now)) items i (length items - c.loop-done.done) c.index-items-count.result c.args.out.now.items c.loop-done.out.items c.put_back.new.out.items (omega arith) (omega arith) at c.loop-done.invariant c.in_ok-put_back.ensures
+
+pub put_in_order-put_span-requires : goal.put_in_order-put_span-requires
+put_in_order-put_span-requires t c =
+    (search rules, (c.requires.nodes, item_conforms (ty_view c.args.ty.now) c.args.items.now (length c.args.items.now - 1 - c.loop-done.done) c.index-items-count.result (omega arith) c.index-items-count.is c.requires.conform))
+
+pub put_in_order-loop-done-preserved : goal.put_in_order-loop-done-preserved
+put_in_order-loop-done-preserved t c =
+    let items = c.args.items.now in
+    let IsItem = IsEncoding (rule_of c.args.rule) (ty_view c.args.ty.now) in
+    let i = length items - (c.loop-done.done + 1) in
+    let place : length items - 1 - c.loop-done.done ≡ i = omega arith in
+    let at : c.index-items-count.result ≡ get_or items i c.index-items-count.result = c.index-items-count.is ∙ ap (λ k. get_or items k c.index-items-count.result) place in
+    let laid = laid_more IsItem items i (length items - c.loop-done.done) c.index-items-count.result c.loop-done.spans.items c.in_ok-span.span c.args.out.now.items c.loop-done.out.items c.put_span.new.out.items (omega arith) (omega arith) at c.loop-done.invariant c.in_ok-span.ensures in
+    subst (λ (ss : List Span). AreLaid IsItem (map value_view (drop i items)) ss c.args.out.now.items c.put_span.new.out.items) (sym c.in_ok-push.ensures.items) laid
+
+pub put_in_order-returns : goal.put_in_order-returns
+put_in_order-returns t c =
+    let items = c.args.items.now in
+    let IsItem = IsEncoding (rule_of c.args.rule) (ty_view c.args.ty.now) in
+    let old = c.args.out.now.items in
+    let mid = c.loop-done.out.items in
+    let none_left : length items - c.loop-done.done ≡ 0 = omega arith in
+    let laid = subst (λ k. AreLaid IsItem (map value_view (drop k items)) c.loop-done.spans.items old mid) none_left c.loop-done.invariant in
+    let up = subst (λ (b : List ℕ). Ascends (reverse (map (part_of b) c.sort_down.new.spans.items))) c.deref.ensures.value c.sort_down.ensures.ascends in
+    OnOk-map c.arrange_turned.result _ _
+    (λ moved. order_made IsItem (map value_view items) c.loop-done.spans.items c.sort_down.new.spans.items old mid c.arrange_turned.new.out.items c.len-from.result (omega (arith, c.len-from.ensures)) laid c.sort_down.ensures.permutation up
+    (moved ∙ ap (λ (ss : List Span). take c.len-from.result mid ++ concat (map (turned_part mid) ss)) c.deref-2.ensures.value))
+    c.arrange_turned.ensures
+
+pub put_components-loop-done-init : goal.put_components-loop-done-init
+put_components-loop-done-init t c =
+    let many = as_many_slots c.args.fields.now c.args.slots.now c.requires.conform in
+    no_components_put (rule_of c.args.rule) c.args.fields.now c.args.slots.now (c.min-count.result - 0) c.args.out.now.items (omega (arith, c.min-count.ensures, many)) many
+
+pub put_components-put_back-requires : goal.put_components-put_back-requires
+put_components-put_back-requires t c =
+    let fields = c.args.fields.now in
+    let slots = c.args.slots.now in
+    let place = c.min-count.result - 1 - c.loop-done.done in
+    let bound : place < length fields = omega (arith, c.min-count.ensures) in
+    let f = c.index-fields-place.result in
+    let at : f ≡ get_or fields place f = c.index-fields-place.is in
+    let stands : Some c.in-Some.value ≡ get_or slots place (Some c.in-Some.value) = sym c.in-Some.is ∙ c.index-slots-place.is ∙ ap (λ (d : Option Value). get_or slots place d) c.in-Some.is in
+    let here = present_at fields slots place f c.in-Some.value (omega (arith, c.min-count.ensures)) at stands c.requires.conform c.requires.nodes in
+    (search (rules, node.the_lemmas, field.the_lemmas, bound, at), (subst (λ (g : Field). HasGoodNodes (ty_view g.ty)) at here.nodes, subst (λ (g : Field). Conforms (ty_view g.ty) (value_view c.in-Some.value)) at here.conforms))
+
+pub put_by_tag-put_span-requires : goal.put_by_tag-put_span-requires
+put_by_tag-put_span-requires t c =
+    let fields = c.args.fields.now in
+    let slots = c.args.slots.now in
+    let place = c.min-count.result - 1 - c.loop-done.done in
+    let bound : place < length fields = omega (arith, c.min-count.ensures) in
+    let f = c.index-fields-place.result in
+    let at : f ≡ get_or fields place f = c.index-fields-place.is in
+    let stands : Some c.in-Some.value ≡ get_or slots place (Some c.in-Some.value) = sym c.in-Some.is ∙ c.index-slots-place.is ∙ ap (λ (d : Option Value). get_or slots place d) c.in-Some.is in
+    let here = present_at fields slots place f c.in-Some.value (omega (arith, c.min-count.ensures)) at stands c.requires.conform c.requires.nodes in
+    (search (rules, node.the_lemmas, field.the_lemmas, bound, at), (subst (λ (g : Field). HasGoodNodes (ty_view g.ty)) at here.nodes, subst (λ (g : Field). Conforms (ty_view g.ty) (value_view c.in-Some.value)) at here.conforms))
+
+pub put_components-loop-done-preserved : goal.put_components-loop-done-preserved
+put_components-loop-done-preserved t c =
+    let rule = rule_of c.args.rule in
+    let fields = c.args.fields.now in
+    let slots = c.args.slots.now in
+    let old = c.args.out.now.items in
+    let many = as_many_slots fields slots c.requires.conform in
+    let count = c.min-count.result in
+    let i = count - (c.loop-done.done + 1) in
+    let j = count - c.loop-done.done in
+    let place : count - 1 - c.loop-done.done ≡ i = omega arith in
+    let there : i < length fields = omega (arith, many, c.min-count.ensures) in
+    let here : i < length slots = omega (arith, many, c.min-count.ensures) in
+    elim c.match-slots-place.branch [
+      | put_components-in-Some+in_ok-put_back-in-Some w ↦
+          let v = w.in-Some.value in
+          let f = w.index-fields-place.result in
+          let stands : Some v ≡ get_or slots i (Some v) = sym w.in-Some.is ∙ c.index-slots-place.is ∙ ap (λ k. get_or slots k c.index-slots-place.result) place ∙ ap (λ (d : Option Value). get_or slots i d) w.in-Some.is in
+          let at : f ≡ get_or fields i f = w.index-fields-place.is ∙ ap (λ k. get_or fields k f) place in
+          let is = present_at fields slots i f v here at stands c.requires.conform c.requires.nodes in
+          let new = w.put_back.new.out.items in
+          let put : Appends (Turned (IsEncoding rule (ty_view f.ty) (value_view v))) c.loop-done.out.items new = subst (λ (g : Field). Appends (Turned (IsEncoding rule (ty_view g.ty) (value_view v))) c.loop-done.out.items new) (sym w.index-fields-place.is) w.in_ok-put_back-in-Some.ensures in
+          subst (λ (o : Vec ℕ Global). PutFrom rule fields slots i old o.items) (sym w.out-is) (present_put rule fields slots i j f v old c.loop-done.out.items new there here (omega arith) at stands is c.loop-done.invariant put)
+      | put_components-in-None w ↦
+          let stands : None ≡ get_or slots i None = sym w.in-None.is ∙ c.index-slots-place.is ∙ ap (λ k. get_or slots k c.index-slots-place.result) place ∙ ap (λ (d : Option Value). get_or slots i d) w.in-None.is in
+          subst (λ (o : Vec ℕ Global). PutFrom rule fields slots i old o.items) (sym w.out-is) (absent_put rule fields slots i j old c.loop-done.out.items there here (omega arith) stands (rule_is_canonical c.args.rule) c.requires.conform c.loop-done.invariant)
+    ]
+
+pub put_components-returns : goal.put_components-returns
+put_components-returns t c =
+    let none_left : c.min-count.result - c.loop-done.done ≡ 0 = omega arith in
+    subst (λ k. PutFrom (rule_of c.args.rule) c.args.fields.now c.args.slots.now k c.args.out.now.items c.loop-done.out.items) none_left c.loop-done.invariant
+
+pub put_by_tag-loop-done-init : goal.put_by_tag-loop-done-init
+put_by_tag-loop-done-init t c =
+    let many = as_many_slots c.args.fields.now c.args.slots.now c.requires.conform in
+    let rule = rule_of c.args.rule in
+    let old = c.args.out.now.items in
+    let laid = none_laid_by_tag rule c.args.fields.now c.args.slots.now (c.min-count.result - 0) old (omega (arith, c.min-count.ensures, many)) many in
+    subst (λ (ts : List Tagged). LaidFrom rule c.args.fields.now c.args.slots.now (c.min-count.result - 0) ts old old) (sym (c.in_ok-reserve.ensures.items ∙ c.new-parts.ensures.items)) laid
+
+pub put_by_tag-order_tag-tag-requires : goal.put_by_tag-order_tag-tag-requires
+put_by_tag-order_tag-tag-requires t c =
+    let fields = c.args.fields.now in
+    let slots = c.args.slots.now in
+    let place = c.min-count.result - 1 - c.loop-done.done in
+    let f = c.index-fields-place.result in
+    let stands : Some c.in-Some.value ≡ get_or slots place (Some c.in-Some.value) = sym c.in-Some.is ∙ c.index-slots-place.is ∙ ap (λ (d : Option Value). get_or slots place d) c.in-Some.is in
+    let here = present_at fields slots place f c.in-Some.value (omega (arith, c.min-count.ensures)) c.index-fields-place.is stands c.requires.conform c.requires.nodes in
+    subst (λ (g : Field). HasGoodNodes (ty_view g.ty)) c.index-fields-place.is here.nodes
+
+pub put_by_tag-loop-done-preserved : goal.put_by_tag-loop-done-preserved
+put_by_tag-loop-done-preserved t c =
+    let rule = rule_of c.args.rule in
+    let fields = c.args.fields.now in
+    let slots = c.args.slots.now in
+    let old = c.args.out.now.items in
+    let many = as_many_slots fields slots c.requires.conform in
+    let count = c.min-count.result in
+    let i = count - (c.loop-done.done + 1) in
+    let j = count - c.loop-done.done in
+    let place : count - 1 - c.loop-done.done ≡ i = omega arith in
+    let there : i < length fields = omega (arith, many, c.min-count.ensures) in
+    let here : i < length slots = omega (arith, many, c.min-count.ensures) in
+    let distinct = distinct_drop fields i c.requires.distinct in
+    elim c.match-slots-place.branch [
+      | put_by_tag-in-Some+in_ok-span-in-Some+in_ok-push-in-Some w ↦
+          let v = w.in-Some.value in
+          let f = w.index-fields-place.result in
+          let stands : Some v ≡ get_or slots i (Some v) = sym w.in-Some.is ∙ c.index-slots-place.is ∙ ap (λ k. get_or slots k c.index-slots-place.result) place ∙ ap (λ (d : Option Value). get_or slots i d) w.in-Some.is in
+          let at : f ≡ get_or fields i f = w.index-fields-place.is ∙ ap (λ k. get_or fields k f) place in
+          let is = present_at fields slots i f v here at stands c.requires.conform c.requires.nodes in
+          let mid = c.loop-done.out.items in
+          let new = w.put_span.new.out.items in
+          let span = w.in_ok-span-in-Some.span in
+          let put : IsPut (IsEncoding rule (ty_view f.ty) (value_view v)) mid new span = subst (λ (g : Field). IsPut (IsEncoding rule (ty_view g.ty) (value_view v)) mid new span) (sym w.index-fields-place.is) w.in_ok-span-in-Some.ensures in
+          let stood : w.part.result.now ≡ put.octets = w.part.ensures ∙ ap (λ (b : List ℕ). part_of b span) w.deref.ensures.value ∙ part_put (IsEncoding rule (ty_view f.ty) (value_view v)) mid new span put in
+          let encodes = subst (λ (g : Field). IsEncoding rule (ty_view g.ty) (value_view v) w.part.result.now) w.index-fields-place.is (subst (IsEncoding rule (ty_view f.ty) (value_view v)) (sym stood) put.holds) in
+          let tag = w.order_tag-tag.result in
+          let ordered = subst (λ (g : Field). IsOrderTag rule (ty_view g.ty) w.part.result.now tag) (sym w.index-fields-place.is) (w.order_tag-tag.ensures (value_view v) encodes) in
+          let order : IsOrderTag rule (ty_view f.ty) put.octets tag = subst (λ (b : List ℕ). IsOrderTag rule (ty_view f.ty) b tag) stood ordered in
+          let t : Tagged = record { tag = tag; span = span } in
+          let laid = present_laid rule fields slots i j f v c.loop-done.parts.items t old mid new there here (omega arith) at stands (rule_is_canonical c.args.rule) is distinct c.loop-done.invariant put order in
+          subst (λ (o : Vec ℕ Global). LaidFrom rule fields slots i c.match-slots-place.parts.items old o.items) (sym w.out-is)
+          (subst (λ (ts : List Tagged). LaidFrom rule fields slots i ts old new) (sym (ap (λ (x : Vec Tagged Global). x.items) w.parts-is ∙ w.in_ok-push-in-Some.ensures.items)) laid)
+      | put_by_tag-in-None w ↦
+          let stands : None ≡ get_or slots i None = sym w.in-None.is ∙ c.index-slots-place.is ∙ ap (λ k. get_or slots k c.index-slots-place.result) place ∙ ap (λ (d : Option Value). get_or slots i d) w.in-None.is in
+          let laid = absent_laid rule fields slots i j c.loop-done.parts.items old c.loop-done.out.items there here (omega arith) stands (rule_is_canonical c.args.rule) c.requires.conform distinct c.loop-done.invariant in
+          subst (λ (o : Vec ℕ Global). LaidFrom rule fields slots i c.match-slots-place.parts.items old o.items) (sym w.out-is)
+          (subst (λ (x : Vec Tagged Global). LaidFrom rule fields slots i x.items old c.loop-done.out.items) (sym w.parts-is) laid)
+    ]
+
+pub put_by_tag-returns : goal.put_by_tag-returns
+put_by_tag-returns t c =
+    let rule = rule_of c.args.rule in
+    let old = c.args.out.now.items in
+    let mid = c.loop-done.out.items in
+    let none_left : c.min-count.result - c.loop-done.done ≡ 0 = omega arith in
+    let laid = subst (λ k. LaidFrom rule c.args.fields.now c.args.slots.now k c.loop-done.parts.items old mid) none_left c.loop-done.invariant in
+    let sorted = c.sort_down_by_tag.new.parts.items in
+    let spanned = c.in_ok-spans.ensures ∙ ap (λ (ts : List Tagged). map (λ (t : Tagged). t.span) ts) c.deref-2.ensures.value in
+    OnOk-map c.arrange_turned.result _ _
+    (λ moved. by_tag_made rule (components_view c.args.fields.now) (slots_view c.args.slots.now) c.loop-done.parts.items sorted c.in_ok-spans.spans.items old mid c.arrange_turned.new.out.items c.len-from.result (omega (arith, c.len-from.ensures)) laid
+    c.sort_down_by_tag.ensures.permutation c.sort_down_by_tag.ensures.descends spanned (moved ∙ ap (λ (ss : List Span). take c.len-from.result mid ++ concat (map (turned_part mid) ss)) c.deref-3.ensures.value))
+    c.arrange_turned.ensures

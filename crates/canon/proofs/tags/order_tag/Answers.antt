@@ -1,0 +1,15 @@
+use Rattle.std.proofs.Common.{sym, subst}
+use Rattle.types.specs.Encoding.{IsEncoding}
+use Rattle.types.specs.Order.{IsOrderTag}
+use Rattle.types.specs.View.{ty_view}
+use Rattle.canon.specs.Rule.{rule_of}
+use Rattle.canon.specs.declared.rule.CanonicalRule.{CanonicalRule}
+use Rattle.canon.proofs.LeastLemmas.{order_tag_at_front}
+use Rattle.canon.proofs.tags.order_tag.Goals as goal
+
+pub returns-in-Der : goal.returns-in-Der
+returns-in-Der c = λ v h.
+    let shape = ty_view c.args.ty.now in
+    let octets = c.args.encoding.now in
+    let encodes = subst (λ (r : CanonicalRule). IsEncoding (rule_of r) shape v octets) c.in-Der.is h in
+    subst (λ (r : CanonicalRule). IsOrderTag (rule_of r) shape octets c.tag_at_front.result) (sym c.in-Der.is) (order_tag_at_front shape v octets c.tag_at_front.result c.requires c.tag_at_front.ensures encodes)

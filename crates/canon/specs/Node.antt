@@ -1,0 +1,61 @@
+-- The parts of a constructed encoding.
+use Rattle.std.specs.Prelude.{◌≡◌, ℕ, List, Option, IsPermutation}
+use Rattle.std.specs.List.{AllByRecursion, AllZip, concat}
+use Rattle.octets.specs.declared.tag.Tag.{Tag}
+use Rattle.octets.specs.Rule.{Rule}
+use Rattle.types.specs.Shape.{Val, Slots, Shape, Components, Alternatives}
+use Rattle.types.specs.FirstTags.{HasDistinctTags}
+use Rattle.types.specs.WellFormed.{nodes_of, nodes_of_components, nodes_of_alternatives, IsNodeWithin}
+use Rattle.types.specs.Form.{IsConstructed}
+use Rattle.types.specs.Order.{Ascends, AscendsByTag}
+use Rattle.types.specs.Encoding.{Meaning, AreSlotEncodings, standing}
+
+-- what a writer needs of types: tags and lists within their limits, and tags that differ
+pub record AreGood (nodes : List Shape) : Type 0 where
+  pub within : AllByRecursion IsNodeWithin nodes
+  pub tags : AllByRecursion HasDistinctTags nodes
+
+abbrev pub HasGoodNodes : Shape → Type 0
+HasGoodNodes shape = AreGood (nodes_of shape)
+
+abbrev pub HaveGoodNodes : Components → Type 0
+HaveGoodNodes components = AreGood (nodes_of_components components)
+
+abbrev pub HaveGoodAlternatives : Alternatives → Type 0
+HaveGoodAlternatives alternatives = AreGood (nodes_of_alternatives alternatives)
+
+-- a constructed encoding of contents octets of some kind
+pub record IsAround (IsInside : List ℕ → Type 0) (rule : Rule) (tag : Tag) (octets : List ℕ) : Type 0 where
+  pub contents : List ℕ
+  pub inside : IsInside contents
+  pub whole : IsConstructed rule tag contents octets
+
+-- encodings of the items, in order
+pub record AreItems (IsItem : Meaning) (values : List Val) (octets : List ℕ) : Type 0 where
+  pub encodings : List (List ℕ)
+  pub each : AllZip IsItem values encodings
+  pub joined : octets ≡ concat encodings
+
+-- the same in ascending order
+pub record AreItemsInOrder (IsItem : Meaning) (values : List Val) (octets : List ℕ) : Type 0 where
+  pub encodings : List (List ℕ)
+  pub each : AllZip IsItem values encodings
+  pub order : List (List ℕ)
+  pub permutes : IsPermutation encodings order
+  pub ascends : Ascends order
+  pub joined : octets ≡ concat order
+
+-- encodings of the components, in order of declaration
+pub record AreComponents (rule : Rule) (components : Components) (slots : Slots) (octets : List ℕ) : Type 0 where
+  pub encodings : List (Option (List ℕ))
+  pub each : AreSlotEncodings rule components slots encodings
+  pub joined : octets ≡ concat (standing encodings)
+
+-- the same in the order of tags
+pub record AreComponentsByTag (rule : Rule) (components : Components) (slots : Slots) (octets : List ℕ) : Type 0 where
+  pub encodings : List (Option (List ℕ))
+  pub each : AreSlotEncodings rule components slots encodings
+  pub order : List (List ℕ)
+  pub permutes : IsPermutation (standing encodings) order
+  pub ascends : AscendsByTag rule components order
+  pub joined : octets ≡ concat order

@@ -1,0 +1,28 @@
+-- Parts that were laid one after another in a buffer.
+use Rattle.std.specs.Prelude.{◌≡◌, ◌+◌, ⊤, ℕ, List, [], ◌∷◌, ◌++◌, length, reverse}
+use Rattle.std.specs.List.{AllZip, concat}
+use Rattle.types.specs.Shape.{Val}
+use Rattle.types.specs.Encoding.{Meaning}
+use Rattle.canon.specs.declared.spans.Span.{Span}
+
+-- octets of some kind were appended, where the span says
+pub record IsPut (IsOne : List ℕ → Type 0) (old new : List ℕ) (span : Span) : Type 0 where
+  pub octets : List ℕ
+  pub is : new ≡ old ++ octets
+  pub holds : IsOne octets
+  pub start : span.start ≡ length old
+  pub end : span.end ≡ length new
+
+-- the spans of parts that stand one after another from there on
+abbrev pub Cuts : ℕ → List Span → List (List ℕ) → Type 0
+Cuts from [] [] = ⊤
+Cuts from [] (p ∷ ps) = ⊥
+Cuts from (s ∷ ss) [] = ⊥
+Cuts from (s ∷ ss) (p ∷ ps) = (s.start ≡ from) × (s.end ≡ from + length p) × Cuts (from + length p) ss ps
+
+-- encodings of items stand in a buffer, that of the last item first
+pub record AreLaid (IsItem : Meaning) (values : List Val) (spans : List Span) (old new : List ℕ) : Type 0 where
+  pub encodings : List (List ℕ)
+  pub each : AllZip IsItem values encodings
+  pub cuts : Cuts (length old) spans (reverse encodings)
+  pub is : new ≡ old ++ concat (reverse encodings)

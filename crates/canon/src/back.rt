@@ -1,0 +1,214 @@
+//! Whole values, written from the last octet to the first, so that each length is known once it comes.
+
+ghost use Rattle.std.specs.Prelude.{IfOk, OnOk, map};
+ghost use Rattle.std.specs.List.{AllByRecursion};
+ghost use Rattle.octets.specs.Front.{Appends};
+ghost use Rattle.types.specs.Conforms.{Conforms, SlotsConform};
+ghost use Rattle.types.specs.Encoding.{IsEncoding};
+ghost use Rattle.types.specs.FirstTags.{tags_of_components, AreDistinct};
+ghost use Rattle.types.specs.View.{ty_view, value_view, components_view, slots_view};
+ghost use Rattle.canon.specs.Node.{HasGoodNodes, HaveGoodNodes, AreItems, AreItemsInOrder, AreComponents, AreComponentsByTag};
+ghost use Rattle.canon.specs.Part.{IsPut};
+ghost use Rattle.canon.specs.Rule.{rule_of};
+ghost use Rattle.canon.specs.Turned.{Turned};
+
+use crate::heads::{put_end, put_head};
+use crate::leaf::put_leaf;
+use crate::parts::{chosen_in, items_in, slots_in};
+use crate::rule::CanonicalRule;
+use crate::spans::{
+    Span, Tagged, arrange_turned, part, sort_down, sort_down_by_tag, spans_of, turn,
+};
+use crate::tags::order_tag;
+use octets::NoMemory;
+use std::alloc::Global;
+use types::{Field, Ty, Value};
+
+// Appends the encoding of `value`, turned round.
+#[cycle(back)]
+pub(crate) fn put_back(
+    alloc: Global,
+    rule: CanonicalRule,
+    ty: &Ty,
+    value: &Value,
+    out: &mut Vec<u8>,
+) -> Result<(), NoMemory>
+    requires nodes { HasGoodNodes (ty_view ty.now) }
+    requires conforms { Conforms (ty_view ty.now) (value_view value.now) }
+    ensures { OnOk result (Appends
+        (Turned (IsEncoding (rule_of rule) (ty_view ty.now) (value_view value.now))) out.old.items out.new.items) }
+{
+    let start = out.len();
+    match ty {
+        Ty::Boolean(tag)
+        | Ty::Integer(tag)
+        | Ty::Enumerated(tag, _)
+        | Ty::Null(tag)
+        | Ty::Oid(tag)
+        | Ty::RelativeOid(tag)
+        | Ty::Bits(tag)
+        | Ty::Octets(tag)
+        | Ty::Text(tag, _)
+        | Ty::Time(tag, _) => put_leaf(rule, *tag, value, out),
+        Ty::Sequence(tag, fields) => {
+            put_end(rule, out)?;
+            put_components(alloc, rule, fields, slots_in(value), out)?;
+            put_head(rule, *tag, start, out)
+        }
+        Ty::Set(tag, fields) => {
+            put_end(rule, out)?;
+            put_by_tag(alloc, rule, fields, slots_in(value), out)?;
+            put_head(rule, *tag, start, out)
+        }
+        Ty::SequenceOf(tag, inner) => {
+            put_end(rule, out)?;
+            put_items(alloc, rule, inner, items_in(value), out)?;
+            put_head(rule, *tag, start, out)
+        }
+        Ty::SetOf(tag, inner) => {
+            put_end(rule, out)?;
+            put_in_order(alloc, rule, inner, items_in(value), out)?;
+            put_head(rule, *tag, start, out)
+        }
+        Ty::Choice(alternatives) => {
+            let Some((which, chosen)) = chosen_in(value) else {
+                unreachable!()
+            };
+            put_back(alloc, rule, &alternatives[which].ty, chosen, out)
+        }
+        Ty::Explicit(tag, inner) => {
+            put_end(rule, out)?;
+            put_back(alloc, rule, inner, value, out)?;
+            put_head(rule, *tag, start, out)
+        }
+    }
+}
+
+// Appends the encodings of items, the last first, each turned round.
+#[cycle(back)]
+fn put_items(
+    alloc: Global,
+    rule: CanonicalRule,
+    ty: &Ty,
+    items: &[Value],
+    out: &mut Vec<u8>,
+) -> Result<(), NoMemory>
+    requires nodes { HasGoodNodes (ty_view ty.now) }
+    requires conform { AllByRecursion (Conforms (ty_view ty.now)) (map value_view items.now) }
+    ensures { OnOk result (Appends
+        (Turned (AreItems (IsEncoding (rule_of rule) (ty_view ty.now)) (map value_view items.now))) out.old.items out.new.items) }
+{
+    let count = items.len();
+    for done in 0..count {
+        put_back(alloc, rule, ty, &items[count - 1 - done], out)?;
+    }
+    Ok(())
+}
+
+// The same, the greatest first.
+#[cycle(back)]
+fn put_in_order(
+    alloc: Global,
+    rule: CanonicalRule,
+    ty: &Ty,
+    items: &[Value],
+    out: &mut Vec<u8>,
+) -> Result<(), NoMemory>
+    requires nodes { HasGoodNodes (ty_view ty.now) }
+    requires conform { AllByRecursion (Conforms (ty_view ty.now)) (map value_view items.now) }
+    ensures { OnOk result (Appends
+        (Turned (AreItemsInOrder (IsEncoding (rule_of rule) (ty_view ty.now)) (map value_view items.now))) out.old.items out.new.items) }
+{
+    let from = out.len();
+    let count = items.len();
+    let mut spans = Vec::new(alloc);
+    spans.reserve(count)?;
+    for done in 0..count {
+        let span = put_span(alloc, rule, ty, &items[count - 1 - done], out)?;
+        spans.push(span)?;
+    }
+    sort_down(out, &mut spans);
+    arrange_turned(alloc, out, from, &spans)
+}
+
+// Appends the encoding of `value` and returns where it stands.
+#[cycle(back)]
+fn put_span(
+    alloc: Global,
+    rule: CanonicalRule,
+    ty: &Ty,
+    value: &Value,
+    out: &mut Vec<u8>,
+) -> Result<Span, NoMemory>
+    requires nodes { HasGoodNodes (ty_view ty.now) }
+    requires conforms { Conforms (ty_view ty.now) (value_view value.now) }
+    ensures { IfOk result (IsPut
+        (IsEncoding (rule_of rule) (ty_view ty.now) (value_view value.now)) out.old.items out.new.items) }
+{
+    let start = out.len();
+    put_back(alloc, rule, ty, value, out)?;
+    turn(out, start);
+    let end = out.len();
+    Ok(Span { start, end })
+}
+
+// Appends the encodings of components, the last first, each turned round.
+#[cycle(back)]
+fn put_components(
+    alloc: Global,
+    rule: CanonicalRule,
+    fields: &[Field],
+    slots: &[Option<Value>],
+    out: &mut Vec<u8>,
+) -> Result<(), NoMemory>
+    requires nodes { HaveGoodNodes (components_view fields.now) }
+    requires conform { SlotsConform (components_view fields.now) (slots_view slots.now) }
+    ensures { OnOk result (Appends
+        (Turned (AreComponents (rule_of rule) (components_view fields.now) (slots_view slots.now))) out.old.items out.new.items) }
+{
+    let count = fields.len().min(slots.len());
+    for done in 0..count {
+        let place = count - 1 - done;
+        match &slots[place] {
+            Some(value) => put_back(alloc, rule, &fields[place].ty, value, out)?,
+            None => {}
+        }
+    }
+    Ok(())
+}
+
+// The same, those of the greatest tags first.
+#[cycle(back)]
+fn put_by_tag(
+    alloc: Global,
+    rule: CanonicalRule,
+    fields: &[Field],
+    slots: &[Option<Value>],
+    out: &mut Vec<u8>,
+) -> Result<(), NoMemory>
+    requires nodes { HaveGoodNodes (components_view fields.now) }
+    requires distinct { AreDistinct (tags_of_components (components_view fields.now)) }
+    requires conform { SlotsConform (components_view fields.now) (slots_view slots.now) }
+    ensures { OnOk result (Appends
+        (Turned (AreComponentsByTag (rule_of rule) (components_view fields.now) (slots_view slots.now))) out.old.items out.new.items) }
+{
+    let from = out.len();
+    let count = fields.len().min(slots.len());
+    let mut parts = Vec::new(alloc);
+    parts.reserve(count)?;
+    for done in 0..count {
+        let place = count - 1 - done;
+        match &slots[place] {
+            Some(value) => {
+                let ty = &fields[place].ty;
+                let span = put_span(alloc, rule, ty, value, out)?;
+                let tag = order_tag(rule, ty, part(out, span));
+                parts.push(Tagged { tag, span })?;
+            }
+            None => {}
+        }
+    }
+    sort_down_by_tag(&mut parts);
+    let spans = spans_of(alloc, &parts)?;
+    arrange_turned(alloc, out, from, &spans)
+}

@@ -1,0 +1,131 @@
+//! Encodings of values without parts.
+
+ghost use Rattle.std.specs.Prelude.{◌≡◌, ◌≤◌, ◌+◌, OnOk};
+ghost use Rattle.octets.specs.declared.TheConstants.{MAX_ENCODING, MAX_TAG_NUMBER};
+ghost use Rattle.octets.specs.Front.{Appends};
+ghost use Rattle.types.specs.View.{value_view};
+ghost use Rattle.canon.specs.Leaf.{IsLeaf, IsLeafEncoding, IsSimple, IsSimplyEncoded};
+ghost use Rattle.canon.specs.Rule.{rule_of};
+ghost use Rattle.canon.specs.Size.{HasSize};
+ghost use Rattle.canon.specs.Turned.{Turned};
+
+use crate::contents::{put_contents, size_of_contents};
+use crate::rule::CanonicalRule;
+use crate::segments::{put_string, size_of_string};
+use crate::sizes::size_of_definite;
+use crate::spans::turn;
+use octets::{Class, NoMemory, Tag, put_identifier, put_shortest_length};
+use types::Value;
+
+// The tags of segments, whatever the tag of the string (X.690 8.6.4 and 8.7.3).
+const BIT_SEGMENT: Tag = Tag {
+    class: Class::Universal,
+    number: 3,
+};
+
+const OCTET_SEGMENT: Tag = Tag {
+    class: Class::Universal,
+    number: 4,
+};
+
+// How many octets the encoding of a value under `tag` has.
+pub(crate) fn size_of_leaf(rule: CanonicalRule, tag: Tag, value: &Value) -> usize
+    requires tag { tag.number ≤ MAX_TAG_NUMBER }
+    requires leaf { IsLeaf (value_view value.now) }
+    ensures at_most { result ≤ MAX_ENCODING + 1 }
+    ensures size { HasSize (IsLeafEncoding (rule_of rule) tag (value_view value.now)) result }
+{
+    match value {
+        Value::Bits(bits) => size_of_string(rule, tag, 1, bits.octets().len()),
+        Value::Octets(octets) | Value::Text(octets) => size_of_string(rule, tag, 0, octets.len()),
+        Value::Boolean(_)
+        | Value::Integer(_)
+        | Value::Enumerated(_)
+        | Value::Null
+        | Value::Oid(_)
+        | Value::RelativeOid(_) => size_of_simple(rule, tag, value),
+        Value::Fields(_) | Value::Items(_) | Value::Chosen(..) => unreachable!(),
+    }
+}
+
+// The same of a value whose encodings are primitive.
+fn size_of_simple(rule: CanonicalRule, tag: Tag, value: &Value) -> usize
+    requires tag { tag.number ≤ MAX_TAG_NUMBER }
+    requires simple { IsSimple (value_view value.now) }
+    ensures at_most { result ≤ MAX_ENCODING + 1 }
+    ensures size { HasSize (IsSimplyEncoded (rule_of rule) tag (value_view value.now)) result }
+{
+    size_of_definite(tag, size_of_contents(rule, value))
+}
+
+// Appends the encoding of a value under `tag`, turned round.
+pub(crate) fn put_leaf(
+    rule: CanonicalRule,
+    tag: Tag,
+    value: &Value,
+    out: &mut Vec<u8>,
+) -> Result<(), NoMemory>
+    requires tag { tag.number ≤ MAX_TAG_NUMBER }
+    requires leaf { IsLeaf (value_view value.now) }
+    ensures { OnOk result (Appends
+        (Turned (IsLeafEncoding (rule_of rule) tag (value_view value.now))) out.old.items out.new.items) }
+{
+    let start = out.len();
+    put_forwards(rule, tag, value, out)?;
+    turn(out, start);
+    Ok(())
+}
+
+// Appends the encoding of a value under `tag`.
+fn put_forwards(
+    rule: CanonicalRule,
+    tag: Tag,
+    value: &Value,
+    out: &mut Vec<u8>,
+) -> Result<(), NoMemory>
+    requires tag { tag.number ≤ MAX_TAG_NUMBER }
+    requires leaf { IsLeaf (value_view value.now) }
+    ensures { OnOk result (Appends
+        (IsLeafEncoding (rule_of rule) tag (value_view value.now)) out.old.items out.new.items) }
+{
+    match value {
+        Value::Bits(bits) => {
+            put_string(
+                rule,
+                tag,
+                BIT_SEGMENT,
+                &[0],
+                &[bits.unused()],
+                bits.octets(),
+                out,
+            )
+        }
+        Value::Octets(octets) | Value::Text(octets) => {
+            put_string(rule, tag, OCTET_SEGMENT, &[], &[], octets, out)
+        }
+        Value::Boolean(_)
+        | Value::Integer(_)
+        | Value::Enumerated(_)
+        | Value::Null
+        | Value::Oid(_)
+        | Value::RelativeOid(_) => put_simple(rule, tag, value, out),
+        Value::Fields(_) | Value::Items(_) | Value::Chosen(..) => unreachable!(),
+    }
+}
+
+// The same of a value whose encodings are primitive.
+fn put_simple(
+    rule: CanonicalRule,
+    tag: Tag,
+    value: &Value,
+    out: &mut Vec<u8>,
+) -> Result<(), NoMemory>
+    requires tag { tag.number ≤ MAX_TAG_NUMBER }
+    requires simple { IsSimple (value_view value.now) }
+    ensures { OnOk result (Appends
+        (IsSimplyEncoded (rule_of rule) tag (value_view value.now)) out.old.items out.new.items) }
+{
+    put_identifier(out, tag, false)?;
+    put_shortest_length(out, size_of_contents(rule, value))?;
+    put_contents(rule, value, out)
+}

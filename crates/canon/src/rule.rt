@@ -1,0 +1,10 @@
+//! The canonical encoding rules as values.
+
+/// A rule that gives each value one encoding.
+#[derive(Clone, Copy, Debug, PartialEq, Eq)]
+pub(crate) enum CanonicalRule {
+    /// X.690 clause 9.
+    Cer,
+    /// X.690 clause 10.
+    Der,
+}

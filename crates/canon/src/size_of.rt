@@ -1,0 +1,104 @@
+//! How many octets the encoding of a value has, counted up to one past the limit.
+
+ghost use Rattle.std.specs.Prelude.{◌≤◌, ◌+◌, map};
+ghost use Rattle.std.specs.List.{AllByRecursion};
+ghost use Rattle.octets.specs.declared.TheConstants.{MAX_ENCODING};
+ghost use Rattle.types.specs.Conforms.{Conforms, SlotsConform};
+ghost use Rattle.types.specs.Encoding.{IsEncoding};
+ghost use Rattle.types.specs.View.{ty_view, value_view, components_view, slots_view};
+ghost use Rattle.canon.specs.Node.{HasGoodNodes, HaveGoodNodes, AreItems, AreComponents};
+ghost use Rattle.canon.specs.Rule.{rule_of};
+ghost use Rattle.canon.specs.Size.{HasSize};
+
+use crate::leaf::size_of_leaf;
+use crate::parts::{chosen_in, items_in, slots_in};
+use crate::rule::CanonicalRule;
+use crate::sizes::size_of_constructed;
+use octets::MAX_ENCODING;
+use types::{Field, Ty, Value};
+
+// How many octets the encoding of `value` has, or one more than the limit. Takes no memory.
+#[cycle(size)]
+pub(crate) fn size_of(rule: CanonicalRule, ty: &Ty, value: &Value) -> usize
+    requires nodes { HasGoodNodes (ty_view ty.now) }
+    requires conforms { Conforms (ty_view ty.now) (value_view value.now) }
+    ensures at_most { result ≤ MAX_ENCODING + 1 }
+    ensures size { HasSize (IsEncoding (rule_of rule) (ty_view ty.now) (value_view value.now)) result }
+{
+    match ty {
+        Ty::Boolean(tag)
+        | Ty::Integer(tag)
+        | Ty::Enumerated(tag, _)
+        | Ty::Null(tag)
+        | Ty::Oid(tag)
+        | Ty::RelativeOid(tag)
+        | Ty::Bits(tag)
+        | Ty::Octets(tag)
+        | Ty::Text(tag, _)
+        | Ty::Time(tag, _) => size_of_leaf(rule, *tag, value),
+        Ty::Sequence(tag, fields) | Ty::Set(tag, fields) => {
+            let contents = size_of_components(rule, fields, slots_in(value));
+            size_of_constructed(rule, *tag, contents)
+        }
+        Ty::SequenceOf(tag, inner) => {
+            let contents = size_of_items(rule, inner, items_in(value));
+            size_of_constructed(rule, *tag, contents)
+        }
+        Ty::SetOf(tag, inner) => {
+            let sorted = size_of_items(rule, inner, items_in(value));
+            size_of_constructed(rule, *tag, sorted)
+        }
+        Ty::Choice(alternatives) => {
+            let Some((which, chosen)) = chosen_in(value) else {
+                unreachable!()
+            };
+            size_of(rule, &alternatives[which].ty, chosen)
+        }
+        Ty::Explicit(tag, inner) => {
+            let contents = size_of(rule, inner, value);
+            size_of_constructed(rule, *tag, contents)
+        }
+    }
+}
+
+// The same of the encodings of items, one after another.
+#[cycle(size)]
+fn size_of_items(rule: CanonicalRule, ty: &Ty, items: &[Value]) -> usize
+    requires nodes { HasGoodNodes (ty_view ty.now) }
+    requires conform { AllByRecursion (Conforms (ty_view ty.now)) (map value_view items.now) }
+    ensures at_most { result ≤ MAX_ENCODING + 1 }
+    ensures size { HasSize
+        (AreItems (IsEncoding (rule_of rule) (ty_view ty.now)) (map value_view items.now)) result }
+{
+    let count = items.len();
+    let mut total = 0usize;
+    for done in 0..count {
+        let item = &items[count - 1 - done];
+        total = (total + size_of(rule, ty, item)).min(MAX_ENCODING + 1);
+    }
+    total
+}
+
+// The same of the encodings of components.
+#[cycle(size)]
+fn size_of_components(rule: CanonicalRule, fields: &[Field], slots: &[Option<Value>]) -> usize
+    requires nodes { HaveGoodNodes (components_view fields.now) }
+    requires conform { SlotsConform (components_view fields.now) (slots_view slots.now) }
+    ensures at_most { result ≤ MAX_ENCODING + 1 }
+    ensures size { HasSize
+        (AreComponents (rule_of rule) (components_view fields.now) (slots_view slots.now)) result }
+{
+    let count = fields.len().min(slots.len());
+    let mut total = 0usize;
+    for done in 0..count {
+        let place = count - 1 - done;
+        match &slots[place] {
+            Some(value) => {
+                let size = size_of(rule, &fields[place].ty, value);
+                total = (total + size).min(MAX_ENCODING + 1);
+            }
+            None => {}
+        }
+    }
+    total
+}
