@@ -1,4 +1,4 @@
--- The types of the worked rows, which are well formed, and lists of tags that differ.
+-- The types of the worked examples, which are well formed, and lists of tags that differ.
 use Rattle.std.proofs.Common.{◌≡◌, ◌≢◌, ◌⊎◌, ◌<◌, ◌≤◌, ℕ, List, [], ◌∷◌, inl, inr, sym, ap, arith, pos, Contains}
 use Rattle.std.proofs.lemmas.Int.{ints}
 use Rattle.octets.specs.declared.tag.Tag.{Tag}
