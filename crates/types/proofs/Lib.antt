@@ -66,3 +66,4 @@ pub mod SetPartInstances
 pub mod AbsentInstances
 pub mod SetOrderInstances
 pub mod ConformsInstances
+pub mod ImplicitInstances
