@@ -67,3 +67,4 @@ pub mod AbsentInstances
 pub mod SetOrderInstances
 pub mod ConformsInstances
 pub mod ImplicitInstances
+pub mod ClassOrderInstances
