@@ -68,3 +68,4 @@ pub mod SetOrderInstances
 pub mod ConformsInstances
 pub mod ImplicitInstances
 pub mod ClassOrderInstances
+pub mod LongInstances
