@@ -69,3 +69,4 @@ pub mod ConformsInstances
 pub mod ImplicitInstances
 pub mod ClassOrderInstances
 pub mod LongInstances
+pub mod LongItemInstances
