@@ -70,3 +70,4 @@ pub mod ImplicitInstances
 pub mod ClassOrderInstances
 pub mod LongInstances
 pub mod LongItemInstances
+pub mod TagDepthInstances
