@@ -19,7 +19,7 @@ pub trait Canon {
     ghost rule: { Rule };
 
     /// Appends the encoding of `value`, which conforms to `ty`: `conforms` tells. `OutputTooLong` says
-    /// that it would have more than `MAX_ENCODING` octets, and no want of memory hides that.
+    /// that it would have more than `MAX_ENCODING` octets, and being out of memory never hides that.
     fn put(
         &self,
         alloc: Global,

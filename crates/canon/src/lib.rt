@@ -1,7 +1,7 @@
 //! Writers of the canonical encodings: CER and DER (X.690 clauses 9 to 11).
 //!
-//! Each gives a value one encoding. Its length is known before the vector grows, so that want of memory
-//! never hides an encoding that is too long. It is written from the last octet to the first, so that each
+//! Each gives a value one encoding. Its length is known before the vector grows, so that being out of
+//! memory never hides one that is too long. It is written from the last octet to the first, so that each
 //! length is known once it comes, and turned round at the end.
 #![tactic(auto)]
 
