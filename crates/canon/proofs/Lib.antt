@@ -17,3 +17,7 @@ pub mod PutLemmas
 pub mod TagPutLemmas
 pub mod LeastLemmas
 pub mod AcceptedLemmas
+pub mod CopyLemmas
+pub mod SameValueLemmas
+pub mod OrderedLemmas
+pub mod OrderedOnceLemmas

@@ -82,6 +82,22 @@ pub ascends_from_sort_back : {X F : Type 0} {g : Mut F (Bor X × (Bor X × Unit 
 ascends_from_sort_back {g = g} {s = s} f xs up h =
     ascends_from_falls f xs (up (falls f) (falls_order f) (always_returns_same g (λ a r. is_lt r ≡ falls f a.0.now a.1.0.now) s (λ a r s' k. (ap is_lt (h a r s' k).0, (h a r s' k).1))))
 
+module _ {X : Type 0} (f : X → List ℕ) where
+  -- the test by which a sort puts the least first
+  abbrev rises : X → X → Bool
+  rises a b = is_lt (slice_cmp nat_cmp (f a) (f b))
+
+  rises_order : IsStrictWeakOrder rises
+  rises_order = ranks_by nat_list_cmp_total f
+
+  -- what `sort_unstable_by` ensures, where each call compares what f gives of the two
+  pub ascends_from_sort : {F : Type 0} {g : Mut F (Bor X × (Bor X × Unit {0})) Ordering} {s : F} (xs : List X)
+      → ((lt : X → X → Bool) → IsStrictWeakOrder lt → ComparesAs g lt s → IsSortedBy lt xs)
+      → ((a : Bor X × (Bor X × Unit {0})) (r : Ordering) (s' : F) → Called g s a r s' → (r ≡ slice_cmp nat_cmp (f a.0.now) (f a.1.0.now)) × (s' ≡ s)) → Ascends (map f xs)
+  ascends_from_sort {g = g} {s = s} xs up h =
+      let sorted = up rises rises_order (always_returns_same g (λ a r. is_lt r ≡ rises a.0.now a.1.0.now) s (λ a r s' k. (ap is_lt (h a r s' k).0, (h a r s' k).1))) in
+      pairs_at f IsPaddedAtMost xs (λ i j d p q. le_from_cmp (f (get_or xs i d)) (f (get_or xs j d)) (sorted_far rises rises_order xs sorted i j d (omega arith) q))
+
 not_before : (a b : Tag) (o : Ordering) → MatchOrdering o (ComesBefore a b) (a ≡ b) (ComesBefore b a) → is_lt o ≡ false → ComesBefore a b → ⊥
 not_before a b Less h test before = cc
 not_before a b Equal h test before = tags_are_ordered.not_itself b (subst (λ t. ComesBefore t b) h before)

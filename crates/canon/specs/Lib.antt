@@ -6,3 +6,5 @@ pub mod Leaf
 pub mod Node
 pub mod Span
 pub mod Part
+pub mod Ordered
+pub mod Laws

@@ -1,6 +1,7 @@
 -- Parts that were laid one after another in a buffer.
 use Rattle.std.specs.Prelude.{◌≡◌, ◌+◌, ⊤, ℕ, List, [], ◌∷◌, ◌++◌, length, reverse}
 use Rattle.std.specs.List.{AllZip, concat}
+use Rattle.octets.specs.Front.{Appends}
 use Rattle.types.specs.Shape.{Val}
 use Rattle.types.specs.Encoding.{Meaning}
 use Rattle.canon.specs.declared.spans.Span.{Span}
@@ -26,3 +27,7 @@ pub record AreLaid (IsItem : Meaning) (values : List Val) (spans : List Span) (o
   pub each : AllZip IsItem values encodings
   pub cuts : Cuts (length old) spans (reverse encodings)
   pub is : new ≡ old ++ concat (reverse encodings)
+
+-- what stood in a buffer still stands at its front
+abbrev pub Keeps : List ℕ → List ℕ → Type 0
+Keeps old new = Appends (λ _. ⊤) old new

@@ -133,7 +133,7 @@ fn put_in_order(
 
 // Appends the encoding of `value` and returns where it stands.
 #[cycle(back)]
-fn put_span(
+pub(crate) fn put_span(
     alloc: Global,
     rule: CanonicalRule,
     ty: &Ty,

@@ -1,6 +1,6 @@
 //! Contents octets of the values whose encodings are primitive.
 
-ghost use Rattle.std.specs.Prelude.{◌≡◌, ◌≤◌, ◌<◌, ◌*◌, ◌^◌, ◌∷◌, ℕ, List, length, Bool, All, OnOk};
+ghost use Rattle.std.specs.Prelude.{◌≡◌, ◌≤◌, ◌<◌, ◌*◌, ◌^◌, ◌∷◌, ℕ, List, length, Bool, All, OnOk, OnErr};
 ghost use Rattle.octets.specs.Base128.{IsBase128};
 ghost use Rattle.octets.specs.Front.{Appends};
 ghost use Rattle.primitives.specs.Integer.{IsInteger, number_at};
@@ -21,8 +21,9 @@ pub(crate) fn put_contents(
     out: &mut Vec<u8>,
 ) -> Result<(), NoMemory>
     requires { IsSimple (value_view value.now) }
-    ensures { OnOk result
+    ensures appended { OnOk result
         (Appends (IsContentsOf (rule_of rule) (value_view value.now)) out.old.items out.new.items) }
+    ensures unchanged { OnErr result (out.new.items ≡ out.old.items) }
 {
     let _ = rule;
     match value {

@@ -1,10 +1,11 @@
 //! Encodings of values without parts.
 
-ghost use Rattle.std.specs.Prelude.{◌≡◌, ◌≤◌, ◌+◌, OnOk};
+ghost use Rattle.std.specs.Prelude.{◌≡◌, ◌≤◌, ◌+◌, OnOk, OnErr};
 ghost use Rattle.octets.specs.declared.TheConstants.{MAX_ENCODING, MAX_TAG_NUMBER};
 ghost use Rattle.octets.specs.Front.{Appends};
 ghost use Rattle.types.specs.View.{value_view};
 ghost use Rattle.canon.specs.Leaf.{IsLeaf, IsLeafEncoding, IsSimple, IsSimplyEncoded};
+ghost use Rattle.canon.specs.Part.{Keeps};
 ghost use Rattle.canon.specs.Rule.{rule_of};
 ghost use Rattle.canon.specs.Size.{HasSize};
 ghost use Rattle.canon.specs.Turned.{Turned};
@@ -76,6 +77,29 @@ pub(crate) fn put_leaf(
     Ok(())
 }
 
+// Appends the encoding of a value under `tag`, of so many octets, or nothing.
+pub(crate) fn put_alone(
+    rule: CanonicalRule,
+    tag: Tag,
+    value: &Value,
+    size: usize,
+    out: &mut Vec<u8>,
+) -> Result<(), NoMemory>
+    requires tag { tag.number ≤ MAX_TAG_NUMBER }
+    requires leaf { IsLeaf (value_view value.now) }
+    ensures appended { OnOk result (Appends
+        (IsLeafEncoding (rule_of rule) tag (value_view value.now)) out.old.items out.new.items) }
+    ensures unchanged { OnErr result (out.new.items ≡ out.old.items) }
+{
+    let start = out.len();
+    out.reserve(size)?;
+    if put_forwards(rule, tag, value, out).is_err() {
+        out.truncate(start);
+        return Err(NoMemory);
+    }
+    Ok(())
+}
+
 // Appends the encoding of a value under `tag`.
 fn put_forwards(
     rule: CanonicalRule,
@@ -85,8 +109,9 @@ fn put_forwards(
 ) -> Result<(), NoMemory>
     requires tag { tag.number ≤ MAX_TAG_NUMBER }
     requires leaf { IsLeaf (value_view value.now) }
-    ensures { OnOk result (Appends
+    ensures appended { OnOk result (Appends
         (IsLeafEncoding (rule_of rule) tag (value_view value.now)) out.old.items out.new.items) }
+    ensures kept { OnErr result (Keeps out.old.items out.new.items) }
 {
     match value {
         Value::Bits(bits) => {
@@ -122,8 +147,9 @@ fn put_simple(
 ) -> Result<(), NoMemory>
     requires tag { tag.number ≤ MAX_TAG_NUMBER }
     requires simple { IsSimple (value_view value.now) }
-    ensures { OnOk result (Appends
+    ensures appended { OnOk result (Appends
         (IsSimplyEncoded (rule_of rule) tag (value_view value.now)) out.old.items out.new.items) }
+    ensures kept { OnErr result (Keeps out.old.items out.new.items) }
 {
     put_identifier(out, tag, false)?;
     put_shortest_length(out, size_of_contents(rule, value))?;

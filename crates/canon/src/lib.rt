@@ -1,17 +1,20 @@
 //! Writers of the canonical encodings: CER and DER (X.690 clauses 9 to 11).
 //!
 //! Each gives a value one encoding. Its length is known before the vector grows, so that being out of
-//! memory never hides one that is too long. It is written from the last octet to the first, so that each
-//! length is known once it comes, and turned round at the end.
+//! memory never hides one that is too long. That of a value with parts is written from the last octet to
+//! the first, so that each length is known once it comes, and turned round at the end.
 #![tactic(auto)]
 
 mod back;
 mod canon;
 mod cer;
 mod contents;
+mod copying;
 mod der;
 mod heads;
+mod laws;
 mod leaf;
+mod ordering;
 mod parts;
 mod put;
 mod rule;
@@ -25,6 +28,8 @@ mod tags;
 pub use canon::Canon;
 pub use cer::Cer;
 pub use der::Der;
+pub use laws::equal_in_order_exactly_if_same;
+pub use ordering::order;
 pub use sameness::same;
 
 /// The most contents octets of a primitive encoding of a string under CER (X.690 9.2).

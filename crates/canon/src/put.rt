@@ -10,6 +10,7 @@ ghost use Rattle.canon.specs.Node.{HasGoodNodes};
 ghost use Rattle.canon.specs.Rule.{rule_of};
 
 use crate::back::put_back;
+use crate::leaf::put_alone;
 use crate::rule::CanonicalRule;
 use crate::size_of::size_of;
 use octets::{MAX_ENCODING, NoMemory};
@@ -45,6 +46,27 @@ pub(crate) fn put_within(
 
 // The same, however long, with room for so many octets from the start.
 fn put_sized(
+    alloc: Global,
+    rule: CanonicalRule,
+    ty: &Ty,
+    value: &Value,
+    size: usize,
+    out: &mut Vec<u8>,
+) -> Result<(), NoMemory>
+    requires nodes { HasGoodNodes (ty_view ty.now) }
+    requires conforms { Conforms (ty_view ty.now) (value_view value.now) }
+    ensures appended { OnOk result
+        (Appends (IsEncoding (rule_of rule) (ty_view ty.now) (value_view value.now)) out.old.items out.new.items) }
+    ensures unchanged { OnErr result (out.new.items ≡ out.old.items) }
+{
+    match ty.tag() {
+        Some(tag) if ty.has_no_parts() => put_alone(rule, tag, value, size, out),
+        Some(_) | None => put_turned(alloc, rule, ty, value, size, out),
+    }
+}
+
+// The same by way of a buffer in which it stands turned round.
+fn put_turned(
     alloc: Global,
     rule: CanonicalRule,
     ty: &Ty,

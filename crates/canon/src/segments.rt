@@ -7,11 +7,12 @@
 //! That the last segment carries at least one octet of data is this project's own rule
 //! (`docs/PROFILE.md`, "The last segment").
 
-ghost use Rattle.std.specs.Prelude.{◌≡◌, ◌≤◌, ◌<◌, ◌+◌, ◌^◌, ◌++◌, ℕ, List, length, OnOk};
+ghost use Rattle.std.specs.Prelude.{◌≡◌, ◌≤◌, ◌<◌, ◌+◌, ◌^◌, ◌++◌, ℕ, List, length, OnOk, OnErr};
 ghost use Rattle.octets.specs.declared.TheConstants.{MAX_ENCODING, MAX_TAG_NUMBER};
 ghost use Rattle.octets.specs.Front.{Appends};
 ghost use Rattle.octets.specs.Rule.{cer};
 ghost use Rattle.types.specs.Form.{IsPrimitive};
+ghost use Rattle.canon.specs.Part.{Keeps};
 ghost use Rattle.canon.specs.Rule.{rule_of};
 ghost use Rattle.canon.specs.Segments.{AreSegmentsOf, IsCutOf, IsStringOf};
 ghost use Rattle.canon.specs.Size.{HasSize};
@@ -87,8 +88,9 @@ pub(crate) fn put_string(
     requires segment { segment.number ≤ 30 }
     requires whole { length whole.now ≡ length lead.now }
     requires lead { length lead.now ≤ 1 }
-    ensures { OnOk result (Appends
+    ensures appended { OnOk result (Appends
         (IsStringOf (rule_of rule) tag segment whole.now lead.now octets.now) out.old.items out.new.items) }
+    ensures kept { OnErr result (Keeps out.old.items out.new.items) }
 {
     match rule {
         CanonicalRule::Cer if octets.len() > SEGMENT_OCTETS - lead.len() => {
@@ -112,8 +114,9 @@ fn put_cut(
     requires whole { length whole.now ≡ length lead.now }
     requires lead { length lead.now ≤ 1 }
     requires some { 1 ≤ length octets.now }
-    ensures { OnOk result
+    ensures appended { OnOk result
         (Appends (IsCutOf tag segment whole.now lead.now octets.now) out.old.items out.new.items) }
+    ensures kept { OnErr result (Keeps out.old.items out.new.items) }
 {
     put_identifier(out, tag, true)?;
     out.push(0x80)?;
@@ -134,8 +137,9 @@ fn append_segments(
     requires whole { length whole.now ≡ length lead.now }
     requires lead { length lead.now ≤ 1 }
     requires some { 1 ≤ length octets.now }
-    ensures { OnOk result
+    ensures appended { OnOk result
         (Appends (AreSegmentsOf segment whole.now lead.now octets.now) out.old.items out.new.items) }
+    ensures kept { OnErr result (Keeps out.old.items out.new.items) }
 {
     let room = SEGMENT_OCTETS - lead.len();
     let mut rest = octets;
@@ -151,8 +155,9 @@ fn append_segments(
 fn put_primitive(tag: Tag, lead: &[u8], octets: &[u8], out: &mut Vec<u8>) -> Result<(), NoMemory>
     requires tag { tag.number ≤ MAX_TAG_NUMBER }
     requires lead { length lead.now ≤ 1 }
-    ensures { OnOk result
+    ensures appended { OnOk result
         (Appends (IsPrimitive cer tag (lead.now ++ octets.now)) out.old.items out.new.items) }
+    ensures kept { OnErr result (Keeps out.old.items out.new.items) }
 {
     put_identifier(out, tag, false)?;
     put_shortest_length(out, lead.len() + octets.len())?;

@@ -8,8 +8,6 @@ use Rattle.types.specs.declared.ty.Ty.{Ty}
 use Rattle.types.specs.Conforms.{Conforms}
 use Rattle.types.specs.Encoding.{IsEncoding}
 use Rattle.types.specs.View.{ty_view, value_view}
-use Rattle.types.proofs.EncodingLemmas.{encoding_unique}
-use Rattle.types.proofs.SameLemmas.{same_encodings}
 use Rattle.types.proofs.SameExactlyLemmas.{equal_exactly_if_same}
 use Rattle.canon.specs.Node.{HasGoodNodes}
 use Rattle.canon.proofs.AcceptedLemmas.{good_nodes}

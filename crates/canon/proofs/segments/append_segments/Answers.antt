@@ -13,7 +13,7 @@ loop-rest-preserved c =
     let after = c.split_at.result.1.now in
     let old = c.args.out.now.items in
     let done = c.loop-rest.invariant.written in
-    let put = c.in_ok-put_primitive.ensures in
+    let put = c.in_ok-put_primitive.ensures.appended in
     let out : c.put_primitive.new.out.items ≡ old ++ (done.0 ++ put.0) = put.1 ∙ (ap (λ x. x ++ put.0) done.1 ∙ append_assoc old done.0 put.0) in
     let full : length (c.args.whole.now ++ before) ≡ 1000 = omega (arith, length-append c.args.whole.now before, cut.front_len, c.requires.whole, c.requires.lead) in
     record {
@@ -28,8 +28,8 @@ loop-rest-preserved c =
       );
     }
 
-pub returns : goal.returns
-returns c =
+pub returns-clause-appended : goal.returns-clause-appended
+returns-clause-appended c =
     let rest = c.loop-rest.rest.now in
     let old = c.args.out.now.items in
     let done = c.loop-rest.invariant.written in
@@ -41,4 +41,4 @@ returns c =
       h.1 ∙ (ap (λ x. x ++ h.0) done.1 ∙ append_assoc old done.0 h.0),
       done.2 h.0 (AreSegmentsOf.last rest h.0 c.loop-rest.invariant.some few h.2),
     ))
-    c.put_primitive-2.ensures
+    c.put_primitive-2.ensures.appended
