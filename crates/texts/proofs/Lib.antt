@@ -1,0 +1,4 @@
+pub mod TextLemmas
+pub mod PlainLemmas
+pub mod ShownLemmas
+mod TextInstances

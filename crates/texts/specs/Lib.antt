@@ -1,0 +1,4 @@
+pub mod Leaf
+pub mod Text
+pub mod Shown
+pub mod Laws

@@ -1,0 +1,8 @@
+//! What holds of all texts of values of a well-formed type.
+
+ghost use Rattle.texts.specs.Laws.{SameValuesHaveOneText};
+
+/// The same values have one text.
+pub fn same_values_have_one_text()
+    ensures { SameValuesHaveOneText }
+{}

@@ -1,0 +1,18 @@
+//! The readable text of a value.
+//!
+//! This is no value notation of X.680, but close to it: names of components and alternatives, items in
+//! braces, strings in quotes (`docs/PROFILE.md`, "The text of a value").
+#![tactic(auto)]
+
+mod laws;
+mod leaf;
+mod plain;
+mod printing;
+mod quoting;
+mod showing;
+
+pub use laws::same_values_have_one_text;
+pub use showing::show;
+
+#[cfg(test)]
+mod tests;

@@ -1,0 +1,48 @@
+//! Texts of values without parts that are no strings.
+
+use super::made::Plan::{Boolean, Empty, Enumerated, Integer, Oid, RelativeOid};
+use super::made::{Given, Plan};
+use super::shows;
+use std::test::Fail;
+
+const LETTERS: Plan = Enumerated(&[("a", 1), ("b", 2), ("c", 0), ("d", 3)]);
+
+// (type, value, text)
+const CASES: [(Plan, Given, &str); 19] = [
+    (Boolean, Given::Boolean(true), "TRUE"),
+    (Boolean, Given::Boolean(false), "FALSE"),
+    (Integer, Given::Integer(0), "0"),
+    (Integer, Given::Integer(7), "7"),
+    (Integer, Given::Integer(-1), "-1"),
+    (Integer, Given::Integer(-128), "-128"),
+    (
+        Integer,
+        Given::Integer(0x7FFF_FFFF_FFFF_FFFF_FFFF_FFFF_FFFF_FFFF),
+        "170141183460469231731687303715884105727",
+    ),
+    (
+        Integer,
+        Given::Integer(-0x7FFF_FFFF_FFFF_FFFF_FFFF_FFFF_FFFF_FFFF - 1),
+        "-170141183460469231731687303715884105728",
+    ),
+    (LETTERS, Given::Enumerated(1), "a"),
+    (LETTERS, Given::Enumerated(2), "b"),
+    (LETTERS, Given::Enumerated(0), "c"),
+    (LETTERS, Given::Enumerated(3), "d"),
+    (Enumerated(&[("below", -3)]), Given::Enumerated(-3), "below"),
+    (Empty, Given::Empty, "NULL"),
+    (Oid, Given::Oid(&[2, 100, 3]), "2.100.3"),
+    (Oid, Given::Oid(&[0, 0]), "0.0"),
+    (
+        Oid,
+        Given::Oid(&[2, 340282366920938463463374607431768211375]),
+        "2.340282366920938463463374607431768211375",
+    ),
+    (RelativeOid, Given::RelativeOid(&[8571]), "8571"),
+    (RelativeOid, Given::RelativeOid(&[0, 3, 2]), "0.3.2"),
+];
+
+#[test]
+fn values_without_parts(rt: HostRuntime) -> Result<(), Fail> {
+    shows(&rt, rt.alloc(), &CASES)
+}
