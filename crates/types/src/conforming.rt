@@ -82,7 +82,7 @@ fn slot_conforms(field: &Field, slot: &Option<Value>) -> bool
     }
 }
 
-// Whether a component may be absent.
+/// Whether a component may be absent.
 pub fn may_be_absent(presence: &Presence) -> bool
     ensures { IsTrue result ↔ MayBeAbsent (requirement_view presence.now) }
 {

@@ -5,7 +5,7 @@ ghost use Rattle.types.specs.View.{value_view, slots_view, items_view};
 
 use crate::Value;
 
-// Whether two values are equal, part by part.
+/// Whether two values are equal, part by part. Takes no memory.
 #[cycle(equality)]
 pub fn are_equal(a: &Value, b: &Value) -> bool
     ensures { IsTrue result ↔ (value_view a.now ≡ value_view b.now) }

@@ -15,7 +15,8 @@ mod ty;
 mod value;
 mod well_typed;
 
-pub use conforming::conforms;
+pub use conforming::{conforms, may_be_absent};
+pub use equality::are_equal;
 pub use laws::{
     canonical_encodings_are_ber, encoded_values_conform, encodings_that_tie_are_equal,
     equal_canonical_encodings_exactly_if_same, every_value_has_a_canonical_encoding,
