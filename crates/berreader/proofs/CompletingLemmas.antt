@@ -9,7 +9,6 @@ use Rattle.octets.specs.Rule.{ber}
 use Rattle.types.specs.Form.{IsConstructed}
 use Rattle.types.specs.FirstTags.{IsUsable}
 use Rattle.types.specs.Depth.{IsNested}
-use Rattle.types.specs.Encoding.{most_nested}
 use Rattle.types.specs.Strings.{AreSegments}
 use Rattle.types.proofs.FormLemmas.{length-definite}
 use Rattle.types.proofs.NestingLemmas.{IsAboveZero, definite_above, constructed_above}
@@ -97,19 +96,19 @@ constructed_of_frame tag end taken after opened head contents mark h e place =
     subst (λ x. IsConstructed ber tag contents (x ++ (contents ++ mark))) (sym h.joined)
     (form_of_frame tag end taken after opened h.identifier h.size contents mark h.tagged h.form e (omega (arith, place, ap length h.joined, length-append h.identifier h.size)))
 
-module _ {A : Type 0} (inner : Tag) (Holds : List A → List ℕ → Type 0) (Whole : List A → Type 0) (kept : IsUsable inner)
+module _ {A : Type 0} (inner : Tag) (Holds : List A → List ℕ → Type 0) (Whole : List A → Type 0) (levels : ℕ) (kept : IsUsable inner)
     (joins : (a b : List A) → Whole a → Whole b → Whole (a ++ b)) (parts : (a b : List A) → Whole a → Whole (a ++ b) → Whole b) where
   -- segments, and then what completes the string
   pub completes_segments : (n : ℕ) (p : List A) (c : List ℕ) → SegmentsWithin inner Holds Whole n p c
       → (frame : Frame) (frames : List Frame) (taken after : ℕ) (string joined total : List A) (octets others rest : List ℕ)
-      → length (frame ∷ frames) + n ≡ most_nested → (c ≢ [] → Whole string) → after ≡ taken + length c → after ≤ frame.end → joined ≡ string ++ p → octets ≡ c ++ others
-      → Completes inner Holds Whole (frame ∷ frames) after joined others total rest → Completes inner Holds Whole (frame ∷ frames) taken string octets total rest
+      → length (frame ∷ frames) + n ≡ levels → (c ≢ [] → Whole string) → after ≡ taken + length c → after ≤ frame.end → joined ≡ string ++ p → octets ≡ c ++ others
+      → Completes inner Holds Whole levels (frame ∷ frames) after joined others total rest → Completes inner Holds Whole levels (frame ∷ frames) taken string octets total rest
   completes_segments n p c SegmentsWithin.none frame frames taken after string joined total octets others rest deep gate place fits join is h =
       let place' : after ≡ taken = omega (arith, place) in
       let join' : joined ≡ string = join ∙ append-nil string in
-      subst (λ t. Completes inner Holds Whole (frame ∷ frames) t string octets total rest) place'
-      (subst (λ s. Completes inner Holds Whole (frame ∷ frames) after s octets total rest) join'
-      (subst (λ o. Completes inner Holds Whole (frame ∷ frames) after joined o total rest) (sym is) h))
+      subst (λ t. Completes inner Holds Whole levels (frame ∷ frames) t string octets total rest) place'
+      (subst (λ s. Completes inner Holds Whole levels (frame ∷ frames) after s octets total rest) join'
+      (subst (λ o. Completes inner Holds Whole levels (frame ∷ frames) after joined o total rest) (sym is) h))
   completes_segments n p c (SegmentsWithin.primitive {others = q} {rest = d} piece contents b holds w k f) frame frames taken after string joined total octets others rest deep gate place fits join is h =
       let above = definite_above inner false contents b kept w in
       let whole : Whole string = gate (not_empty b d above) in
@@ -126,10 +125,10 @@ module _ {A : Type 0} (inner : Tag) (Holds : List A → List ℕ → Type 0) (Wh
       let fr = framed inner frame.end taken contents b w (omega arith) in
       let length_b : length b ≡ length fr.head + (length contents + length fr.mark) = ap length fr.joined ∙ (length-append fr.head (contents ++ fr.mark) ∙ ap (λ x. length fr.head + x) (length-append contents fr.mark)) in
       let after_b = taken + length fr.head + length contents + length fr.mark in
-      let tail : Completes inner Holds Whole (frame ∷ frames) after_b (string ++ piece) (d ++ others) total rest =
+      let tail : Completes inner Holds Whole levels (frame ∷ frames) after_b (string ++ piece) (d ++ others) total rest =
       completes_segments n q d k frame frames after_b after (string ++ piece) joined total (d ++ others) others rest deep
       (λ more. joins string piece whole (f more)) (omega arith) fits (join ∙ sym (append_assoc string piece q)) refl h in
-      let ending : Completes inner Holds Whole (fr.opened ∷ frame ∷ frames) (taken + length fr.head + length contents) (string ++ piece) (fr.mark ++ (d ++ others)) total rest =
+      let ending : Completes inner Holds Whole levels (fr.opened ∷ frame ∷ frames) (taken + length fr.head + length contents) (string ++ piece) (fr.mark ++ (d ++ others)) total rest =
       Completes.ends fr.mark (d ++ others) after_b fr.ends refl refl tail in
       Completes.opens fr.opened fr.head (contents ++ (fr.mark ++ (d ++ others))) (taken + length fr.head) whole (omega arith) fr.opening
       (is ∙ (append_assoc b d others ∙ (ap (λ x. x ++ (d ++ others)) fr.joined ∙ (append_assoc fr.head (contents ++ fr.mark) (d ++ others) ∙ ap (λ x. fr.head ++ x) (append_assoc contents fr.mark (d ++ others))))))
@@ -156,9 +155,9 @@ module _ {A : Type 0} (inner : Tag) (Holds : List A → List ℕ → Type 0) (Wh
 
   abbrev pub Unwound : (total : List A) (rest : List ℕ) → List Frame → ℕ → List A → List ℕ → Type 0
   Unwound total rest [] taken string octets = (total ≡ string) × (octets ≡ rest)
-  Unwound total rest (frame ∷ frames) taken string octets = IsLevel (Unwound total rest frames) (most_nested - length (frame ∷ frames)) frame taken string octets
+  Unwound total rest (frame ∷ frames) taken string octets = IsLevel (Unwound total rest frames) (levels - length (frame ∷ frames)) frame taken string octets
 
-  pub unwind : (frames : List Frame) (taken : ℕ) (string total : List A) (octets rest : List ℕ) → Completes inner Holds Whole frames taken string octets total rest → Unwound total rest frames taken string octets
+  pub unwind : (frames : List Frame) (taken : ℕ) (string total : List A) (octets rest : List ℕ) → Completes inner Holds Whole levels frames taken string octets total rest → Unwound total rest frames taken string octets
   unwind frames taken string total octets rest (Completes.complete same is) = (same, is)
   unwind frames taken string total octets rest (Completes.ends {frame = f} {frames = fs} mark others after e is place k) =
       record {
@@ -185,7 +184,7 @@ module _ {A : Type 0} (inner : Tag) (Holds : List A → List ℕ → Type 0) (Wh
         piece = piece ++ l.piece;
         encodings = part ∷ l.encodings;
         segments = AreSegments.primitive piece s.contents part s.holds s.primitive l.segments (λ more. parts string piece whole (subst Whole join (l.gate more)));
-        each = (nested_primitive (most_nested - length (f ∷ fs)) part record { tag = inner; usable = kept; contents = s.contents; whole = s.primitive }, l.each);
+        each = (nested_primitive (levels - length (f ∷ fs)) part record { tag = inner; usable = kept; contents = s.contents; whole = s.primitive }, l.each);
         gate = λ more. whole;
         mark = l.mark;
         others = l.others;
@@ -204,8 +203,8 @@ module _ {A : Type 0} (inner : Tag) (Holds : List A → List ℕ → Type 0) (Wh
       let d = concat o.encodings in
       let segment = part ++ (c ++ i.mark) in
       let w : IsConstructed ber inner c segment = constructed_of_frame inner f.end taken (after + length c) opened part c i.mark opening i.ends (omega (arith, place)) in
-      let level : most_nested - length (f ∷ fs) ≡ suc (most_nested - length (opened ∷ f ∷ fs)) = omega (arith, deep) in
-      let nested : IsNested (suc (most_nested - length (opened ∷ f ∷ fs))) segment = nested_constructed (most_nested - length (opened ∷ f ∷ fs)) segment record { tag = inner; usable = kept; parts = i.encodings; each = i.each; whole = w } in
+      let level : levels - length (f ∷ fs) ≡ suc (levels - length (opened ∷ f ∷ fs)) = omega (arith, deep) in
+      let nested : IsNested (suc (levels - length (opened ∷ f ∷ fs))) segment = nested_constructed (levels - length (opened ∷ f ∷ fs)) segment record { tag = inner; usable = kept; parts = i.encodings; each = i.each; whole = w } in
       let size : length segment ≡ length part + (length c + length i.mark) = length-append part (c ++ i.mark) ∙ ap (λ x. length part + x) (length-append c i.mark) in
       let sizes : length (segment ++ d) ≡ length segment + length d = length-append segment d in
       record {

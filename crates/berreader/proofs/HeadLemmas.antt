@@ -3,7 +3,7 @@ use Rattle.std.proofs.Common.{◌≡◌, inl, inr, ℕ, ◌+◌, ◌-◌, ◌≤
 use Rattle.std.specs.Prelude.{slice_range}
 use Rattle.std.proofs.Math.Seq.{take-add}
 use Rattle.std.proofs.lemmas.Bool.{cases_lt}
-use Rattle.std.proofs.lemmas.List.{take-append-drop, take-append-le, length-take-le, length-drop, take_all}
+use Rattle.std.proofs.lemmas.List.{take-append-le, length-take-le, length-drop, take_all}
 use Rattle.octets.specs.declared.TheConstants.{MAX_ENCODING, MAX_TAG_NUMBER}
 use Rattle.octets.specs.declared.tag.Tag.{Tag}
 use Rattle.octets.specs.Front.{HasFront, Begins}
@@ -74,10 +74,10 @@ pub window_of_more : (n room : ℕ) (octets more : List ℕ) → octets ++ more 
 window_of_more n room octets more = front_of_more room octets more ∙ front_of_more n (take room octets) (drop room octets ++ more)
 
 -- the identifier octets that were read are those at the front
-pub tag_of_front : (t u : Tag) (j : Bool) (end taken used room : ℕ) (octets more : List ℕ) → IsIdentifier t j (take used (take room octets)) → (h : IsTagWithin u end taken (octets ++ more))
-    → IsSameIdentifier t u j h.constructed (take used (take room octets)) h.identifier (drop used (take room octets) ++ (drop room octets ++ more)) h.rest
-tag_of_front t u j end taken used room octets more f h =
-    identifier_unique t u j h.constructed (take used (take room octets)) h.identifier (drop used (take room octets) ++ (drop room octets ++ more)) h.rest f h.tagged (sym (window_of_more used room octets more) ∙ h.parts)
+pub tag_of_front : (t u : Tag) (j : Bool) (end taken used : ℕ) (octets more : List ℕ) → IsIdentifier t j (take used octets) → (h : IsTagWithin u end taken (octets ++ more))
+    → IsSameIdentifier t u j h.constructed (take used octets) h.identifier (drop used octets ++ more) h.rest
+tag_of_front t u j end taken used octets more f h =
+    identifier_unique t u j h.constructed (take used octets) h.identifier (drop used octets ++ more) h.rest f h.tagged (sym (front_of_more used octets more) ∙ h.parts)
 
 pub some_identifier : (t : Tag) (end taken : ℕ) (octets : List ℕ) → t.number ≤ MAX_TAG_NUMBER → (h : IsTagWithin t end taken octets) → IsSomeIdentifier h.identifier
 some_identifier t end taken octets within h = record { tag = t; constructed = h.constructed; within = within; identifier = h.tagged }

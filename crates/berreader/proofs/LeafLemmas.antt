@@ -1,8 +1,8 @@
 -- Lemmas on the encodings of types without parts.
-use Rattle.std.proofs.Common.{◌≡◌, ℕ, List, refl, sym, subst}
-use Rattle.octets.specs.Rule.{Rule, ber}
-use Rattle.types.specs.Shape.{SimpleType, StringType, SimpleValue, StringValue, Shape, Val}
-use Rattle.types.specs.Conforms.{SimpleConforms, StringConforms, Conforms}
+use Rattle.std.proofs.Common.{ℕ, List, refl, sym, subst}
+use Rattle.octets.specs.Rule.{Rule}
+use Rattle.types.specs.Shape.{SimpleType, StringType, SimpleValue, Shape, Val}
+use Rattle.types.specs.Conforms.{SimpleConforms, Conforms}
 use Rattle.types.specs.Contents.{IsContents}
 use Rattle.types.specs.Encoding.{IsEncoding}
 use Rattle.types.specs.Leaf.{IsLeaf}

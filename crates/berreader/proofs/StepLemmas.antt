@@ -8,7 +8,6 @@ use Rattle.octets.proofs.IdentifierLemmas.{identifier_unique}
 use Rattle.octets.proofs.LengthLemmas.{length_unique}
 use Rattle.types.specs.Form.{IsPrimitive}
 use Rattle.types.specs.FirstTags.{IsUsable}
-use Rattle.types.specs.Encoding.{most_nested}
 use Rattle.types.proofs.FormLemmas.{definite_unique, parts_of_definite, length-definite}
 use Rattle.types.proofs.NestingLemmas.{IsAboveZero, identifier_above, definite_above, not_end, no_length-128}
 use Rattle.berreader.specs.declared.frame.Frame.{Frame}
@@ -97,14 +96,14 @@ extent_of_opening tag end taken i opened head octets more s there f h is =
     let place : taken + length h.identifier ≡ taken + i = omega (arith, size, ap length same.octets) in
     subst (λ x. IsExtentWithin true end x (drop i octets ++ more)) place (extent_of_opens end (taken + length h.identifier) opened h.size s (drop i octets ++ more) h.form same.rest)
 
-module _ {A : Type 0} (inner : Tag) (Holds : List A → List ℕ → Type 0) (Whole : List A → Type 0) (one : (p q : List A) (c : List ℕ) → Holds p c → Holds q c → p ≡ q) (kept : IsUsable inner) where
-  pub after_end : (f : Frame) (fs : List Frame) (taken : ℕ) (s t : List A) (octets r mark z : List ℕ) → IsEndOf f taken mark → octets ≡ mark ++ z → Completes inner Holds Whole (f ∷ fs) taken s octets t r
-      → Completes inner Holds Whole fs (taken + length mark) s z t r
+module _ {A : Type 0} (inner : Tag) (Holds : List A → List ℕ → Type 0) (Whole : List A → Type 0) (levels : ℕ) (one : (p q : List A) (c : List ℕ) → Holds p c → Holds q c → p ≡ q) (kept : IsUsable inner) where
+  pub after_end : (f : Frame) (fs : List Frame) (taken : ℕ) (s t : List A) (octets r mark z : List ℕ) → IsEndOf f taken mark → octets ≡ mark ++ z → Completes inner Holds Whole levels (f ∷ fs) taken s octets t r
+      → Completes inner Holds Whole levels fs (taken + length mark) s z t r
   after_end f fs taken s t octets r mark z e is (Completes.ends other others after e' is' place k) =
       let same : mark ≡ other = end_unique f taken mark other e e' in
       let rest : others ≡ z = append_cancel_left other others z (sym is' ∙ (is ∙ ap (λ x. x ++ z) same)) in
       let there : after ≡ taken + length mark = place ∙ ap (λ x. taken + length x) (sym same) in
-      subst (λ x. Completes inner Holds Whole fs x s z t r) there (subst (λ x. Completes inner Holds Whole fs after s x t r) rest k)
+      subst (λ x. Completes inner Holds Whole levels fs x s z t r) there (subst (λ x. Completes inner Holds Whole levels fs after s x t r) rest k)
   after_end f fs taken s t octets r mark z e is (Completes.segment piece joined part others after whole seg is' place join k) =
       absurd (end_alone f taken mark part z others e (definite_above inner false seg.contents part kept seg.primitive) seg.fits (sym is ∙ is'))
   after_end f fs taken s t octets r mark z e is (Completes.opens opened part others after whole deep h is' place k) =
@@ -118,20 +117,20 @@ module _ {A : Type 0} (inner : Tag) (Holds : List A → List ℕ → Type 0) (Wh
     pub others : List ℕ
     pub segment : IsSegment inner Holds f.end taken piece part
     pub is : octets ≡ part ++ others
-    pub next : Completes inner Holds Whole (f ∷ fs) (taken + length part) (s ++ piece) others t r
+    pub next : Completes inner Holds Whole levels (f ∷ fs) (taken + length part) (s ++ piece) others t r
 
   -- a constructed segment begins
   pub record BeginsConstructed (f : Frame) (fs : List Frame) (taken : ℕ) (s t : List A) (octets r : List ℕ) : Type 0 where
     pub whole : Whole s
-    pub deep : length (f ∷ fs) < most_nested
+    pub deep : length (f ∷ fs) < levels
     pub opened : Frame
     pub part : List ℕ
     pub others : List ℕ
     pub opening : IsOpening inner f.end taken opened part
     pub is : octets ≡ part ++ others
-    pub next : Completes inner Holds Whole (opened ∷ f ∷ fs) (taken + length part) s others t r
+    pub next : Completes inner Holds Whole levels (opened ∷ f ∷ fs) (taken + length part) s others t r
 
-  pub begun : (f : Frame) (fs : List Frame) (taken : ℕ) (s t : List A) (octets r : List ℕ) → (EndsAt f taken octets → ⊥) → Completes inner Holds Whole (f ∷ fs) taken s octets t r
+  pub begun : (f : Frame) (fs : List Frame) (taken : ℕ) (s t : List A) (octets r : List ℕ) → (EndsAt f taken octets → ⊥) → Completes inner Holds Whole levels (f ∷ fs) taken s octets t r
       → BeginsPrimitive f fs taken s t octets r ⊎ BeginsConstructed f fs taken s t octets r
   begun f fs taken s t octets r absent (Completes.ends mark others after e is place k) = absurd (absent (record { mark = mark; others = others; ends = e; parts = is }))
   begun f fs taken s t octets r absent (Completes.segment piece joined part others after whole seg is place join k) =
@@ -142,7 +141,7 @@ module _ {A : Type 0} (inner : Tag) (Holds : List A → List ℕ → Type 0) (Wh
         others = others;
         segment = seg;
         is = is;
-        next = subst (λ x. Completes inner Holds Whole (f ∷ fs) x (s ++ piece) others t r) place (subst (λ x. Completes inner Holds Whole (f ∷ fs) after x others t r) join k);
+        next = subst (λ x. Completes inner Holds Whole levels (f ∷ fs) x (s ++ piece) others t r) place (subst (λ x. Completes inner Holds Whole levels (f ∷ fs) after x others t r) join k);
       })
   begun f fs taken s t octets r absent (Completes.opens opened part others after whole deep h is place k) =
       inr (record {
@@ -153,10 +152,10 @@ module _ {A : Type 0} (inner : Tag) (Holds : List A → List ℕ → Type 0) (Wh
         others = others;
         opening = h;
         is = is;
-        next = subst (λ x. Completes inner Holds Whole (opened ∷ f ∷ fs) x s others t r) place k;
+        next = subst (λ x. Completes inner Holds Whole levels (opened ∷ f ∷ fs) x s others t r) place k;
       })
 
-  pub ends_or_begins : (f : Frame) (fs : List Frame) (taken : ℕ) (s t : List A) (octets r : List ℕ) → Completes inner Holds Whole (f ∷ fs) taken s octets t r → EndsAt f taken octets ⊎ IsTagWithin inner f.end taken octets
+  pub ends_or_begins : (f : Frame) (fs : List Frame) (taken : ℕ) (s t : List A) (octets r : List ℕ) → Completes inner Holds Whole levels (f ∷ fs) taken s octets t r → EndsAt f taken octets ⊎ IsTagWithin inner f.end taken octets
   ends_or_begins f fs taken s t octets r (Completes.ends mark others after e is place k) = inl (record { mark = mark; others = others; ends = e; parts = is })
   ends_or_begins f fs taken s t octets r (Completes.segment piece joined part others after whole seg is place join k) =
       let p = seg.primitive in
@@ -179,33 +178,33 @@ module _ {A : Type 0} (inner : Tag) (Holds : List A → List ℕ → Type 0) (Wh
       })
 
   pub after_primitive : (f : Frame) (fs : List Frame) (taken : ℕ) (s t p : List A) (octets r c part z : List ℕ) → (EndsAt f taken octets → ⊥) → IsPrimitive ber inner c part → Holds p c → octets ≡ part ++ z
-      → Completes inner Holds Whole (f ∷ fs) taken s octets t r → Completes inner Holds Whole (f ∷ fs) (taken + length part) (s ++ p) z t r
+      → Completes inner Holds Whole levels (f ∷ fs) taken s octets t r → Completes inner Holds Whole levels (f ∷ fs) (taken + length part) (s ++ p) z t r
   after_primitive f fs taken s t p octets r c part z absent prim holds is h =
       elim (begun f fs taken s t octets r absent h) [
         | inl b ↦
             let same = definite_unique ber ber inner inner false false c b.segment.contents part b.part z b.others prim b.segment.primitive (sym is ∙ b.is) in
             let piece : b.piece ≡ p = one b.piece p c (subst (Holds b.piece) (sym same.contents) b.segment.holds) holds in
-            subst (λ x. Completes inner Holds Whole (f ∷ fs) (taken + length x) (s ++ p) z t r) (sym same.octets)
-            (subst (λ x. Completes inner Holds Whole (f ∷ fs) (taken + length b.part) (s ++ x) z t r) piece
-            (subst (λ x. Completes inner Holds Whole (f ∷ fs) (taken + length b.part) (s ++ b.piece) x t r) (sym same.rest) b.next))
+            subst (λ x. Completes inner Holds Whole levels (f ∷ fs) (taken + length x) (s ++ p) z t r) (sym same.octets)
+            (subst (λ x. Completes inner Holds Whole levels (f ∷ fs) (taken + length b.part) (s ++ x) z t r) piece
+            (subst (λ x. Completes inner Holds Whole levels (f ∷ fs) (taken + length b.part) (s ++ b.piece) x t r) (sym same.rest) b.next))
         | inr b ↦ absurd (primitive_not_opening inner f.end taken b.opened c part b.part z b.others prim b.opening (sym is ∙ b.is))
       ]
 
   pub after_opening : (f g : Frame) (fs : List Frame) (taken : ℕ) (s t : List A) (octets r part z : List ℕ) → (EndsAt f taken octets → ⊥) → IsOpening inner f.end taken g part → octets ≡ part ++ z
-      → Completes inner Holds Whole (f ∷ fs) taken s octets t r → Completes inner Holds Whole (g ∷ f ∷ fs) (taken + length part) s z t r
+      → Completes inner Holds Whole levels (f ∷ fs) taken s octets t r → Completes inner Holds Whole levels (g ∷ f ∷ fs) (taken + length part) s z t r
   after_opening f g fs taken s t octets r part z absent opening is h =
       elim (begun f fs taken s t octets r absent h) [
         | inl b ↦ absurd (primitive_not_opening inner f.end taken g b.segment.contents b.part part b.others z b.segment.primitive opening (sym b.is ∙ is))
         | inr b ↦
             let same = opening_unique inner f.end taken g b.opened part b.part z b.others opening b.opening (sym is ∙ b.is) in
-            subst (λ x. Completes inner Holds Whole (x ∷ f ∷ fs) (taken + length part) s z t r) (sym same.frame)
-            (subst (λ x. Completes inner Holds Whole (b.opened ∷ f ∷ fs) (taken + length x) s z t r) (sym same.octets)
-            (subst (λ x. Completes inner Holds Whole (b.opened ∷ f ∷ fs) (taken + length b.part) s x t r) (sym same.rest) b.next))
+            subst (λ x. Completes inner Holds Whole levels (x ∷ f ∷ fs) (taken + length part) s z t r) (sym same.frame)
+            (subst (λ x. Completes inner Holds Whole levels (b.opened ∷ f ∷ fs) (taken + length x) s z t r) (sym same.octets)
+            (subst (λ x. Completes inner Holds Whole levels (b.opened ∷ f ∷ fs) (taken + length b.part) s x t r) (sym same.rest) b.next))
       ]
 
   -- what comes next has the form that the identifier octets say
   pub begun_constructed : (f : Frame) (fs : List Frame) (taken i : ℕ) (s t : List A) (octets more r : List ℕ) → i ≤ length octets → IsIdentifier inner true (take i octets) → (EndsAt f taken (octets ++ more) → ⊥)
-      → Completes inner Holds Whole (f ∷ fs) taken s (octets ++ more) t r → (length (f ∷ fs) < most_nested) × IsExtentWithin true f.end (taken + i) (drop i octets ++ more)
+      → Completes inner Holds Whole levels (f ∷ fs) taken s (octets ++ more) t r → (length (f ∷ fs) < levels) × IsExtentWithin true f.end (taken + i) (drop i octets ++ more)
   begun_constructed f fs taken i s t octets more r there id absent h =
       elim (begun f fs taken s t (octets ++ more) r absent h) [
         | inl b ↦
@@ -217,7 +216,7 @@ module _ {A : Type 0} (inner : Tag) (Holds : List A → List ℕ → Type 0) (Wh
       ]
 
   pub begun_primitive : (f : Frame) (fs : List Frame) (taken i : ℕ) (s t : List A) (octets more r : List ℕ) → IsIdentifier inner false (take i octets) → (EndsAt f taken (octets ++ more) → ⊥)
-      → Completes inner Holds Whole (f ∷ fs) taken s (octets ++ more) t r → BeginsPrimitive f fs taken s t (octets ++ more) r
+      → Completes inner Holds Whole levels (f ∷ fs) taken s (octets ++ more) t r → BeginsPrimitive f fs taken s t (octets ++ more) r
   begun_primitive f fs taken i s t octets more r id absent h =
       elim (begun f fs taken s t (octets ++ more) r absent h) [
         | inl b ↦ b

@@ -1,13 +1,12 @@
 -- What completes a constructed string of which so much has been read. Some of its encodings are open,
--- each inside the next; what may follow goes by their forms and ends, by how many octets have been
--- taken, and by the string so far.
+-- each inside the next; what may follow goes by their forms and ends, by how many of them may nest, by
+-- how many octets have been taken, and by the string so far.
 use Rattle.std.specs.Prelude.{◌≡◌, ◌⊎◌, ℕ, ◌+◌, ◌<◌, ◌≤◌, true, false, List, [], ◌∷◌, ◌++◌, length}
 use Rattle.octets.specs.declared.tag.Tag.{Tag}
 use Rattle.octets.specs.Identifier.{IsIdentifier}
 use Rattle.octets.specs.Length.{IsLength}
 use Rattle.octets.specs.Rule.{ber}
 use Rattle.types.specs.Form.{IsPrimitive}
-use Rattle.types.specs.Encoding.{most_nested}
 use Rattle.berreader.specs.declared.frame.Frame.{Frame}
 
 -- the contents octets are as many as the length says
@@ -61,14 +60,14 @@ pub record IsSegment {A : Type 0} (inner : Tag) (Holds : List A → List ℕ →
   pub fits : taken + length octets ≤ end
 
 -- the octets complete the string and leave a rest, part by part
-pub data Completes {A : Type 0} (inner : Tag) (Holds : List A → List ℕ → Type 0) (Whole : List A → Type 0) : List Frame → ℕ → List A → List ℕ → List A → List ℕ → Type 0 where
-  complete : {taken : ℕ} {string total : List A} {octets rest : List ℕ} → total ≡ string → octets ≡ rest → Completes inner Holds Whole [] taken string octets total rest
+pub data Completes {A : Type 0} (inner : Tag) (Holds : List A → List ℕ → Type 0) (Whole : List A → Type 0) (levels : ℕ) : List Frame → ℕ → List A → List ℕ → List A → List ℕ → Type 0 where
+  complete : {taken : ℕ} {string total : List A} {octets rest : List ℕ} → total ≡ string → octets ≡ rest → Completes inner Holds Whole levels [] taken string octets total rest
   ends : {frame : Frame} {frames : List Frame} {taken : ℕ} {string total : List A} {octets rest : List ℕ} (mark others : List ℕ) (after : ℕ)
       → IsEndOf frame taken mark → octets ≡ mark ++ others → after ≡ taken + length mark
-      → Completes inner Holds Whole frames after string others total rest → Completes inner Holds Whole (frame ∷ frames) taken string octets total rest
+      → Completes inner Holds Whole levels frames after string others total rest → Completes inner Holds Whole levels (frame ∷ frames) taken string octets total rest
   segment : {frame : Frame} {frames : List Frame} {taken : ℕ} {string total : List A} {octets rest : List ℕ} (piece joined : List A) (part others : List ℕ) (after : ℕ)
       → Whole string → IsSegment inner Holds frame.end taken piece part → octets ≡ part ++ others → after ≡ taken + length part → joined ≡ string ++ piece
-      → Completes inner Holds Whole (frame ∷ frames) after joined others total rest → Completes inner Holds Whole (frame ∷ frames) taken string octets total rest
+      → Completes inner Holds Whole levels (frame ∷ frames) after joined others total rest → Completes inner Holds Whole levels (frame ∷ frames) taken string octets total rest
   opens : {frame : Frame} {frames : List Frame} {taken : ℕ} {string total : List A} {octets rest : List ℕ} (opened : Frame) (part others : List ℕ) (after : ℕ)
-      → Whole string → length (frame ∷ frames) < most_nested → IsOpening inner frame.end taken opened part → octets ≡ part ++ others → after ≡ taken + length part
-      → Completes inner Holds Whole (opened ∷ frame ∷ frames) after string others total rest → Completes inner Holds Whole (frame ∷ frames) taken string octets total rest
+      → Whole string → length (frame ∷ frames) < levels → IsOpening inner frame.end taken opened part → octets ≡ part ++ others → after ≡ taken + length part
+      → Completes inner Holds Whole levels (opened ∷ frame ∷ frames) after string others total rest → Completes inner Holds Whole levels (frame ∷ frames) taken string octets total rest

@@ -4,3 +4,9 @@ pub mod Head
 pub mod Joined
 pub mod Completing
 pub mod Segments
+pub mod Parts
+pub mod Holding
+pub mod Stack
+pub mod Nest
+pub mod Feeding
+pub mod Leaf

@@ -1,5 +1,5 @@
 -- What is known of a constructed string whose parts are being read.
-use Rattle.std.specs.Prelude.{◌≡◌, ℕ, ◌≤◌, List, [], ◌∷◌, ◌++◌, length, drop, reverse, All}
+use Rattle.std.specs.Prelude.{◌≡◌, ℕ, ◌<◌, ◌≤◌, List, [], ◌∷◌, ◌++◌, length, drop, reverse, All}
 use Rattle.octets.specs.declared.TheConstants.{MAX_ENCODING}
 use Rattle.berreader.specs.declared.frame.Frame.{Frame}
 use Rattle.berreader.specs.declared.joined.Kind.{Kind}
@@ -14,7 +14,7 @@ stack frames = reverse frames
 -- the octets complete the string, and leave a rest
 abbrev pub Completion : (kind : Kind) → Segments → List ℕ → List (Element kind) → List ℕ → Type 0
 Completion kind segments octets total rest =
-    Completes (segment_of kind) (HoldsPiece kind) (IsWholePiece kind) (stack segments.frames.items) segments.taken (string_of kind segments.joined) octets total rest
+    Completes (segment_of kind) (HoldsPiece kind) (IsWholePiece kind) segments.levels (stack segments.frames.items) segments.taken (string_of kind segments.joined) octets total rest
 
 -- the octets begin with some that complete a string
 abbrev pub CanComplete : Kind → Segments → List ℕ → Type 0
@@ -46,8 +46,13 @@ pub record EndsAt (frame : Frame) (taken : ℕ) (octets : List ℕ) : Type 0 whe
   pub ends : IsEndOf frame taken mark
   pub parts : octets ≡ mark ++ others
 
--- one encoding is open, and nothing of the string has come
-pub record IsOpened (frame : Frame) (taken : ℕ) (segments : Segments) : Type 0 where
+-- no end-of-contents octets: they do not begin with 00
+abbrev pub BeginsAboveZero : List ℕ → Type 0
+BeginsAboveZero octets = (first : ℕ) × (others : List ℕ) × (0 < first) × (octets ≡ first ∷ others)
+
+-- one encoding is open of at most so many, and nothing of the string has come
+pub record IsOpened (levels : ℕ) (frame : Frame) (taken : ℕ) (segments : Segments) : Type 0 where
+  pub deepest : segments.levels ≡ levels
   pub frames : stack segments.frames.items ≡ frame ∷ []
   pub place : segments.taken ≡ taken
   pub octets : segments.joined.octets.items ≡ []

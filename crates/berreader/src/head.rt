@@ -2,6 +2,7 @@
 
 ghost use Rattle.std.specs.Prelude.{◌≡◌, ◌≤◌, ◌<◌, ◌++◌, ℕ, List, take, IfOk, IfErr};
 ghost use Rattle.octets.specs.declared.TheConstants.{MAX_ENCODING, MAX_TAG_NUMBER};
+ghost use Rattle.octets.specs.declared.tag.Tag.{Tag};
 ghost use Rattle.types.specs.Refusal.{IsFinal, IsOfReading};
 ghost use Rattle.berreader.specs.Head.{IsTagWithin, IsReadTag, IsExtentWithin, IsReadExtent};
 
@@ -28,6 +29,29 @@ pub enum Extent {
     },
 }
 
+// The tag of the encoding at the front, whether it is constructed, and how many identifier octets it has.
+pub fn read_head_tag(end: usize, taken: usize, octets: &[u8]) -> Result<(Tag, bool, usize), Refusal>
+    ensures value { IfOk result (λ p. IsReadTag p.0 end taken octets.now p.1 p.2) }
+    ensures within { IfOk result (λ p. p.0.number ≤ MAX_TAG_NUMBER) }
+    ensures truncated { result ≡ Err Refusal.Truncated → (tag : Tag) → tag.number ≤ MAX_TAG_NUMBER →
+        ¬ IsTagWithin tag end taken octets.now }
+    ensures never { IfErr result (λ refusal. IsFinal refusal → (more : List ℕ) (tag : Tag) →
+        tag.number ≤ MAX_TAG_NUMBER → ¬ IsTagWithin tag end taken (octets.now ++ more)) }
+    ensures numbers { IfErr result IsOfReading }
+{
+    let room = end.saturating_sub(taken);
+    let window = front(octets, room);
+    match read_identifier(window) {
+        Head::Done {
+            tag,
+            constructed,
+            used,
+        } => Ok((tag, constructed, used)),
+        Head::More => Err(cut(window.len(), room)),
+        Head::Bad => Err(Refusal::Identifier),
+    }
+}
+
 // Whether the encoding at the front is constructed, and how many identifier octets it has, where they
 // are those of `tag`.
 pub fn read_tag(tag: Tag, end: usize, taken: usize, octets: &[u8]) -> Result<(bool, usize), Refusal>
@@ -38,22 +62,11 @@ pub fn read_tag(tag: Tag, end: usize, taken: usize, octets: &[u8]) -> Result<(bo
         ¬ IsTagWithin tag end taken (octets.now ++ more)) }
     ensures numbers { IfErr result IsOfReading }
 {
-    let room = end.saturating_sub(taken);
-    let window = front(octets, room);
-    match read_identifier(window) {
-        Head::Done {
-            tag: found,
-            constructed,
-            used,
-        } => {
-            if found != tag {
-                return Err(misplaced(found, constructed));
-            }
-            Ok((constructed, used))
-        }
-        Head::More => Err(cut(window.len(), room)),
-        Head::Bad => Err(Refusal::Identifier),
+    let (found, constructed, used) = read_head_tag(end, taken, octets)?;
+    if found != tag {
+        return Err(misplaced(found, constructed));
     }
+    Ok((constructed, used))
 }
 
 // How far the encoding goes whose length octets stand at the front.
@@ -95,7 +108,7 @@ pub fn read_extent(
 }
 
 // At most so many octets from the front.
-fn front(octets: &[u8], most: usize) -> &[u8]
+pub fn front(octets: &[u8], most: usize) -> &[u8]
     ensures { result.now ≡ take most octets.now }
 {
     if octets.len() <= most {
@@ -115,6 +128,19 @@ fn cut(there: usize, room: usize) -> Refusal
         Refusal::Truncated
     } else {
         Refusal::TooLong
+    }
+}
+
+// Why a part is refused: one that goes on too long passes the end of a definite encoding around it.
+pub fn named(inside_definite: bool, refusal: Refusal) -> Refusal
+    ensures truncated { result ≡ Refusal.Truncated → refusal ≡ Refusal.Truncated }
+    ensures never { IsFinal result → IsFinal refusal }
+    ensures numbers { IsOfReading refusal → IsOfReading result }
+{
+    if inside_definite && refusal == Refusal::TooLong {
+        Refusal::Length
+    } else {
+        refusal
     }
 }
 

@@ -8,13 +8,12 @@ ghost use Rattle.octets.specs.Rule.{ber};
 ghost use Rattle.types.specs.Form.{IsPrimitive};
 ghost use Rattle.types.specs.Refusal.{IsFinal, IsOfReading};
 ghost use Rattle.berreader.specs.Completing.{IsEndOf, Opens};
-ghost use Rattle.berreader.specs.Head.{IsExtentWithin, IsPrimitiveWithin, IsReadTag, IsTagWithin};
+ghost use Rattle.berreader.specs.Head.{IsExtentWithin, IsPrimitiveWithin, IsReadTag};
 ghost use Rattle.berreader.specs.Joined.{segment_of};
-ghost use Rattle.berreader.specs.Segments.{CanComplete, EndsAt, IsOpened, IsSound, IsTaken, IsTop};
+ghost use Rattle.berreader.specs.Segments.{BeginsAboveZero, CanComplete, EndsAt, IsOpened, IsSound, IsTaken, IsTop};
 
-use crate::MAX_NESTED;
 use crate::frame::{Frame, INLINE, close, open};
-use crate::head::{END_OF_CONTENTS, read_tag};
+use crate::head::{END_OF_CONTENTS, named, read_tag};
 use crate::joined::{Joined, Kind, segment_tag};
 use crate::parts::{read_contents_place, read_opening};
 use smallvec::SmallVec;
@@ -26,6 +25,8 @@ use types::Refusal;
 pub struct Segments {
     /// The open encodings, the outermost first.
     pub frames: SmallVec<Frame, INLINE>,
+    /// How many of them may nest.
+    pub levels: usize,
     /// How many octets have been taken, counted from the front of the outermost encoding.
     pub taken: usize,
     /// The string so far.
@@ -34,14 +35,20 @@ pub struct Segments {
 
 impl Segments {
     // A string of which only this encoding's identifier octets and length octets have been taken.
-    pub fn new(alloc: Global, frame: Frame, taken: usize) -> Result<Segments, Refusal>
-        ensures opened { IfOk result (λ segments. IsOpened frame taken segments) }
+    pub fn new(
+        alloc: Global,
+        levels: usize,
+        frame: Frame,
+        taken: usize,
+    ) -> Result<Segments, Refusal>
+        ensures opened { IfOk result (λ segments. IsOpened levels frame taken segments) }
         ensures numbers { IfErr result (λ refusal. refusal ≡ Refusal.NoMemory) }
     {
         let mut frames = SmallVec::new(alloc);
         match open(&mut frames, frame) {
             Ok(()) => Ok(Segments {
                 frames,
+                levels,
                 taken,
                 joined: Joined::new(alloc),
             }),
@@ -75,17 +82,13 @@ impl Segments {
         }
     }
 
-    // Why a part is refused: one that goes on too long inside a definite encoding passes its end.
+    // Why a part is refused, by the encodings that are open.
     pub fn named(&self, refusal: Refusal) -> Refusal
         ensures truncated { result ≡ Refusal.Truncated → refusal ≡ Refusal.Truncated }
         ensures never { IsFinal result → IsFinal refusal }
         ensures numbers { IsOfReading refusal → IsOfReading result }
     {
-        if refusal == Refusal::TooLong && self.frames.iter().any(|frame| frame.definite) {
-            Refusal::Length
-        } else {
-            refusal
-        }
+        named(self.frames.iter().any(|frame| frame.definite), refusal)
     }
 
     // Takes a segment, or the beginning of a constructed one.
@@ -139,7 +142,7 @@ impl Segments {
             ¬ CanComplete kind self.old (octets.now ++ more)) }
         ensures numbers { IfErr result IsOfReading }
     {
-        if self.frames.len() >= MAX_NESTED {
+        if self.frames.len() >= self.levels {
             return Err(Refusal::TooDeep);
         }
         let after = self.taken + identifier;
@@ -185,15 +188,14 @@ impl Segments {
 }
 
 // How many octets the end of the encoding has, if it ends here.
-fn read_end(frame: Frame, taken: usize, octets: &[u8]) -> Result<Option<usize>, Refusal>
+pub fn read_end(frame: Frame, taken: usize, octets: &[u8]) -> Result<Option<usize>, Refusal>
     ensures value { IfOk result (λ found. MatchOption found
         ((more : List ℕ) → ¬ EndsAt frame taken (octets.now ++ more))
         (λ used. (used ≤ length octets.now) × IsEndOf frame taken (take used octets.now))) }
-    ensures truncated { result ≡ Err Refusal.Truncated → (kind : Kind) →
-        ¬ (EndsAt frame taken octets.now ⊎ IsTagWithin (segment_of kind) frame.end taken octets.now) }
-    ensures never { IfErr result (λ refusal. IsFinal refusal → (more : List ℕ) (kind : Kind) →
-        ¬ (EndsAt frame taken (octets.now ++ more)
-        ⊎ IsTagWithin (segment_of kind) frame.end taken (octets.now ++ more))) }
+    ensures truncated { result ≡ Err Refusal.Truncated →
+        ¬ (EndsAt frame taken octets.now ⊎ BeginsAboveZero octets.now) }
+    ensures never { IfErr result (λ refusal. IsFinal refusal → (more : List ℕ) →
+        ¬ (EndsAt frame taken (octets.now ++ more) ⊎ BeginsAboveZero (octets.now ++ more))) }
     ensures numbers { IfErr result IsOfReading }
 {
     if frame.definite {

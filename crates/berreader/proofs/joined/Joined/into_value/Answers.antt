@@ -3,10 +3,9 @@ use Rattle.primitives.proofs.BitsLemmas.{bits_before-parts}
 use Rattle.types.specs.Conforms.{Conforms}
 use Rattle.types.specs.Refusal.{IsFinal}
 use Rattle.types.specs.Shape.{StringValue, Shape, Val}
-use Rattle.types.proofs.ViewLemmas.{ty-Bits, ty-Octets, value-Bits, value-Octets}
+use Rattle.types.proofs.ViewLemmas.{ty-Bits, value-Bits, value-Octets}
 use Rattle.types.specs.View.{ty_view, value_view}
 use Rattle.types.specs.declared.refusal.Refusal.{Refusal}
-use Rattle.types.specs.declared.ty.Ty.{Ty}
 use Rattle.types.specs.declared.value.Value.{Value}
 use Rattle.berreader.specs.Contents.{text_view}
 use Rattle.berreader.specs.Joined.{value_of, IsHeldFor}

@@ -12,10 +12,10 @@ use Rattle.berreader.proofs.SegmentsLemmas.{constructed_next, taken_opening}
 use Rattle.berreader.proofs.ReadingLemmas.{opening_read}
 use Rattle.berreader.proofs.segments.Segments.constructed.Goals as goal
 
-pub returns-then-len-ge-MAX_NESTED-clause-never : goal.returns-then-len-ge-MAX_NESTED-clause-never
-returns-then-len-ge-MAX_NESTED-clause-never c = λ final more h.
+pub returns-then-len-self-clause-never : goal.returns-then-len-self-clause-never
+returns-then-len-self-clause-never c = λ final more h.
     let next = constructed_next c.args.kind c.args.self.now c.args.frame c.args.identifier c.args.octets.now more c.requires.top c.requires.tagged (c.requires.no_end more) h in
-    absurd (omega (arith, next.0, ap length c.requires.top.1, length-reverse c.args.self.now.frames.items, c.len.ensures, c.if-len-ge-MAX_NESTED.true))
+    absurd (omega (arith, next.0, ap length c.requires.top.1, length-reverse c.args.self.now.frames.items, c.len.ensures, c.if-len-self.true))
 
 pub returns-in_err-used-clause-truncated : goal.returns-in_err-used-clause-truncated
 returns-in_err-used-clause-truncated c = λ refused h.
@@ -47,13 +47,13 @@ returns-in-Ok-clause-taken c =
     let old = c.args.self.now in
     let used = c.in_ok-used.used in
     let g = c.in_ok-used.opened in
-    let new : Segments = record { frames = c.open.new.frames; taken = old.taken + i + used; joined = old.joined } in
+    let new : Segments = record { frames = c.open.new.frames; levels = old.levels; taken = old.taken + i + used; joined = old.joined } in
     let all : take (length octets - i) (drop i octets) ≡ drop i octets = take_rest octets i in
     let there : used ≤ length (drop i octets) = subst (λ x. used ≤ length x) all c.in_ok-used.ensures.value.0 in
     let form : Opens c.args.frame.end (old.taken + i) g (take used (drop i octets)) = subst (λ x. Opens c.args.frame.end (old.taken + i) g (take used x)) all c.in_ok-used.ensures.value.1 in
     let left : length (drop i octets) ≡ length octets - i = length-drop i octets in
-    taken_opening c.args.kind old new c.args.frame g c.requires.top.0 octets (i + used) c.requires.top.1 (c.in-Ok.ensures ∙ ap (λ x. g ∷ x) c.requires.top.1) (add_assoc old.taken i used) refl
+    taken_opening c.args.kind old new c.args.frame g c.requires.top.0 octets (i + used) refl c.requires.top.1 (c.in-Ok.ensures ∙ ap (λ x. g ∷ x) c.requires.top.1) (add_assoc old.taken i used) refl
     (omega (arith, there, left, c.requires.tagged.there))
-    (omega (arith, ap length c.requires.top.1, length-reverse old.frames.items, c.len.ensures, c.if-len-ge-MAX_NESTED.false))
+    (omega (arith, ap length c.requires.top.1, length-reverse old.frames.items, c.len.ensures, c.if-len-self.false))
     (whole_held c.args.kind old.joined.octets.items old.joined.unused c.requires.whole) c.requires.no_end
     (opening_read (segment_of c.args.kind) c.args.frame.end old.taken i used g octets c.requires.tagged.there c.requires.tagged.tagged form)

@@ -4,6 +4,7 @@ use Rattle.octets.specs.declared.TheConstants.{MAX_ENCODING}
 use Rattle.types.specs.declared.refusal.Refusal.TheVariants.{Truncated}
 use Rattle.berreader.specs.declared.frame.Frame.{Frame}
 use Rattle.berreader.specs.declared.segments.Segments.{Segments}
+use Rattle.berreader.proofs.EndLemmas.{segment_above}
 use Rattle.berreader.proofs.SegmentsLemmas.{first_of, taken_end}
 use Rattle.berreader.proofs.segments.Segments.step.Goals as goal
 
@@ -11,9 +12,9 @@ pub returns-in-Ok-Some-clause-taken : goal.returns-in-Ok-Some-clause-taken
 returns-in-Ok-Some-clause-taken c =
     let old = c.args.self.now in
     let used = c.in-Ok-Some.used in
-    let new : Segments = record { frames = c.close.new.frames; taken = old.taken + used; joined = old.joined } in
+    let new : Segments = record { frames = c.close.new.frames; levels = old.levels; taken = old.taken + used; joined = old.joined } in
     let found = rw c.in-Ok-Some.field-0-is at c.in-Ok-Some.ensures.value in
-    taken_end c.args.kind old new c.args.frame c.requires.top.0 c.args.octets.now used c.requires.top.1 (c.close.ensures c.args.frame c.requires.top.0 c.requires.top.1) refl refl found.0 found.1
+    taken_end c.args.kind old new c.args.frame c.requires.top.0 c.args.octets.now used refl c.requires.top.1 (c.close.ensures c.args.frame c.requires.top.0 c.requires.top.1) refl refl found.0 found.1
 
 pub returns-in-Ok-Some-clause-sound : goal.returns-in-Ok-Some-clause-sound
 returns-in-Ok-Some-clause-sound c =
@@ -26,8 +27,8 @@ returns-in-Ok-Some-clause-sound c =
 pub returns-in-Err-clause-truncated : goal.returns-in-Err-clause-truncated
 returns-in-Err-clause-truncated c = λ same h.
     let known : c.in-Err.refusal ≡ Truncated = cc same in
-    c.in-Err.ensures.truncated (ap Err known) c.args.kind (first_of c.args.kind c.args.self.now c.args.frame c.args.octets.now c.requires.top h)
+    c.in-Err.ensures.truncated (ap Err known) (segment_above c.args.kind c.args.frame c.args.self.now.taken c.args.octets.now (first_of c.args.kind c.args.self.now c.args.frame c.args.octets.now c.requires.top h))
 
 pub returns-in-Err-clause-never : goal.returns-in-Err-clause-never
 returns-in-Err-clause-never c = λ final more h.
-    c.in-Err.ensures.never final more c.args.kind (first_of c.args.kind c.args.self.now c.args.frame (c.args.octets.now ++ more) c.requires.top h)
+    c.in-Err.ensures.never final more (segment_above c.args.kind c.args.frame c.args.self.now.taken (c.args.octets.now ++ more) (first_of c.args.kind c.args.self.now c.args.frame (c.args.octets.now ++ more) c.requires.top h))

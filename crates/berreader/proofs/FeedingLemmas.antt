@@ -1,0 +1,430 @@
+-- Lemmas on octets that come in pieces.
+use Rattle.std.proofs.Common.{◌≡◌, ◌+◌, ◌-◌, ◌<◌, ◌≤◌, ◌⊎◌, inl, inr, ℕ, zero, suc, List, [], ◌∷◌, ◌++◌, None, Some, Result, Ok, Err, OnOk, IsErr, IfOk, IfErr, length, take, drop, refl, sym, ap, ◌∙◌, subst, arith, append-nil, append_assoc, length-append, length-drop}
+use Rattle.std.proofs.Math.Seq.{take-add, take-append-add}
+use Rattle.std.proofs.lemmas.List.{take-append-drop, drop-drop, take_all, length-take-le, take-append-le}
+use Rattle.octets.specs.declared.TheConstants.{MAX_ENCODING}
+use Rattle.octets.specs.Front.{HasFront}
+use Rattle.octets.specs.Rule.{ber}
+use Rattle.types.specs.Encoding.{IsAccepted, IsSomeAccepted, most_nested}
+use Rattle.types.specs.Shape.{Shape, Val}
+use Rattle.types.specs.View.{ty_view, value_view}
+use Rattle.types.specs.declared.value.Value.{Value}
+use Rattle.types.specs.declared.refusal.Refusal.{Refusal}
+use Rattle.types.specs.declared.refusal.Refusal.TheVariants.{Truncated}
+use Rattle.types.specs.Refusal.{IsFinal, IsOfReading}
+use Rattle.berreader.specs.declared.nest.Step as nest_step
+use Rattle.berreader.specs.declared.pieces.Fed as fed
+use Rattle.berreader.specs.declared.reader.Step as answer
+use Rattle.berreader.specs.Stack.{layers_of, IsCounted}
+use Rattle.berreader.specs.declared.nest.Nest.{Nest}
+use Rattle.types.specs.WellFormed.{IsWellFormed}
+use Rattle.berreader.specs.declared.pieces.Pieces.{Pieces}
+use Rattle.berreader.specs.Nest.{CanFinish, IsStep, IsTaken, IsWhole, IsSoundNest, AreSound, AreInside}
+use Rattle.berreader.specs.Feeding.{HasValue, GoesOn, HasBeenFed, EndsWithin, IsDone, IsDoneBefore, IsDoneBehind, IsFed, IsFedStep, IsFresh, IsMore, IsTakenCut, IsTakenWhole, IsGoingOn, IsOfFeeding, IsSoundPieces, IsSoundReader, IsTold, shape_of}
+
+-- the octets of a front and those behind it
+pub front_and_rest : (n : ℕ) (before octets : List ℕ) → (before ++ take n octets) ++ drop n octets ≡ before ++ octets
+front_and_rest n before octets = append_assoc before (take n octets) (drop n octets) ∙ ap (λ o. before ++ o) (take-append-drop n octets)
+
+-- a step was taken
+pub goes_on_step : (old new : Nest) (before octets : List ℕ) (used : ℕ) → GoesOn old before octets → IsTaken old new octets used → GoesOn new (before ++ take used octets) (drop used octets)
+goes_on_step old new before octets used on step = record {
+  taken = step.back before on.taken;
+  forth = λ more h.
+      let joined : (before ++ take used octets) ++ (drop used octets ++ more) ≡ before ++ (octets ++ more) =
+      append_assoc before (take used octets) (drop used octets ++ more) ∙ ap (λ o. before ++ o) (sym (append_assoc (take used octets) (drop used octets) more) ∙ ap (λ o. o ++ more) (take-append-drop used octets)) in
+      step.forth more (on.forth more (subst (λ shape. HasValue shape (before ++ (octets ++ more))) step.type (subst (HasValue (ty_view new.ty.now)) joined h)));
+}
+
+-- more octets stand behind
+pub widened : (nest : Nest) (before octets behind : List ℕ) → GoesOn nest before octets → GoesOn nest before (octets ++ behind)
+widened nest before octets behind on = record {
+  taken = on.taken;
+  forth = λ more h.
+      let joined : (octets ++ behind) ++ more ≡ octets ++ (behind ++ more) = append_assoc octets behind more in
+      subst (CanFinish nest) (sym joined) (on.forth (behind ++ more) (subst (λ o. HasValue (ty_view nest.ty.now) (before ++ o)) joined h));
+}
+
+-- octets that complete nothing complete no value
+pub none_of_cut : (nest : Nest) (before octets : List ℕ) → GoesOn nest before octets → (CanFinish nest octets → ⊥) → HasValue (ty_view nest.ty.now) (before ++ octets) → ⊥
+none_of_cut nest before octets on none h =
+    let same : octets ++ [] ≡ octets = append-nil octets in
+    none (subst (CanFinish nest) same (on.forth [] (subst (λ o. HasValue (ty_view nest.ty.now) (before ++ o)) (sym same) h)))
+
+-- the first so many of the octets were taken as whole steps
+pub record IsOnTheWay (initial now : Pieces) (octets : List ℕ) (at : ℕ) : Type 0 where
+  pub within : at ≤ length octets
+  pub going_on : IsGoingOn initial now
+  pub kept : now.pending.items ≡ []
+  pub on : (before : List ℕ) → GoesOn initial.nest before octets → GoesOn now.nest (before ++ take at octets) (drop at octets)
+
+pub on_the_way : (initial : Pieces) (octets : List ℕ) → initial.refused ≡ None → IsSoundPieces initial → initial.pending.items ≡ [] → IsOnTheWay initial initial octets 0
+on_the_way initial octets accepts sound kept = record {
+  within = omega arith;
+  going_on = record { shape = refl; accepts = accepts; sound = sound };
+  kept = kept;
+  on = λ before on. subst (λ b. GoesOn initial.nest b octets) (sym (append-nil before)) on;
+}
+
+take_more_octets : (at used : ℕ) (octets : List ℕ) → take at octets ++ take used (drop at octets) ≡ take (at + used) octets
+take_more_octets at used octets = sym (take-add at used octets)
+
+drop_more_octets : (at used : ℕ) (octets : List ℕ) → drop used (drop at octets) ≡ drop (at + used) octets
+drop_more_octets at used octets = drop-drop used at octets
+
+-- a step goes on
+pub on_the_way_step : (initial now new : Pieces) (octets : List ℕ) (at used : ℕ) → IsOnTheWay initial now octets at → IsTaken now.nest new.nest (drop at octets) used → IsSoundNest new.nest → new.refused ≡ now.refused → new.pending.items ≡ now.pending.items → IsOnTheWay initial new octets (at + used)
+on_the_way_step initial now new octets at used way step sound accepts kept =
+    let there : used ≤ length octets - at = subst (λ n. used ≤ n) (length-drop at octets) step.there in record {
+      within = omega (arith, there, way.within);
+      going_on = record {
+        shape = step.type ∙ way.going_on.shape;
+        accepts = accepts ∙ way.going_on.accepts;
+        sound = record { nest = sound; well_formed = subst IsWellFormed (sym step.type) way.going_on.sound.well_formed };
+      };
+      kept = kept ∙ way.kept;
+      on = λ before on.
+          let next = goes_on_step now.nest new.nest (before ++ take at octets) (drop at octets) used (way.on before on) step in
+          let front : (before ++ take at octets) ++ take used (drop at octets) ≡ before ++ take (at + used) octets = append_assoc before (take at octets) (take used (drop at octets)) ∙ ap (λ o. before ++ o) (take_more_octets at used octets) in
+          subst (λ b. GoesOn new.nest b (drop (at + used) octets)) front (subst (GoesOn new.nest ((before ++ take at octets) ++ take used (drop at octets))) (drop_more_octets at used octets) next);
+    }
+
+-- the value is whole
+pub done_on_the_way : (initial now new : Pieces) (octets before : List ℕ) (at used : ℕ) (value : Val) → IsOnTheWay initial now octets at → IsWhole now.nest new.nest (drop at octets) value used → new.refused ≡ now.refused → new.pending.items ≡ now.pending.items → GoesOn initial.nest before octets
+    → IsDoneBehind (shape_of initial) new before octets value (at + used)
+done_on_the_way initial now new octets before at used value way step accepts kept on =
+    let there : used ≤ length octets - at = subst (λ n. used ≤ n) (length-drop at octets) step.there in
+    let goes = way.on before on in
+    let front : (before ++ take at octets) ++ take used (drop at octets) ≡ before ++ take (at + used) octets = append_assoc before (take at octets) (take used (drop at octets)) ∙ ap (λ o. before ++ o) (take_more_octets at used octets) in
+    record {
+      there = omega (arith, there, way.within);
+      accepted = subst (IsAccepted ber (shape_of initial) value) front (subst (λ shape. IsAccepted ber shape value ((before ++ take at octets) ++ take used (drop at octets))) way.going_on.shape (step.accepted (before ++ take at octets) goes.taken));
+      fresh = record { accepts = accepts ∙ way.going_on.accepts; layers = step.layers; taken = step.taken; kept = kept ∙ way.kept };
+    }
+
+-- the rest is kept
+pub kept_on_the_way : (initial now new : Pieces) (octets before : List ℕ) (at : ℕ) → IsOnTheWay initial now octets at → new.nest ≡ now.nest → new.refused ≡ now.refused → new.pending.items ≡ now.pending.items ++ drop at octets → (CanFinish now.nest (drop at octets) → ⊥) → GoesOn initial.nest before octets
+    → HasBeenFed new (before ++ octets)
+kept_on_the_way initial now new octets before at way nest accepts kept none on =
+    let goes = way.on before on in
+    let pending : new.pending.items ≡ drop at octets = kept ∙ ap (λ o. o ++ drop at octets) way.kept in
+    let here : GoesOn new.nest (before ++ take at octets) (drop at octets) = subst (λ n. GoesOn n (before ++ take at octets) (drop at octets)) (sym nest) goes in
+    let whole : before ++ octets ≡ (before ++ take at octets) ++ drop at octets = sym (front_and_rest at before octets) in
+    record {
+      accepts = accepts ∙ way.going_on.accepts;
+      before = before ++ take at octets;
+      joined = whole ∙ ap (λ o. (before ++ take at octets) ++ o) (sym pending);
+      goes_on = subst (GoesOn new.nest (before ++ take at octets)) (sym pending) here;
+      none = λ h. none_of_cut new.nest (before ++ take at octets) (drop at octets) here (subst (λ n. CanFinish n (drop at octets) → ⊥) (sym nest) none) (subst (HasValue (ty_view new.nest.ty.now)) whole h);
+    }
+
+-- no octets that begin so have a value
+pub none_on_the_way : (initial now : Pieces) (octets before more : List ℕ) (at : ℕ) → IsOnTheWay initial now octets at → ((more : List ℕ) → CanFinish now.nest (drop at octets ++ more) → ⊥) → GoesOn initial.nest before octets → HasValue (shape_of initial) (before ++ (octets ++ more)) → ⊥
+none_on_the_way initial now octets before more at way never on h =
+    let goes = way.on before on in
+    let joined : before ++ (octets ++ more) ≡ (before ++ take at octets) ++ (drop at octets ++ more) =
+    sym (append_assoc before octets more) ∙ ap (λ o. o ++ more) (sym (front_and_rest at before octets)) ∙ append_assoc (before ++ take at octets) (drop at octets) more in
+    never more (goes.forth more (subst (λ shape. HasValue shape ((before ++ take at octets) ++ (drop at octets ++ more))) (sym way.going_on.shape) (subst (HasValue (shape_of initial)) joined h)))
+
+-- a slice from a place to the end
+pub slice_behind : (octets : List ℕ) (at : ℕ) → take (length octets - at) (drop at octets) ≡ drop at octets
+slice_behind octets at = take_all (length octets - at) (drop at octets) (omega (arith, length-drop at octets))
+
+pub taken_behind : (old new : Nest) (octets : List ℕ) (at used : ℕ) (step : nest_step.Step) → step ≡ nest_step.TheVariants.Taken used → IsStep old new (take (length octets - at) (drop at octets)) step → IsTaken old new (drop at octets) used
+taken_behind old new octets at used step is h = subst (λ o. IsTaken old new o used) (slice_behind octets at) (subst (IsStep old new (take (length octets - at) (drop at octets))) is h)
+
+pub whole_behind : (old new : Nest) (octets : List ℕ) (at used : ℕ) (value : Value) (step : nest_step.Step) → step ≡ nest_step.TheVariants.Whole value used → IsStep old new (take (length octets - at) (drop at octets)) step → IsWhole old new (drop at octets) (value_view value) used
+whole_behind old new octets at used value step is h = subst (λ o. IsWhole old new o (value_view value) used) (slice_behind octets at) (subst (IsStep old new (take (length octets - at) (drop at octets))) is h)
+
+-- what a reader of one piece refuses with, it refuses a piece with, unless octets are missing
+pub of_feeding : (refusal : Refusal) → IsOfReading refusal → (refusal ≡ Truncated → ⊥) → IsOfFeeding refusal
+of_feeding Truncated h not = absurd (not refl)
+of_feeding refusal h not = h
+
+pub done_as : (shape : Shape) (new : Pieces) (before octets : List ℕ) (at m n : ℕ) (v w : Value) → v ≡ w → m ≡ n → IsDoneBehind shape new before octets (value_view v) (at + m) → IsDoneBehind shape new before octets (value_view w) (at + n)
+done_as shape new before octets at m n v w values counts h = subst (λ k. IsDoneBehind shape new before octets (value_view w) (at + k)) counts (subst (λ (x : Value). IsDoneBehind shape new before octets (value_view x) (at + m)) values h)
+
+-- octets stand before those that are kept, and all of them are these
+pub record IsAt (pieces : Pieces) (octets : List ℕ) : Type 0 where
+  pub before : List ℕ
+  pub joined : octets ≡ before ++ pieces.pending.items
+  pub goes_on : GoesOn pieces.nest before pieces.pending.items
+
+pub kept_at : (now new : Pieces) (octets slice : List ℕ) → HasBeenFed now octets → new.nest ≡ now.nest → new.pending.items ≡ now.pending.items ++ slice → IsAt new (octets ++ slice)
+kept_at now new octets slice fed nest kept = record {
+  before = fed.before;
+  joined = ap (λ o. o ++ slice) fed.joined ∙ append_assoc fed.before now.pending.items slice ∙ ap (λ o. fed.before ++ o) (sym kept);
+  goes_on =
+      let wide = widened now.nest fed.before now.pending.items slice fed.goes_on in
+      subst (GoesOn new.nest fed.before) (sym kept) (subst (λ n. GoesOn n fed.before (now.pending.items ++ slice)) (sym nest) wide);
+}
+
+-- octets are missing
+pub fed_at : (now new : Pieces) (octets : List ℕ) → IsAt now octets → new.nest ≡ now.nest → new.pending.items ≡ now.pending.items → new.refused ≡ None → (CanFinish now.nest now.pending.items → ⊥) → HasBeenFed new octets
+fed_at now new octets at nest kept accepts none =
+    let here : GoesOn new.nest at.before now.pending.items = subst (λ n. GoesOn n at.before now.pending.items) (sym nest) at.goes_on in
+    let never : CanFinish new.nest now.pending.items → ⊥ = subst (λ n. CanFinish n now.pending.items → ⊥) (sym nest) none in
+    record {
+      accepts = accepts;
+      before = at.before;
+      joined = at.joined ∙ ap (λ o. at.before ++ o) (sym kept);
+      goes_on = subst (GoesOn new.nest at.before) (sym kept) here;
+      none = λ h. none_of_cut new.nest at.before now.pending.items here never (subst (HasValue (ty_view new.nest.ty.now)) at.joined h);
+    }
+
+-- no octets that begin so have a value
+pub never_at : (now : Pieces) (octets more : List ℕ) → IsAt now octets → ((more : List ℕ) → CanFinish now.nest (now.pending.items ++ more) → ⊥) → HasValue (shape_of now) (octets ++ more) → ⊥
+never_at now octets more at never h =
+    let joined : octets ++ more ≡ at.before ++ (now.pending.items ++ more) = ap (λ o. o ++ more) at.joined ∙ append_assoc at.before now.pending.items more in
+    never more (at.goes_on.forth more (subst (HasValue (shape_of now)) joined h))
+
+-- a step over those that are kept
+pub step_at : (now new : Pieces) (octets : List ℕ) (used : ℕ) (at : IsAt now octets) → IsTaken now.nest new.nest now.pending.items used → GoesOn new.nest (at.before ++ take used now.pending.items) (drop used now.pending.items)
+step_at now new octets used at step = goes_on_step now.nest new.nest at.before now.pending.items used at.goes_on step
+
+pub joined_at : (now : Pieces) (octets : List ℕ) (used : ℕ) (at : IsAt now octets) → (at.before ++ take used now.pending.items) ++ drop used now.pending.items ≡ octets
+joined_at now octets used at = front_and_rest used at.before now.pending.items ∙ sym at.joined
+
+-- a front of octets, by how many are left of them
+pub front_by_rest : (whole before rest : List ℕ) (n : ℕ) → whole ≡ before ++ rest → n ≤ length rest → before ++ take n rest ≡ take (length whole - (length rest - n)) whole
+front_by_rest whole before rest n is below =
+    let count : length whole - (length rest - n) ≡ length before + n = omega (arith, ap length is, length-append before rest, below) in
+    sym (ap (λ k. take k whole) count ∙ ap (take (length before + n)) is ∙ take-append-add before rest n)
+
+take-take-le : (n m : ℕ) (l : List ℕ) → n ≤ m → take n (take m l) ≡ take n l
+take-take-le zero m l below = refl
+take-take-le (suc n) zero l below = absurd (omega (arith, below))
+take-take-le (suc n) (suc m) [] below = refl
+take-take-le (suc n) (suc m) (x ∷ l) below = ap (λ o. x ∷ o) (take-take-le n m l (omega (arith, below)))
+
+le_or_lt : (a b : ℕ) → (b ≤ a) ⊎ (a < b)
+le_or_lt a zero = inl (omega arith)
+le_or_lt zero (suc b) = inr (omega arith)
+le_or_lt (suc a) (suc b) = elim (le_or_lt a b) [ inl h ↦ inl (omega (arith, h)) | inr h ↦ inr (omega (arith, h)) ]
+
+-- the value ends in the piece: no value stood before it
+pub done_in_piece : (shape : Shape) (octets piece : List ℕ) (start at left : ℕ) (value : Val) → start ≤ at → at ≤ length piece → left ≤ length (octets ++ take at piece) → IsAccepted ber shape value (take (length (octets ++ take at piece) - left) (octets ++ take at piece))
+    → (HasValue shape (octets ++ take start piece) → ⊥) → IsDone shape octets piece value (at - left)
+done_in_piece shape octets piece start at left value below within fits accepted none =
+    let whole = octets ++ take at piece in
+    let n = length whole - left in
+    let count : length whole ≡ length octets + at = length-append octets (take at piece) ∙ ap (λ k. length octets + k) (length-take-le at piece within) in
+    let early : length (octets ++ take start piece) ≡ length octets + start = length-append octets (take start piece) ∙ ap (λ k. length octets + k) (length-take-le start piece (omega (arith, below, within))) in
+    let front : take (length octets + start) whole ≡ octets ++ take start piece = take-append-add octets (take at piece) start ∙ ap (λ o. octets ++ o) (take-take-le start at piece below) in
+    let late : length octets + start < n = later (length octets + start) n (λ small.
+    let same : take n whole ≡ take n (octets ++ take start piece) = sym (take-take-le n (length octets + start) whole small) ∙ ap (take n) front in
+    none (n, omega (arith, small, early), (value, subst (IsAccepted ber shape value) same accepted))) in
+    let here : n ≡ length octets + (at - left) = omega (arith, late, count, fits) in
+    let is : take n whole ≡ octets ++ take (at - left) piece = ap (λ k. take k whole) here ∙ take-append-add octets (take at piece) (at - left) ∙ ap (λ o. octets ++ o) (take-take-le (at - left) at piece (omega arith)) in
+    record { some = omega (arith, late, here); there = omega (arith, within); accepted = subst (IsAccepted ber shape value) is accepted }
+  where
+    later : (a b : ℕ) → (b ≤ a → ⊥) → a < b
+    later a b h = elim (le_or_lt a b) [ inl small ↦ absurd (h small) | inr large ↦ large ]
+
+-- so many octets of the piece were taken
+pub record IsFedSoFar (initial now : Pieces) (piece : List ℕ) (at : ℕ) : Type 0 where
+  pub within : at ≤ length piece
+  pub going_on : IsGoingOn initial now
+  pub fed : (octets : List ℕ) → HasBeenFed initial octets → HasBeenFed now (octets ++ take at piece)
+
+-- what stands behind a front of octets that are kept was taken, up to so many before their end
+pub done_behind : (shape : Shape) (new : Pieces) (before rest : List ℕ) (value : Val) (more left : ℕ) → left ≡ length rest - more → IsDoneBehind shape new before rest value more → IsDoneBefore shape new (before ++ rest) value left
+done_behind shape new before rest value more left is done =
+    let count : length (before ++ rest) ≡ length before + length rest = length-append before rest in
+    record {
+      there = omega (arith, is, count);
+      accepted = subst (IsAccepted ber shape value) (front_by_rest (before ++ rest) before rest more refl done.there ∙ ap (λ k. take (length (before ++ rest) - k) (before ++ rest)) (sym is)) done.accepted;
+      fresh = done.fresh;
+    }
+
+pub done_before_as : (shape : Shape) (new : Pieces) (octets : List ℕ) (left : ℕ) (v w : Value) → v ≡ w → IsDoneBefore shape new octets (value_view v) left → IsDoneBefore shape new octets (value_view w) left
+done_before_as shape new octets left v w values h = subst (λ (x : Value). IsDoneBefore shape new octets (value_view x) left) values h
+
+pub taken_whole_is : (old new : Pieces) (before octets : List ℕ) (value : Value) (used : ℕ) (f : fed.Fed) → f ≡ fed.TheVariants.Done value used → IsTakenWhole old new before octets f → IsDoneBehind (shape_of old) new before octets (value_view value) used
+taken_whole_is old new before octets value used f is h = subst (IsTakenWhole old new before octets) is h
+
+pub ends_within_is : (count : ℕ) (value : Value) (used : ℕ) (f : fed.Fed) → f ≡ fed.TheVariants.Done value used → EndsWithin count f → used ≤ count
+ends_within_is count value used f is h = subst (EndsWithin count) is h
+
+-- what is kept is no part of the nest
+pub shape_kept : (old mid : Pieces) → mid.nest ≡ old.nest → shape_of mid ≡ shape_of old
+shape_kept old mid nest = ap (λ (n : Nest). ty_view n.ty.now) nest
+
+pub on_kept : (old mid : Pieces) (before rest other : List ℕ) → mid.nest ≡ old.nest → other ≡ rest → GoesOn old.nest before rest → GoesOn mid.nest before other
+on_kept old mid before rest other nest same on = subst (GoesOn mid.nest before) (sym same) (subst (λ n. GoesOn n before rest) (sym nest) on)
+
+pub done_kept : (old mid new : Pieces) (before rest other : List ℕ) (value : Val) (used : ℕ) → mid.nest ≡ old.nest → other ≡ rest → IsDoneBehind (shape_of mid) new before other value used → IsDoneBehind (shape_of old) new before rest value used
+done_kept old mid new before rest other value used nest same h =
+    subst (λ o. IsDoneBehind (shape_of old) new before o value used) same (subst (λ shape. IsDoneBehind shape new before other value used) (shape_kept old mid nest) h)
+
+pub if_ok : {T E : Type 0} {P Q : T → Type 0} (r : Result T E) → ((x : T) → P x → Q x) → IfOk r P → IfOk r Q
+if_ok (Ok x) f h = f x h
+if_ok (Err e) f h = h
+
+pub if_err : {T E : Type 0} {P Q : E → Type 0} (r : Result T E) → ((e : E) → P e → Q e) → IfErr r P → IfErr r Q
+if_err (Ok x) f h = h
+if_err (Err e) f h = f e h
+
+pub cut_as : (old mid new : Pieces) (octets other : List ℕ) (f : fed.Fed) → shape_of mid ≡ shape_of old → other ≡ octets → IsTakenCut mid new other f → IsTakenCut old new octets f
+cut_as old mid new octets other (fed.TheVariants.Done value left) shape same h =
+    subst (λ o. IsDoneBefore (shape_of old) new o (value_view value) left) same (subst (λ s. IsDoneBefore s new other (value_view value) left) shape h)
+cut_as old mid new octets other fed.TheVariants.More shape same h = subst (HasBeenFed new) same h
+
+pub taken_is : (old new : Nest) (octets : List ℕ) (used : ℕ) (step : nest_step.Step) → step ≡ nest_step.TheVariants.Taken used → IsStep old new octets step → IsTaken old new octets used
+taken_is old new octets used step is h = subst (IsStep old new octets) is h
+
+pub whole_is : (old new : Nest) (octets : List ℕ) (value : Value) (used : ℕ) (step : nest_step.Step) → step ≡ nest_step.TheVariants.Whole value used → IsStep old new octets step → IsWhole old new octets (value_view value) used
+whole_is old new octets value used step is h = subst (IsStep old new octets) is h
+
+-- the value is whole with those that are kept
+pub whole_at : (now new : Pieces) (octets : List ℕ) (value : Val) (used left : ℕ) → IsAt now octets → IsWhole now.nest new.nest now.pending.items value used → new.refused ≡ None → new.pending.items ≡ [] → left ≡ length now.pending.items - used → IsDoneBefore (shape_of now) new octets value left
+whole_at now new octets value used left at step accepts kept is =
+    let count : length octets ≡ length at.before + length now.pending.items = ap length at.joined ∙ length-append at.before now.pending.items in
+    let front = front_by_rest octets at.before now.pending.items used at.joined step.there ∙ ap (λ k. take (length octets - k) octets) (sym is) in
+    record {
+      there = omega (arith, is, count);
+      accepted = subst (IsAccepted ber (shape_of now) value) front (step.accepted at.before at.goes_on.taken);
+      fresh = record { accepts = accepts; layers = step.layers; taken = step.taken; kept = kept };
+    }
+
+-- no value is whole, and the octets are few enough
+pub more_is_fed : (old new : Pieces) (octets : List ℕ) (r : Result fed.Fed Refusal) → shape_of new ≡ shape_of old → OnOk r (new.nest.taken + length new.pending.items ≤ MAX_ENCODING) → IfOk r (λ f. f ≡ fed.TheVariants.More)
+    → ((before : List ℕ) → HasBeenFed old before → HasBeenFed new (before ++ octets)) → IfOk r (λ f. (before : List ℕ) → HasBeenFed old before → IsFed old new before octets f)
+more_is_fed old new octets (Ok f) shape few is goes = λ before h.
+    let been = goes before h in
+    let count : length (before ++ octets) ≡ new.nest.taken + length new.pending.items = ap length been.joined ∙ length-append been.before new.pending.items ∙ ap (λ n. n + length new.pending.items) been.goes_on.taken.count in
+    let more : IsMore (shape_of old) new (before ++ octets) = record { none = subst (λ s. HasValue s (before ++ octets) → ⊥) shape been.none; has_been_fed = been; size = omega (arith, few, count) } in
+    subst (IsFed old new before octets) (sym is) more
+more_is_fed old new octets (Err e) shape few is goes = is
+
+-- no value is whole, and they are too many
+pub too_many : (old new : Pieces) (octets : List ℕ) (r : Result fed.Fed Refusal) → shape_of new ≡ shape_of old → (IsErr r → MAX_ENCODING < new.nest.taken + length new.pending.items)
+    → ((before : List ℕ) → HasBeenFed old before → HasBeenFed new (before ++ octets)) → IfErr r (λ refusal. IsFinal refusal → (before more : List ℕ) → HasBeenFed old before → HasValue (shape_of old) ((before ++ octets) ++ more) → ⊥)
+too_many old new octets (Ok f) shape many goes = tt
+too_many old new octets (Err e) shape many goes = λ final before more h value.
+    let been = goes before h in
+    let whole = before ++ octets in
+    let count : length whole ≡ new.nest.taken + length new.pending.items = ap length been.joined ∙ length-append been.before new.pending.items ∙ ap (λ n. n + length new.pending.items) been.goes_on.taken.count in
+    let n = value.0 in
+    let size : length (take n (whole ++ more)) ≤ 1_048_576 = value.2.1.size in
+    let all : length (take n (whole ++ more)) ≡ n = length-take-le n (whole ++ more) value.1 in
+    let below : n ≤ length whole = omega (arith, many refl, count, size, all) in
+    let same : take n (whole ++ more) ≡ take n whole = take-append-le n whole more below in
+    been.none (n, below, (value.2.0, subst (λ o. IsAccepted ber (shape_of new) value.2.0 o) same (subst (λ s. IsAccepted ber s value.2.0 (take n (whole ++ more))) (sym shape) value.2.1)))
+
+-- a value behind octets that have none
+pub done_is_fed : (old new : Pieces) (before octets : List ℕ) (value : Val) (used : ℕ) → (HasValue (shape_of old) before → ⊥) → IsDoneBehind (shape_of old) new before octets value used → IsDone (shape_of old) before octets value used × IsFresh new
+done_is_fed old new before octets value used none done = (record { some = some used (λ is. none (whole is)); there = done.there; accepted = done.accepted }, done.fresh)
+  where
+    some : (n : ℕ) → (n ≡ 0 → ⊥) → 1 ≤ n
+    some zero h = absurd (h refl)
+    some (suc n) h = omega arith
+
+    whole : used ≡ 0 → HasValue (shape_of old) before
+    whole is =
+        let same : before ++ take used octets ≡ take (length before) before = ap (λ k. before ++ take k octets) is ∙ append-nil before ∙ sym (take_all (length before) before (omega arith)) in
+        (length before, omega arith, (value, subst (IsAccepted ber (shape_of old) value) same done.accepted))
+
+-- octets behind those that have been fed, none of which are kept
+pub on_from_fed : (now : Pieces) (before octets : List ℕ) → HasBeenFed now before → now.pending.items ≡ [] → GoesOn now.nest before octets
+on_from_fed now before octets fed none =
+    let same : before ≡ fed.before = fed.joined ∙ ap (λ o. fed.before ++ o) none ∙ append-nil fed.before in
+    let on : GoesOn now.nest fed.before [] = subst (GoesOn now.nest fed.before) none fed.goes_on in
+    subst (λ b. GoesOn now.nest b octets) (sym same) (widened now.nest fed.before [] octets on)
+
+-- what is fed behind a front of the piece is fed of the piece
+pub fed_of_piece : (old mid new : Pieces) (octets piece : List ℕ) (at : ℕ) (value : Val) (used : ℕ) → at ≤ length piece → shape_of mid ≡ shape_of old → IsDone (shape_of mid) (octets ++ take at piece) (drop at piece) value used → IsDone (shape_of old) octets piece value (at + used)
+fed_of_piece old mid new octets piece at value used within shape done =
+    let there : used ≤ length piece - at = subst (λ n. used ≤ n) (length-drop at piece) done.there in
+    let front : (octets ++ take at piece) ++ take used (drop at piece) ≡ octets ++ take (at + used) piece = append_assoc octets (take at piece) (take used (drop at piece)) ∙ ap (λ o. octets ++ o) (take_more_octets at used piece) in
+    record { some = omega (arith, done.some); there = omega (arith, there, within); accepted = subst (IsAccepted ber (shape_of old) value) front (subst (λ s. IsAccepted ber s value ((octets ++ take at piece) ++ take used (drop at piece))) shape done.accepted) }
+
+-- the next octets of the piece
+pub next_of_piece : (at count : ℕ) (piece rest next : List ℕ) → rest ≡ drop at piece → next ≡ take count rest → take at piece ++ next ≡ take (at + count) piece
+next_of_piece at count piece rest next rest_is next_is = ap (λ o. take at piece ++ o) (next_is ∙ ap (take count) rest_is) ∙ take_more_octets at count piece
+
+pub fed_so_far : (initial now new : Pieces) (piece next : List ℕ) (at count : ℕ) → IsFedSoFar initial now piece at → IsGoingOn now new → at + count ≤ length piece → take at piece ++ next ≡ take (at + count) piece → ((octets : List ℕ) → HasBeenFed now octets → HasBeenFed new (octets ++ next)) → IsFedSoFar initial new piece (at + count)
+fed_so_far initial now new piece next at count far on within joined goes = record {
+  within = within;
+  going_on = record { shape = on.shape ∙ far.going_on.shape; accepts = on.accepts; sound = on.sound };
+  fed = λ octets h. subst (HasBeenFed new) (append_assoc octets (take at piece) next ∙ ap (λ o. octets ++ o) joined) (goes (octets ++ take at piece) (far.fed octets h));
+}
+
+-- a value that ends before the end of these is a value that ends in the piece
+pub done_cut : (initial now new : Pieces) (octets piece next : List ℕ) (at count left : ℕ) (value : Val) → IsFedSoFar initial now piece at → at + count ≤ length piece → take at piece ++ next ≡ take (at + count) piece → HasBeenFed initial octets
+    → IsDoneBefore (shape_of now) new ((octets ++ take at piece) ++ next) value left → IsDone (shape_of initial) octets piece value (at + count - left) × IsFresh new
+done_cut initial now new octets piece next at count left value far within joined fed done =
+    let whole : (octets ++ take at piece) ++ next ≡ octets ++ take (at + count) piece = append_assoc octets (take at piece) next ∙ ap (λ o. octets ++ o) joined in
+    let there = subst (λ o. left ≤ length o) whole done.there in
+    let accepted = subst (λ o. IsAccepted ber (shape_of now) value (take (length o - left) o)) whole done.accepted in
+    let none = (far.fed octets fed).none in
+    let none_now = subst (λ s. HasValue s (octets ++ take at piece) → ⊥) (refl {a = shape_of now}) none in
+    let d = done_in_piece (shape_of now) octets piece at (at + count) left value (omega arith) within there accepted none_now in
+    (subst (λ s. IsDone s octets piece value (at + count - left)) far.going_on.shape d, done.fresh)
+
+-- octets that begin so have no value
+pub never_cut : (initial now : Pieces) (octets piece next more : List ℕ) (at count : ℕ) → IsFedSoFar initial now piece at → take at piece ++ next ≡ take (at + count) piece → HasBeenFed initial octets
+    → ((before more : List ℕ) → HasBeenFed now before → HasValue (shape_of now) ((before ++ next) ++ more) → ⊥) → HasValue (shape_of initial) ((octets ++ piece) ++ more) → ⊥
+never_cut initial now octets piece next more at count far joined fed never h =
+    let whole : (octets ++ take at piece) ++ next ≡ octets ++ take (at + count) piece = append_assoc octets (take at piece) next ∙ ap (λ o. octets ++ o) joined in
+    let behind = drop (at + count) piece in
+    let all : (octets ++ piece) ++ more ≡ ((octets ++ take at piece) ++ next) ++ (behind ++ more) =
+    ap (λ o. o ++ more) (sym (front_and_rest (at + count) octets piece)) ∙ append_assoc (octets ++ take (at + count) piece) behind more ∙ ap (λ o. o ++ (behind ++ more)) (sym whole) in
+    never (octets ++ take at piece) (behind ++ more) (far.fed octets fed) (subst (λ s. HasValue s (((octets ++ take at piece) ++ next) ++ (behind ++ more))) (sym far.going_on.shape) (subst (HasValue (shape_of initial)) all h))
+
+-- what was taken of the rest
+pub done_rest : (initial now new : Pieces) (octets piece rest : List ℕ) (at used : ℕ) (value : Val) → IsFedSoFar initial now piece at → rest ≡ drop at piece → HasBeenFed initial octets → IsDone (shape_of now) (octets ++ take at piece) rest value used × IsFresh new → IsDone (shape_of initial) octets piece value (at + used) × IsFresh new
+done_rest initial now new octets piece rest at used value far is fed (done, fresh) =
+    (fed_of_piece initial now new octets piece at value used far.within far.going_on.shape (subst (λ o. IsDone (shape_of now) (octets ++ take at piece) o value used) is done), fresh)
+
+pub more_rest : (initial now new : Pieces) (octets piece rest : List ℕ) (at : ℕ) → IsFedSoFar initial now piece at → rest ≡ drop at piece → IsMore (shape_of now) new ((octets ++ take at piece) ++ rest) → IsMore (shape_of initial) new (octets ++ piece)
+more_rest initial now new octets piece rest at far is more =
+    let whole : (octets ++ take at piece) ++ rest ≡ octets ++ piece = ap (λ o. (octets ++ take at piece) ++ o) is ∙ front_and_rest at octets piece in
+    subst (λ s. IsMore s new (octets ++ piece)) far.going_on.shape (subst (IsMore (shape_of now) new) whole more)
+
+pub never_rest : (initial now : Pieces) (octets piece rest more : List ℕ) (at : ℕ) → IsFedSoFar initial now piece at → rest ≡ drop at piece → HasBeenFed initial octets → ((before more : List ℕ) → HasBeenFed now before → HasValue (shape_of now) ((before ++ rest) ++ more) → ⊥) → HasValue (shape_of initial) ((octets ++ piece) ++ more) → ⊥
+never_rest initial now octets piece rest more at far is fed never h =
+    let whole : (octets ++ take at piece) ++ rest ≡ octets ++ piece = ap (λ o. (octets ++ take at piece) ++ o) is ∙ front_and_rest at octets piece in
+    never (octets ++ take at piece) more (far.fed octets fed) (subst (λ s. HasValue s (((octets ++ take at piece) ++ rest) ++ more)) (sym far.going_on.shape) (subst (λ o. HasValue (shape_of initial) (o ++ more)) (sym whole) h))
+
+pub taken_cut_is : (old new : Pieces) (octets : List ℕ) (value : Value) (left : ℕ) (f : fed.Fed) → f ≡ fed.TheVariants.Done value left → IsTakenCut old new octets f → IsDoneBefore (shape_of old) new octets (value_view value) left
+taken_cut_is old new octets value left f is h = subst (IsTakenCut old new octets) is h
+
+pub fed_is_done : (old new : Pieces) (before octets : List ℕ) (value : Value) (used : ℕ) (f : fed.Fed) → f ≡ fed.TheVariants.Done value used → IsFed old new before octets f → IsDone (shape_of old) before octets (value_view value) used × IsFresh new
+fed_is_done old new before octets value used f is h = subst (IsFed old new before octets) is h
+
+-- what is answered is what a piece has come to
+told_is : (old new : Pieces) (before piece : List ℕ) (f : fed.Fed) (s : answer.Step) → IsTold f s → IsFed old new before piece f → IsFedStep old new before piece s
+told_is old new before piece (fed.TheVariants.Done value used) (answer.TheVariants.Done other count) same h =
+    subst (λ (w : Value). IsDone (shape_of old) before piece (value_view w) count × IsFresh new) same.0 (subst (λ n. IsDone (shape_of old) before piece (value_view value) n × IsFresh new) same.1 h)
+told_is old new before piece fed.TheVariants.More answer.TheVariants.More same h = h
+told_is old new before piece (fed.TheVariants.Done value used) answer.TheVariants.More same h = absurd same
+told_is old new before piece fed.TheVariants.More (answer.TheVariants.Done other count) same h = absurd same
+
+pub told_value : (old new : Pieces) (piece : List ℕ) (r : Result fed.Fed Refusal) (s : Result answer.Step Refusal) → IfOk s (λ step. (f : fed.Fed) × (r ≡ Ok f) × IsTold f step)
+    → IfOk r (λ f. (before : List ℕ) → HasBeenFed old before → IsFed old new before piece f) → IfOk s (λ step. (before : List ℕ) → HasBeenFed old before → IsFedStep old new before piece step)
+told_value old new piece r (Ok step) told h = λ before been.
+    let known : IfOk {T = fed.Fed} {E = Refusal} (Ok told.0) (λ f. (o : List ℕ) → HasBeenFed old o → IsFed old new o piece f) = subst (λ (x : Result fed.Fed Refusal). IfOk x (λ f. (o : List ℕ) → HasBeenFed old o → IsFed old new o piece f)) told.1 h in
+    told_is old new before piece told.0 step told.2 (known before been)
+told_value old new piece r (Err e) told h = tt
+
+pub told_refusal : {T S : Type 0} (P : Refusal → Type 0) (r : Result T Refusal) (s : Result S Refusal) → IfErr s (λ refusal. r ≡ Err refusal) → IfErr r P → IfErr s P
+told_refusal P r (Ok step) told h = tt
+told_refusal P r (Err e) told h = subst (λ x. IfErr x P) told h
+
+-- nothing is open
+pub fresh_nest : (nest : Nest) → IsWellFormed (ty_view nest.ty.now) → layers_of nest.layers ≡ [] → IsCounted nest.layers → nest.taken ≡ 0 → IsSoundNest nest
+fresh_nest nest well none counted taken = record {
+  type = record { within = well.limits.each; tags = well.tags; defaults = well.defaults };
+  sound = subst AreSound (sym none) tt;
+  inside = subst (AreInside (ty_view nest.ty.now)) (sym none) tt;
+  counted = counted;
+  depth = subst (λ l. length l ≤ most_nested) (sym none) (omega arith);
+  place = subst (λ n. n ≤ MAX_ENCODING) (sym taken) (omega arith);
+}
+
+pub fresh_reader : (pieces : Pieces) → IsWellFormed (shape_of pieces) → IsFresh pieces → IsCounted pieces.nest.layers → IsSoundReader pieces
+fresh_reader pieces well fresh counted = record {
+  sound = λ accepts. record { nest = fresh_nest pieces.nest well fresh.layers counted fresh.taken; well_formed = well };
+  numbers = λ refusal is. let both : None ≡ Some refusal = sym fresh.accepts ∙ is in absurd (cc both);
+}

@@ -1,0 +1,104 @@
+use Rattle.std.proofs.Common.{◌≡◌, ◌++◌, ◌+◌, ◌-◌, ◌∷◌, ◌≤◌, ℕ, List, [], true, false, Err, length, take, drop, refl, sym, ap, ◌∙◌, subst, arith, append-nil}
+use Rattle.std.proofs.lemmas.List.{take_rest}
+use Rattle.octets.proofs.ResultLemmas.{IfErr-from, Err-known}
+use Rattle.types.specs.Refusal.{IsFinal}
+use Rattle.types.specs.View.{ty_view}
+use Rattle.berreader.specs.declared.nest.Nest.{Nest}
+use Rattle.berreader.specs.Completing.{Opens}
+use Rattle.berreader.specs.Head.{IsExtentWithin}
+use Rattle.berreader.specs.Holding.{parts_view}
+use Rattle.berreader.specs.Nest.{CanFinish}
+use Rattle.berreader.specs.Stack.{Layer, layers_of}
+use Rattle.berreader.proofs.NestLemmas.{form_next, extent_next, own_tag}
+use Rattle.berreader.proofs.NestStepLemmas.{IsOpenedBy, opens_next, node_is_node, taken_opening, sound_opening}
+use Rattle.berreader.proofs.nest.Nest.open.Goals as goal
+
+pub returns-then-not-next-clause-never : goal.returns-then-not-next-clause-never
+returns-then-not-next-clause-never c = λ final more h.
+    let nest = c.args.self.now in
+    let next = c.args.next in
+    let o = opens_next nest c.args.octets.now more next c.requires.sound (c.requires.no_end more) c.requires.next c.requires.parts h in
+    let same : next.constructed ≡ true = form_next (layers_of nest.layers) next.tag nest.taken next.identifier next.constructed c.args.octets.now more c.requires.next.read o in
+    let both : false ≡ true = sym c.if-not-next.true ∙ same in cc
+
+pub returns-then-depth-ge-MAX_NESTED-clause-never : goal.returns-then-depth-ge-MAX_NESTED-clause-never
+returns-then-depth-ge-MAX_NESTED-clause-never c = λ final more h.
+    let o = opens_next c.args.self.now c.args.octets.now more c.args.next c.requires.sound (c.requires.no_end more) c.requires.next c.requires.parts h in
+    absurd (omega (arith, o.deep, c.depth.ensures, c.if-depth-ge-MAX_NESTED.true))
+
+pub returns-in_err-size-clause-truncated : goal.returns-in_err-size-clause-truncated
+returns-in_err-size-clause-truncated c = λ refused h.
+    let nest = c.args.self.now in
+    let next = c.args.next in
+    let octets = c.args.octets.now in
+    let i = next.identifier in
+    let place = nest.taken + i in
+    let all : take (length octets - i) (drop i octets) ≡ drop i octets = take_rest octets i in
+    let known = Err-known c.from_residual.result _ _ refused c.from_residual.ensures.1 in
+    let none : IsExtentWithin true c.end.result place (drop i octets) → ⊥ = subst (λ x. IsExtentWithin true c.end.result place x → ⊥) all (c.in_err-size.ensures.truncated (ap Err (sym known))) in
+    let o = opens_next nest octets [] next c.requires.sound (c.requires.no_end []) c.requires.next c.requires.parts (subst (CanFinish nest) (sym (append-nil octets)) h) in
+    let extent = extent_next (layers_of nest.layers) next.tag nest.taken i next.constructed octets [] c.requires.next.read o in
+    none (subst (IsExtentWithin true c.end.result place) (append-nil (drop i octets)) (subst (λ n. IsExtentWithin true n place (drop i octets ++ [])) (sym c.end.ensures) extent))
+
+pub returns-in_err-size-clause-never : goal.returns-in_err-size-clause-never
+returns-in_err-size-clause-never c =
+    let nest = c.args.self.now in
+    let next = c.args.next in
+    let octets = c.args.octets.now in
+    let i = next.identifier in
+    let place = nest.taken + i in
+    let all : take (length octets - i) (drop i octets) ≡ drop i octets = take_rest octets i in
+    IfErr-from c.from_residual.result _ (λ refusal. IsFinal refusal → (more : List ℕ) → CanFinish nest (octets ++ more) → ⊥) c.from_residual.ensures.1
+    (λ refusal same final more h.
+    let none : IsExtentWithin true c.end.result place (drop i octets ++ more) → ⊥ = subst (λ x. IsExtentWithin true c.end.result place (x ++ more) → ⊥) all (c.in_err-size.ensures.never (subst IsFinal same final) more) in
+    let o = opens_next nest octets more next c.requires.sound (c.requires.no_end more) c.requires.next c.requires.parts h in
+    let extent = extent_next (layers_of nest.layers) next.tag nest.taken i next.constructed octets more c.requires.next.read o in
+    none (subst (λ n. IsExtentWithin true n place (drop i octets ++ more)) (sym c.end.ensures) extent))
+
+pub returns-in_default-clause-never : goal.returns-in_default-clause-never
+returns-in_default-clause-never c =
+    let next = c.args.next in
+    let node = ty_view next.node.now in
+    let leaf = rw c.in_default.is at c.in_ok-holding.ensures in
+    absurd (c.requires.parts (leaf (node_is_node next.tag node (own_tag next.tag (ty_view next.ty.now) node c.requires.next.node))))
+
+-- what the callees have done
+opened : (c : goal.After-self-1) → IsOpenedBy c.args.self.now record { ty = c.args.self.now.ty; layers = c.push.new.self; taken = c.args.self.now.taken + c.args.next.identifier + c.in_ok-size.size } c.args.octets.now c.args.next c.in_ok-size.frame (parts_view c.in-Some.holding) c.in_ok-size.size
+opened c =
+    let nest = c.args.self.now in
+    let next = c.args.next in
+    let octets = c.args.octets.now in
+    let i = next.identifier in
+    let size = c.in_ok-size.size in
+    let frame = c.in_ok-size.frame in
+    let place = nest.taken + i in
+    let all : take (length octets - i) (drop i octets) ≡ drop i octets = take_rest octets i in
+    let held = rw c.in-Some.is at c.in_ok-holding.ensures in
+    let layer : Layer = record { frame = frame; tag = next.tag; type = ty_view next.ty.now; parts = parts_view c.in-Some.holding; which = 0 } in
+    record {
+      sound = c.requires.sound;
+      no_end = c.requires.no_end;
+      read = c.requires.next;
+      deep = omega (arith, c.depth.ensures, c.if-depth-ge-MAX_NESTED.false);
+      constructed = c.if-not-next.false;
+      of = held.0;
+      none = held.1;
+      there = subst (λ x. size ≤ length x) all c.in_ok-size.ensures.value.0;
+      form = subst (λ n. Opens n place frame (take size (drop i octets))) c.end.ensures (subst (λ x. Opens c.end.result place frame (take size x)) all c.in_ok-size.ensures.value.1);
+      type = refl;
+      taken = refl;
+      layers = c.in_ok-push.ensures.layers ∙ ap (λ l. layer ∷ l) c.set_which.ensures.layers;
+      counted = c.in_ok-push.ensures.counted (c.set_which.ensures.counted c.requires.sound.counted);
+    }
+
+pub returns-clause-taken : goal.returns-clause-taken
+returns-clause-taken c =
+    let nest = c.args.self.now in
+    let new : Nest = record { ty = nest.ty; layers = c.push.new.self; taken = nest.taken + c.args.next.identifier + c.in_ok-size.size } in
+    taken_opening nest new c.args.octets.now c.args.next c.in_ok-size.frame (parts_view c.in-Some.holding) c.in_ok-size.size (opened c)
+
+pub returns-clause-sound : goal.returns-clause-sound
+returns-clause-sound c =
+    let nest = c.args.self.now in
+    let new : Nest = record { ty = nest.ty; layers = c.push.new.self; taken = nest.taken + c.args.next.identifier + c.in_ok-size.size } in
+    sound_opening nest new c.args.octets.now c.args.next c.in_ok-size.frame (parts_view c.in-Some.holding) c.in_ok-size.size (opened c)

@@ -1,0 +1,18 @@
+use Rattle.std.proofs.Common.{◌++◌, ℕ, List, take, drop}
+use Rattle.octets.proofs.FrontLemmas.{front_of_more}
+use Rattle.octets.proofs.ResultLemmas.{IfErr-map}
+use Rattle.types.specs.Refusal.{IsFinal}
+use Rattle.berreader.specs.Nest.{CanFinish, EndsInside}
+use Rattle.berreader.specs.Stack.{layers_of}
+use Rattle.berreader.proofs.NestStepLemmas.{ends_of}
+use Rattle.berreader.proofs.nest.Nest.step.Goals as goal
+
+pub returns-in-Ok-Some-clause-never : goal.returns-in-Ok-Some-clause-never
+returns-in-Ok-Some-clause-never c =
+    let nest = c.args.self.now in
+    let octets = c.args.octets.now in
+    let used = c.in-Ok-Some.used in
+    let found = rw c.in-Ok-Some.field-0-is at c.in-Ok-Some.ensures.value in
+    IfErr-map c.close.result (λ refusal. IsFinal refusal → (all : List ℕ) → EndsInside (layers_of nest.layers) nest.taken all → CanFinish nest all → ⊥) (λ refusal. IsFinal refusal → (more : List ℕ) → CanFinish nest (octets ++ more) → ⊥)
+    (λ refusal none final more h. none final (octets ++ more) (ends_of (layers_of nest.layers) nest.taken (octets ++ more) (take used octets) (drop used octets ++ more) found.1 (front_of_more used octets more)) h)
+    c.close.ensures.never

@@ -1,0 +1,10 @@
+use Rattle.std.proofs.Common.{◌+◌, ◌*◌, ◌-◌, length}
+use Rattle.berreader.specs.Stack.{layers_of}
+use Rattle.berreader.proofs.FeedingLemmas.{IsOnTheWay}
+use Rattle.berreader.proofs.pieces.Pieces.take_whole.Given as goal
+
+abbrev pub invariant-loop-used : goal.invariant-loop-used
+invariant-loop-used l = IsOnTheWay l.initial.self l.self l.octets l.at
+
+abbrev pub decreases-loop-used : goal.decreases-loop-used
+decreases-loop-used l = length (layers_of l.self.nest.layers) + 2 * (length l.octets - l.at)

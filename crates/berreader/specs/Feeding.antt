@@ -1,0 +1,129 @@
+-- What a reader over pieces has been fed, and what it answers to the next piece.
+use Rattle.std.specs.Prelude.{◌≡◌, ◌-◌, ◌≤◌, ⊤, ℕ, List, [], ◌++◌, length, take, Option, Some, None, Result, Ok, Err}
+use Rattle.octets.specs.declared.TheConstants.{MAX_ENCODING}
+use Rattle.octets.specs.Front.{HasFront}
+use Rattle.octets.specs.Rule.{ber}
+use Rattle.types.specs.declared.refusal.Refusal.{Refusal}
+use Rattle.types.specs.declared.refusal.Refusal.TheVariants.{Truncated}
+use Rattle.types.specs.Encoding.{IsAccepted, IsSomeAccepted}
+use Rattle.types.specs.Refusal.{IsFinal, IsOfReading}
+use Rattle.types.specs.Shape.{Shape, Val}
+use Rattle.types.specs.View.{ty_view, value_view}
+use Rattle.types.specs.WellFormed.{IsWellFormed}
+use Rattle.berreader.specs.declared.nest.Nest.{Nest}
+use Rattle.berreader.specs.declared.pieces.Pieces.{Pieces}
+use Rattle.berreader.specs.declared.pieces.Fed as fed
+use Rattle.berreader.specs.declared.reader.Step as step
+use Rattle.berreader.specs.Nest.{CanFinish, HasTaken, IsSoundNest}
+use Rattle.berreader.specs.Stack.{layers_of}
+
+-- 2 to 11 and 17: what a reader over pieces refuses a piece with
+abbrev pub IsOfFeeding : Refusal → Type 0
+IsOfFeeding Truncated = ⊥
+IsOfFeeding refusal = IsOfReading refusal
+
+abbrev pub shape_of : Pieces → Shape
+shape_of pieces = ty_view pieces.nest.ty.now
+
+-- an encoding of the type is at the front of the octets
+abbrev pub HasValue : Shape → List ℕ → Type 0
+HasValue shape octets = HasFront (IsSomeAccepted ber shape) octets
+
+-- these octets stand before the rest, and where all of them begin with an encoding, the rest completes the nest
+pub record GoesOn (nest : Nest) (before rest : List ℕ) : Type 0 where
+  pub taken : HasTaken nest before
+  pub forth : (more : List ℕ) → HasValue (ty_view nest.ty.now) (before ++ (rest ++ more)) → CanFinish nest (rest ++ more)
+
+-- these octets have been fed since no value was begun: first those of whole steps, and then those that are kept
+pub record HasBeenFed (pieces : Pieces) (octets : List ℕ) : Type 0 where
+  pub accepts : pieces.refused ≡ None
+  pub before : List ℕ
+  pub joined : octets ≡ before ++ pieces.pending.items
+  pub goes_on : GoesOn pieces.nest before pieces.pending.items
+  pub none : ¬ HasValue (shape_of pieces) octets
+
+-- no value is begun
+pub record IsFresh (pieces : Pieces) : Type 0 where
+  pub accepts : pieces.refused ≡ None
+  pub layers : layers_of pieces.nest.layers ≡ []
+  pub taken : pieces.nest.taken ≡ 0
+  pub kept : pieces.pending.items ≡ []
+
+-- so many octets of the piece complete the value
+pub record IsDone (shape : Shape) (octets piece : List ℕ) (value : Val) (used : ℕ) : Type 0 where
+  pub some : 1 ≤ used
+  pub there : used ≤ length piece
+  pub accepted : IsAccepted ber shape value (octets ++ take used piece)
+
+-- the whole piece was taken, and no value is whole
+pub record IsMore (shape : Shape) (new : Pieces) (octets : List ℕ) : Type 0 where
+  pub none : ¬ HasValue shape octets
+  pub has_been_fed : HasBeenFed new octets
+  pub size : length octets ≤ MAX_ENCODING
+
+-- what is answered to a piece after these octets
+abbrev pub IsFed : Pieces → Pieces → List ℕ → List ℕ → fed.Fed → Type 0
+IsFed old new octets piece (fed.TheVariants.Done value used) = IsDone (shape_of old) octets piece (value_view value) used × IsFresh new
+IsFed old new octets piece fed.TheVariants.More = IsMore (shape_of old) new (octets ++ piece)
+
+-- what holds of a reader that has refused nothing
+pub record IsSoundPieces (pieces : Pieces) : Type 0 where
+  pub nest : IsSoundNest pieces.nest
+  pub well_formed : IsWellFormed (shape_of pieces)
+
+-- what holds of a reader at all times
+pub record IsSoundReader (pieces : Pieces) : Type 0 where
+  pub sound : pieces.refused ≡ None → IsSoundPieces pieces
+  pub numbers : (refusal : Refusal) → pieces.refused ≡ Some refusal → IsOfFeeding refusal
+
+-- the same type is read, and no refusal has come
+pub record IsGoingOn (old new : Pieces) : Type 0 where
+  pub shape : shape_of new ≡ shape_of old
+  pub accepts : new.refused ≡ None
+  pub sound : IsSoundPieces new
+
+-- the octets behind some others were taken as far as they are whole steps
+pub record IsDoneBehind (shape : Shape) (new : Pieces) (before octets : List ℕ) (value : Val) (used : ℕ) : Type 0 where
+  pub there : used ≤ length octets
+  pub accepted : IsAccepted ber shape value (before ++ take used octets)
+  pub fresh : IsFresh new
+
+abbrev pub IsTakenWhole : Pieces → Pieces → List ℕ → List ℕ → fed.Fed → Type 0
+IsTakenWhole old new before octets (fed.TheVariants.Done value used) = IsDoneBehind (shape_of old) new before octets (value_view value) used
+IsTakenWhole old new before octets fed.TheVariants.More = HasBeenFed new (before ++ octets)
+
+-- a value that ends so many octets before the end of these
+pub record IsDoneBefore (shape : Shape) (new : Pieces) (octets : List ℕ) (value : Val) (left : ℕ) : Type 0 where
+  pub there : left ≤ length octets
+  pub accepted : IsAccepted ber shape value (take (length octets - left) octets)
+  pub fresh : IsFresh new
+
+abbrev pub IsTakenCut : Pieces → Pieces → List ℕ → fed.Fed → Type 0
+IsTakenCut old new octets (fed.TheVariants.Done value left) = IsDoneBefore (shape_of old) new octets (value_view value) left
+IsTakenCut old new octets fed.TheVariants.More = HasBeenFed new octets
+
+-- nothing was refused, and no octet has come since the last value
+pub record IsFinished (pieces : Pieces) : Type 0 where
+  pub accepts : pieces.refused ≡ None
+  pub taken : pieces.nest.taken ≡ 0
+  pub kept : pieces.pending.items ≡ []
+
+-- the same of the answer of a public reader
+abbrev pub IsFedStep : Pieces → Pieces → List ℕ → List ℕ → step.Step → Type 0
+IsFedStep old new octets piece (step.TheVariants.Done value used) = IsDone (shape_of old) octets piece (value_view value) used × IsFresh new
+IsFedStep old new octets piece step.TheVariants.More = IsMore (shape_of old) new (octets ++ piece)
+
+abbrev pub EndsStepWithin : ℕ → step.Step → Type 0
+EndsStepWithin count (step.TheVariants.Done value used) = used ≤ count
+EndsStepWithin count step.TheVariants.More = ⊤
+
+-- a value ends within so many octets
+abbrev pub EndsWithin : ℕ → fed.Fed → Type 0
+EndsWithin count (fed.TheVariants.Done value used) = used ≤ count
+EndsWithin count fed.TheVariants.More = ⊤
+
+-- the same, as it is answered
+abbrev pub IsTold : fed.Fed → step.Step → Type 0
+IsTold (fed.TheVariants.Done value used) (step.TheVariants.Done other count) = (value ≡ other) × (used ≡ count)
+IsTold fed.TheVariants.More step.TheVariants.More = ⊤
+IsTold _ _ = ⊥

@@ -1,0 +1,66 @@
+//! Which type within a CHOICE an encoding is of (X.690 8.13): tags tell the alternatives apart.
+
+ghost use Rattle.std.specs.Prelude.{◌≡◌, ◌↔◌, ℕ, List, true, false, Contains, IsTrue, IfOk, MatchOption};
+ghost use Rattle.octets.specs.Rule.{ber};
+ghost use Rattle.types.specs.Encoding.{IsEncoding};
+ghost use Rattle.types.specs.FirstTags.{first_tags};
+ghost use Rattle.types.specs.Shape.{Shape};
+ghost use Rattle.types.specs.View.{ty_view, value_view};
+ghost use Rattle.berreader.specs.Parts.{IsGoodType, IsNodeFor};
+
+use octets::{NoMemory, Tag};
+use std::alloc::Global;
+use types::{Ty, Value};
+
+// Whether encodings of the type can begin with the tag.
+pub fn begins(ty: &Ty, tag: Tag) -> bool
+    ensures { IsTrue result ↔ Contains (first_tags (ty_view ty.now)) tag }
+{
+    let Ty::Choice(alternatives) = ty else {
+        return ty.tag() == Some(tag);
+    };
+    for alternative in alternatives {
+        if begins(&alternative.ty, tag) {
+            return true;
+        }
+    }
+    false
+}
+
+// The type, which is no CHOICE, of the encodings that begin with the tag.
+pub fn node_of<'a>(ty: &'a Ty, tag: Tag) -> Option<&'a Ty>
+    ensures { MatchOption result ((node : Shape) → ¬ IsNodeFor tag (ty_view ty.now) node)
+        (λ node. IsNodeFor tag (ty_view ty.now) (ty_view node.now)) }
+{
+    let Ty::Choice(alternatives) = ty else {
+        return if ty.tag() == Some(tag) {
+            Some(ty)
+        } else {
+            None
+        };
+    };
+    for alternative in alternatives {
+        if let Some(node) = node_of(&alternative.ty, tag) {
+            return Some(node);
+        }
+    }
+    None
+}
+
+// The value of the type that an encoding has which begins with the tag, by the value of that node.
+pub fn wrap(alloc: Global, ty: &Ty, tag: Tag, value: Value) -> Result<Value, NoMemory>
+    requires { IsGoodType (ty_view ty.now) }
+    ensures { IfOk result (λ wrapped. (node : Shape) (octets : List ℕ) → IsNodeFor tag (ty_view ty.now) node →
+        IsEncoding ber node (value_view value) octets → IsEncoding ber (ty_view ty.now) (value_view wrapped) octets) }
+{
+    let Ty::Choice(alternatives) = ty else {
+        return Ok(value);
+    };
+    for (which, alternative) in alternatives.iter().enumerate() {
+        if begins(&alternative.ty, tag) {
+            let chosen = wrap(alloc, &alternative.ty, tag, value)?;
+            return Ok(Value::Chosen(which, Box::new(alloc, chosen)?));
+        }
+    }
+    Ok(value)
+}

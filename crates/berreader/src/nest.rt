@@ -1,0 +1,328 @@
+//! The open encodings of a value that is being read, each inside the next, and the steps by which it is
+//! read, from one part to the next.
+
+ghost use Rattle.std.specs.Prelude.{◌≡◌, ◌≢◌, ◌+◌, ◌≤◌, ◌++◌, ◌∷◌, ℕ, List, [], take, length, IfOk, IfErr, IsErr, OnOk, MatchOption, Contains};
+ghost use Rattle.octets.specs.declared.TheConstants.{MAX_ENCODING};
+ghost use Rattle.types.specs.FirstTags.{first_tags};
+ghost use Rattle.types.specs.Leaf.{IsLeaf};
+ghost use Rattle.types.specs.Refusal.{IsFinal, IsOfReading};
+ghost use Rattle.types.specs.Shape.{Shape};
+ghost use Rattle.types.specs.View.{ty_view, value_view};
+ghost use Rattle.berreader.specs.Stack.{layers_of, IsCounted};
+ghost use Rattle.berreader.specs.Holding.{IsOfDue};
+ghost use Rattle.berreader.specs.Nest.{end_inside, CanFinish, EndsInside, IsEndInside, IsCome, IsDueInside, IsDueNext, IsReadNext, IsSoundNest, IsStep};
+ghost use Rattle.berreader.specs.Parts.{IsGoodType};
+
+use crate::MAX_NESTED;
+use crate::choices::{begins, node_of, wrap};
+use crate::frame::OUTSIDE;
+use crate::head::read_head_tag;
+use crate::holding::holding_of;
+use crate::leaf::read_leaf;
+use crate::parts::read_opening;
+use crate::seats::not_due;
+use crate::segments::read_end;
+use crate::stack::{Open, Stack};
+use octets::{NoMemory, Tag};
+use std::alloc::Global;
+use types::{Refusal, Ty, Value};
+
+/// A value that is being read.
+#[derive(Debug, Drop)]
+pub struct Nest<'a> {
+    /// Its type.
+    pub ty: &'a Ty,
+    /// The encodings of it that are open.
+    pub layers: Stack<'a>,
+    /// How many octets of the value have been taken.
+    pub taken: usize,
+}
+
+/// What a step has taken.
+#[derive(Debug, Drop)]
+pub enum Step {
+    /// So many octets, and the value is not whole.
+    Taken(usize),
+    /// The last octets of the value, and how many they are.
+    Whole(Value, usize),
+}
+
+/// The part that comes next, as its identifier octets say.
+#[derive(Clone, Copy, Debug)]
+struct Next<'a> {
+    /// Which part it is of what is open.
+    which: usize,
+    /// Its type.
+    ty: &'a Ty,
+    /// The type itself, or the alternative of a CHOICE that begins with the tag.
+    node: &'a Ty,
+    tag: Tag,
+    constructed: bool,
+    /// How many identifier octets there are.
+    identifier: usize,
+}
+
+impl<'a> Nest<'a> {
+    // Nothing has been taken of a value of the type.
+    pub fn new(alloc: Global, ty: &'a Ty) -> Nest<'a>
+        ensures ty { ty_view result.ty.now ≡ ty_view ty.now }
+        ensures layers { layers_of result.layers ≡ [] }
+        ensures counted { IsCounted result.layers }
+        ensures taken { result.taken ≡ 0 }
+    {
+        Nest {
+            ty,
+            layers: Stack::new(alloc),
+            taken: 0,
+        }
+    }
+
+    // Takes what stands next: the end of the innermost open encoding, a part without parts, or the
+    // identifier octets and length octets of another.
+    pub fn step(&mut self, alloc: Global, octets: &[u8]) -> Result<Step, Refusal>
+        requires { IsSoundNest self.old }
+        ensures taken { IfOk result (λ step. IsStep self.old self.new octets.now step) }
+        ensures sound { OnOk result (IsSoundNest self.new) }
+        ensures truncated { result ≡ Err Refusal.Truncated → ¬ CanFinish self.old octets.now }
+        ensures never { IfErr result (λ refusal. IsFinal refusal → (more : List ℕ) →
+            ¬ CanFinish self.old (octets.now ++ more)) }
+        ensures unchanged { result ≡ Err Refusal.Truncated → self.new ≡ self.old }
+        ensures numbers { IfErr result IsOfReading }
+    {
+        match self.end_here(octets) {
+            Ok(Some(used)) => self.close(alloc, used),
+            Ok(None) => match self.part(alloc, octets) {
+                Ok(step) => Ok(step),
+                Err(refusal) => Err(self.named(refusal)),
+            },
+            Err(refusal) => Err(refusal),
+        }
+    }
+
+    // How many octets the end of the innermost open encoding has, if it ends here.
+    fn end_here(&self, octets: &[u8]) -> Result<Option<usize>, Refusal>
+        requires { IsSoundNest self.now }
+        ensures value { IfOk result (λ found. MatchOption found
+            ((more : List ℕ) → ¬ EndsInside (layers_of self.now.layers) self.now.taken (octets.now ++ more))
+            (λ used. (used ≤ length octets.now)
+            × IsEndInside (layers_of self.now.layers) self.now.taken (take used octets.now))) }
+        ensures truncated { result ≡ Err Refusal.Truncated → ¬ CanFinish self.now octets.now }
+        ensures never { IfErr result (λ refusal. IsFinal refusal → (more : List ℕ) →
+            ¬ CanFinish self.now (octets.now ++ more)) }
+        ensures numbers { IfErr result IsOfReading }
+    {
+        match self.layers.top() {
+            Some(open) => read_end(open.frame, self.taken, octets),
+            None => Ok(None),
+        }
+    }
+
+    // Ends the innermost open encoding.
+    fn close(&mut self, alloc: Global, used: usize) -> Result<Step, Refusal>
+        requires sound { IsSoundNest self.old }
+        requires ends { (octets : List ℕ) × (used ≤ length octets) × IsEndInside (layers_of self.old.layers) self.old.taken (take used octets) }
+        ensures taken { IfOk result (λ step. (octets : List ℕ) → used ≤ length octets →
+            IsEndInside (layers_of self.old.layers) self.old.taken (take used octets) → IsStep self.old self.new octets step) }
+        ensures sound { OnOk result (IsSoundNest self.new) }
+        ensures never { IfErr result (λ refusal. IsFinal refusal → (octets : List ℕ) →
+            EndsInside (layers_of self.old.layers) self.old.taken octets → ¬ CanFinish self.old octets) }
+        ensures numbers { IfErr result (λ refusal. IsOfReading refusal × (refusal ≢ Refusal.Truncated)) }
+    {
+        let Some(open) = self.layers.pop() else {
+            return Err(Refusal::EndOfContents);
+        };
+        let Open {
+            frame,
+            tag,
+            ty,
+            holding,
+            which: _,
+        } = open;
+        let value = holding.into_value(frame.definite)?;
+        Ok(self.come(alloc, ty, tag, value, used)?)
+    }
+
+    // Takes a part without parts, or the beginning of another.
+    fn part(&mut self, alloc: Global, octets: &[u8]) -> Result<Step, Refusal>
+        requires sound { IsSoundNest self.old }
+        requires no_end { (more : List ℕ) →
+            ¬ EndsInside (layers_of self.old.layers) self.old.taken (octets.now ++ more) }
+        ensures taken { IfOk result (λ step. IsStep self.old self.new octets.now step) }
+        ensures sound { OnOk result (IsSoundNest self.new) }
+        ensures truncated { result ≡ Err Refusal.Truncated → ¬ CanFinish self.old octets.now }
+        ensures never { IfErr result (λ refusal. IsFinal refusal → (more : List ℕ) →
+            ¬ CanFinish self.old (octets.now ++ more)) }
+        ensures unchanged { result ≡ Err Refusal.Truncated → self.new ≡ self.old }
+        ensures numbers { IfErr result IsOfReading }
+    {
+        let next = self.next(octets)?;
+        if next.node.has_no_parts() {
+            self.leaf(alloc, next, octets)
+        } else {
+            self.open(alloc, next, octets)
+        }
+    }
+
+    // The part whose identifier octets stand at the front.
+    fn next(&self, octets: &[u8]) -> Result<Next<'a>, Refusal>
+        requires sound { IsSoundNest self.now }
+        requires no_end { (more : List ℕ) →
+            ¬ EndsInside (layers_of self.now.layers) self.now.taken (octets.now ++ more) }
+        ensures value { IfOk result (λ next. IsReadNext self.now octets.now next) }
+        ensures truncated { result ≡ Err Refusal.Truncated → ¬ CanFinish self.now octets.now }
+        ensures never { IfErr result (λ refusal. IsFinal refusal → (more : List ℕ) →
+            ¬ CanFinish self.now (octets.now ++ more)) }
+        ensures numbers { IfErr result IsOfReading }
+    {
+        let (tag, constructed, identifier) = read_head_tag(self.end(), self.taken, octets)?;
+        let (which, ty) = self.due(tag)?;
+        let Some(node) = node_of(ty, tag) else {
+            return Err(Refusal::Identifier);
+        };
+        Ok(Next {
+            which,
+            ty,
+            node,
+            tag,
+            constructed,
+            identifier,
+        })
+    }
+
+    // Which part may come next that begins with the tag, and its type.
+    fn due(&self, tag: Tag) -> Result<(usize, &'a Ty), Refusal>
+        ensures value { IfOk result (λ p.
+            IsDueNext (ty_view self.now.ty.now) (layers_of self.now.layers) p.0 (ty_view p.1.now)
+            × Contains (first_tags (ty_view p.1.now)) tag) }
+        ensures never { IfErr result (λ refusal. (which : ℕ) (type : Shape) →
+            IsDueNext (ty_view self.now.ty.now) (layers_of self.now.layers) which type →
+            ¬ Contains (first_tags type) tag) }
+        ensures numbers { IfErr result IsOfDue }
+    {
+        match self.layers.top() {
+            Some(open) => open.holding.due(tag),
+            None if begins(self.ty, tag) => Ok((0, self.ty)),
+            None => Err(not_due(tag)),
+        }
+    }
+
+    // Where the parts of the innermost open encoding end.
+    fn end(&self) -> usize
+        ensures { result ≡ end_inside (layers_of self.now.layers) }
+    {
+        match self.layers.top() {
+            Some(open) => open.frame.end,
+            None => OUTSIDE.end,
+        }
+    }
+
+    // Takes a part without parts.
+    fn leaf(&mut self, alloc: Global, next: Next<'a>, octets: &[u8]) -> Result<Step, Refusal>
+        requires sound { IsSoundNest self.old }
+        requires no_end { (more : List ℕ) →
+            ¬ EndsInside (layers_of self.old.layers) self.old.taken (octets.now ++ more) }
+        requires next { IsReadNext self.old octets.now next }
+        requires leaf { IsLeaf (ty_view next.node.now) }
+        ensures taken { IfOk result (λ step. IsStep self.old self.new octets.now step) }
+        ensures sound { OnOk result (IsSoundNest self.new) }
+        ensures truncated { result ≡ Err Refusal.Truncated → ¬ CanFinish self.old octets.now }
+        ensures never { IfErr result (λ refusal. IsFinal refusal → (more : List ℕ) →
+            ¬ CanFinish self.old (octets.now ++ more)) }
+        ensures unchanged { result ≡ Err Refusal.Truncated → self.new ≡ self.old }
+        ensures numbers { IfErr result IsOfReading }
+    {
+        let levels = MAX_NESTED - self.layers.depth();
+        let (value, used) = read_leaf(
+            alloc,
+            next.node,
+            next.identifier,
+            next.constructed,
+            self.end(),
+            self.taken,
+            levels,
+            octets,
+        )?;
+        self.layers.set_which(next.which);
+        Ok(self.come(alloc, next.ty, next.tag, value, used)?)
+    }
+
+    // Takes the identifier octets and length octets of a constructed encoding, and opens it.
+    fn open(&mut self, alloc: Global, next: Next<'a>, octets: &[u8]) -> Result<Step, Refusal>
+        requires sound { IsSoundNest self.old }
+        requires no_end { (more : List ℕ) →
+            ¬ EndsInside (layers_of self.old.layers) self.old.taken (octets.now ++ more) }
+        requires next { IsReadNext self.old octets.now next }
+        requires parts { ¬ IsLeaf (ty_view next.node.now) }
+        ensures taken { IfOk result (λ step. IsStep self.old self.new octets.now step) }
+        ensures sound { OnOk result (IsSoundNest self.new) }
+        ensures truncated { result ≡ Err Refusal.Truncated → ¬ CanFinish self.old octets.now }
+        ensures never { IfErr result (λ refusal. IsFinal refusal → (more : List ℕ) →
+            ¬ CanFinish self.old (octets.now ++ more)) }
+        ensures unchanged { result ≡ Err Refusal.Truncated → self.new ≡ self.old }
+        ensures numbers { IfErr result IsOfReading }
+    {
+        if !next.constructed {
+            return Err(Refusal::Form);
+        }
+        if self.layers.depth() >= MAX_NESTED {
+            return Err(Refusal::TooDeep);
+        }
+        let after = self.taken + next.identifier;
+        let (size, frame) = read_opening(self.end(), after, &octets[next.identifier..])?;
+        let Some(holding) = holding_of(alloc, next.node)? else {
+            return Err(Refusal::Form);
+        };
+        let opened = Open {
+            frame,
+            tag: next.tag,
+            ty: next.ty,
+            holding,
+            which: 0,
+        };
+        self.layers.set_which(next.which);
+        self.layers.push(opened)?;
+        self.taken = after + size;
+        Ok(Step::Taken(next.identifier + size))
+    }
+
+    // Puts a value that has come where it belongs: into the innermost open encoding, if there is one.
+    fn come(
+        &mut self,
+        alloc: Global,
+        ty: &Ty,
+        tag: Tag,
+        value: Value,
+        used: usize,
+    ) -> Result<Step, NoMemory>
+        requires good { IsGoodType (ty_view ty.now) }
+        requires due { IsDueInside (ty_view self.old.ty.now) (layers_of self.old.layers) (ty_view ty.now) }
+        requires room { self.old.taken + used ≤ MAX_ENCODING }
+        ensures come { IfOk result (λ step. IsCome self.old self.new (ty_view ty.now) tag (value_view value) used step) }
+        ensures counted { IsCounted self.old.layers → OnOk result (IsCounted self.new.layers) }
+    {
+        let wrapped = wrap(alloc, ty, tag, value)?;
+        match self.layers.put(wrapped)? {
+            None => {
+                self.taken += used;
+                Ok(Step::Taken(used))
+            }
+            Some(whole) => {
+                self.taken = 0;
+                Ok(Step::Whole(whole, used))
+            }
+        }
+    }
+
+    // Why a part is refused: one that goes on too long inside a definite encoding passes its end.
+    fn named(&self, refusal: Refusal) -> Refusal
+        ensures truncated { result ≡ Refusal.Truncated → refusal ≡ Refusal.Truncated }
+        ensures never { IsFinal result → IsFinal refusal }
+        ensures numbers { IsOfReading refusal → IsOfReading result }
+    {
+        if refusal == Refusal::TooLong && self.layers.any_definite() {
+            Refusal::Length
+        } else {
+            refusal
+        }
+    }
+}

@@ -1,0 +1,338 @@
+//! The octets of a value that come in pieces.
+
+ghost use Rattle.std.specs.Prelude.{◌≡◌, ◌↔◌, ◌⊎◌, IsTrue, ◌+◌, ◌<◌, ◌≤◌, ◌++◌, ℕ, List, Some, None, [], length, drop, IfOk, IfErr, IsOk, IsErr, OnOk};
+ghost use Rattle.octets.specs.declared.TheConstants.{MAX_ENCODING};
+ghost use Rattle.types.specs.Refusal.{IsFinal, IsOfReading};
+ghost use Rattle.types.specs.View.{ty_view};
+ghost use Rattle.berreader.specs.Stack.{IsCounted};
+ghost use Rattle.berreader.specs.Nest.{CanFinish, IsSoundNest, IsStep};
+ghost use Rattle.berreader.specs.Feeding.{EndsWithin, GoesOn, HasBeenFed, HasValue, IsFed, IsFinished, IsFresh, IsGoingOn, IsOfFeeding, IsSoundPieces, IsSoundReader, IsTakenCut, IsTakenWhole, shape_of};
+
+use crate::nest::{Nest, Step};
+use octets::{Head, Length, MAX_ENCODING, read_identifier, read_length};
+use std::alloc::Global;
+use types::{Refusal, Ty, Value};
+
+/// A value whose octets come in pieces.
+#[derive(Debug, Drop)]
+pub struct Pieces<'a> {
+    pub alloc: Global,
+    /// The encodings that are open.
+    pub nest: Nest<'a>,
+    /// The octets of a head, or of an encoding without parts, that the end of a piece has cut.
+    pub pending: Vec<u8>,
+    /// What an earlier piece was refused with.
+    pub refused: Option<Refusal>,
+}
+
+/// What a piece has come to.
+#[derive(Debug, Drop)]
+pub enum Fed {
+    /// The whole piece was taken, and no value is whole.
+    More,
+    /// A value, and how many octets of the piece complete it.
+    Done(Value, usize),
+}
+
+impl<'a> Pieces<'a> {
+    // No octet has come of a value of the type.
+    pub fn new(alloc: Global, ty: &'a Ty) -> Pieces<'a>
+        ensures shape { shape_of result ≡ ty_view ty.now }
+        ensures fresh { IsFresh result }
+        ensures counted { IsCounted result.nest.layers }
+    {
+        Pieces {
+            alloc,
+            nest: Nest::new(alloc, ty),
+            pending: Vec::new(alloc),
+            refused: None,
+        }
+    }
+
+    // Takes a piece.
+    pub fn feed(&mut self, piece: &[u8]) -> Result<Fed, Refusal>
+        requires { IsSoundReader self.old }
+        ensures sound { IsSoundReader self.new }
+        ensures shape { OnOk result (shape_of self.new ≡ shape_of self.old) }
+        ensures there { IfOk result (EndsWithin (length piece.now)) }
+        ensures value { IfOk result (λ fed. (octets : List ℕ) → HasBeenFed self.old octets → IsFed self.old self.new octets piece.now fed) }
+        ensures never { self.old.refused ≡ None → IfErr result (λ refusal. IsFinal refusal → (octets more : List ℕ) →
+            HasBeenFed self.old octets → ¬ HasValue (shape_of self.old) ((octets ++ piece.now) ++ more)) }
+        ensures refused { IfErr result (λ refusal. self.new.refused ≡ Some refusal) }
+        ensures again { (refusal : Refusal) → self.old.refused ≡ Some refusal → result ≡ Err refusal }
+        ensures numbers { IfErr result IsOfFeeding }
+    {
+        if let Some(refusal) = self.refused {
+            return Err(refusal);
+        }
+        match self.take(piece) {
+            Ok(fed) => Ok(fed),
+            Err(refusal) => {
+                self.refused = Some(refusal);
+                Err(refusal)
+            }
+        }
+    }
+
+    // Whether no value is begun.
+    pub fn finish(&self) -> Result<(), Refusal>
+        ensures exact { IsOk result ↔ IsFinished self.now }
+        ensures refused { IfErr result (λ refusal. (self.now.refused ≡ Some refusal) ⊎ ((self.now.refused ≡ None) × (refusal ≡ Refusal.Truncated))) }
+    {
+        if let Some(refusal) = self.refused {
+            return Err(refusal);
+        }
+        if self.nest.taken == 0 && self.keeps_none() {
+            Ok(())
+        } else {
+            Err(Refusal::Truncated)
+        }
+    }
+
+    // Takes a piece behind those octets that are kept.
+    fn take(&mut self, piece: &[u8]) -> Result<Fed, Refusal>
+        requires accepts { self.old.refused ≡ None }
+        requires sound { IsSoundPieces self.old }
+        ensures going_on { OnOk result (IsGoingOn self.old self.new) }
+        ensures there { IfOk result (EndsWithin (length piece.now)) }
+        ensures value { IfOk result (λ fed. (octets : List ℕ) → HasBeenFed self.old octets → IsFed self.old self.new octets piece.now fed) }
+        ensures never { IfErr result (λ refusal. IsFinal refusal → (octets more : List ℕ) →
+            HasBeenFed self.old octets → ¬ HasValue (shape_of self.old) ((octets ++ piece.now) ++ more)) }
+        ensures numbers { IfErr result IsOfFeeding }
+    {
+        let mut at = 0;
+        while !self.keeps_none() && at < piece.len() {
+            let (_, rest) = piece.split_at(at);
+            let count = lacking(&self.pending).min(rest.len());
+            let (next, _) = rest.split_at(count);
+            match self.take_cut(next) {
+                Ok(Fed::Done(value, left)) => {
+                    return Ok(Fed::Done(value, (at + count).saturating_sub(left)));
+                }
+                Ok(Fed::More) => at += count,
+                Err(refusal) => return Err(refusal),
+            }
+        }
+        let (_, rest) = piece.split_at(at);
+        match self.take_rest(rest) {
+            Ok(Fed::Done(value, used)) => Ok(Fed::Done(value, at + used)),
+            Ok(Fed::More) => Ok(Fed::More),
+            Err(refusal) => Err(refusal),
+        }
+    }
+
+    // Takes octets, where none are kept, or there are none to take.
+    fn take_rest(&mut self, octets: &[u8]) -> Result<Fed, Refusal>
+        requires accepts { self.old.refused ≡ None }
+        requires sound { IsSoundPieces self.old }
+        requires either { (self.old.pending.items ≡ []) ⊎ (octets.now ≡ []) }
+        ensures going_on { OnOk result (IsGoingOn self.old self.new) }
+        ensures there { IfOk result (EndsWithin (length octets.now)) }
+        ensures value { IfOk result (λ fed. (before : List ℕ) → HasBeenFed self.old before → IsFed self.old self.new before octets.now fed) }
+        ensures never { IfErr result (λ refusal. IsFinal refusal → (before more : List ℕ) →
+            HasBeenFed self.old before → ¬ HasValue (shape_of self.old) ((before ++ octets.now) ++ more)) }
+        ensures numbers { IfErr result IsOfFeeding }
+    {
+        if !self.keeps_none() {
+            return self.more();
+        }
+        match self.take_whole(octets) {
+            Ok(Fed::Done(value, used)) => Ok(Fed::Done(value, used)),
+            Ok(Fed::More) => self.more(),
+            Err(refusal) => Err(refusal),
+        }
+    }
+
+    // Takes octets behind those that are kept; of a value that is whole, it answers how many are left.
+    fn take_cut(&mut self, octets: &[u8]) -> Result<Fed, Refusal>
+        requires accepts { self.old.refused ≡ None }
+        requires sound { IsSoundPieces self.old }
+        ensures going_on { OnOk result (IsGoingOn self.old self.new) }
+        ensures value { IfOk result (λ fed. (before : List ℕ) → HasBeenFed self.old before →
+            IsTakenCut self.old self.new (before ++ octets.now) fed) }
+        ensures never { IfErr result (λ refusal. IsFinal refusal → (before more : List ℕ) →
+            HasBeenFed self.old before → ¬ HasValue (shape_of self.old) ((before ++ octets.now) ++ more)) }
+        ensures numbers { IfErr result IsOfFeeding }
+    {
+        if let Err(refusal) = self.keep(octets) {
+            return Err(refusal);
+        }
+        match self.step_kept() {
+            Ok(Step::Taken(used)) => self.take_behind(used),
+            Ok(Step::Whole(value, used)) => {
+                let left = self.pending.as_slice().len() - used;
+                self.forget();
+                Ok(Fed::Done(value, left))
+            }
+            Err(refusal) => {
+                if is_missing(refusal) {
+                    Ok(Fed::More)
+                } else {
+                    Err(refusal)
+                }
+            }
+        }
+    }
+
+    // Takes the octets that are kept behind so many; of a value that is whole, it answers how many are left.
+    fn take_behind(&mut self, used: usize) -> Result<Fed, Refusal>
+        requires accepts { self.old.refused ≡ None }
+        requires sound { IsSoundPieces self.old }
+        requires there { used ≤ length self.old.pending.items }
+        ensures going_on { OnOk result (IsGoingOn self.old self.new) }
+        ensures value { IfOk result (λ fed. (before : List ℕ) → GoesOn self.old.nest before (drop used self.old.pending.items) →
+            IsTakenCut self.old self.new (before ++ drop used self.old.pending.items) fed) }
+        ensures never { IfErr result (λ refusal. IsFinal refusal → (before more : List ℕ) →
+            GoesOn self.old.nest before (drop used self.old.pending.items) →
+            ¬ HasValue (shape_of self.old) (before ++ (drop used self.old.pending.items ++ more))) }
+        ensures numbers { IfErr result IsOfFeeding }
+    {
+        let kept = self.take_kept();
+        match self.take_whole(&kept[used..]) {
+            Ok(Fed::Done(value, more)) => Ok(Fed::Done(value, kept.len() - used - more)),
+            Ok(Fed::More) => Ok(Fed::More),
+            Err(refusal) => Err(refusal),
+        }
+    }
+
+    // Takes a step over octets beside those that are kept.
+    fn step(&mut self, octets: &[u8]) -> Result<Step, Refusal>
+        requires { IsSoundNest self.old.nest }
+        ensures taken { IfOk result (λ step. IsStep self.old.nest self.new.nest octets.now step) }
+        ensures sound { OnOk result (IsSoundNest self.new.nest) }
+        ensures truncated { result ≡ Err Refusal.Truncated → ¬ CanFinish self.old.nest octets.now }
+        ensures never { IfErr result (λ refusal. IsFinal refusal → (more : List ℕ) →
+            ¬ CanFinish self.old.nest (octets.now ++ more)) }
+        ensures unchanged { result ≡ Err Refusal.Truncated → self.new.nest ≡ self.old.nest }
+        ensures kept { self.new.pending.items ≡ self.old.pending.items }
+        ensures refused { self.new.refused ≡ self.old.refused }
+        ensures numbers { IfErr result IsOfReading }
+    {
+        self.nest.step(self.alloc, octets)
+    }
+
+    // Takes a step over the octets that are kept.
+    fn step_kept(&mut self) -> Result<Step, Refusal>
+        requires { IsSoundNest self.old.nest }
+        ensures taken { IfOk result (λ step. IsStep self.old.nest self.new.nest self.old.pending.items step) }
+        ensures sound { OnOk result (IsSoundNest self.new.nest) }
+        ensures truncated { result ≡ Err Refusal.Truncated → ¬ CanFinish self.old.nest self.old.pending.items }
+        ensures never { IfErr result (λ refusal. IsFinal refusal → (more : List ℕ) →
+            ¬ CanFinish self.old.nest (self.old.pending.items ++ more)) }
+        ensures unchanged { result ≡ Err Refusal.Truncated → self.new.nest ≡ self.old.nest }
+        ensures kept { self.new.pending.items ≡ self.old.pending.items }
+        ensures refused { self.new.refused ≡ self.old.refused }
+        ensures numbers { IfErr result IsOfReading }
+    {
+        self.nest.step(self.alloc, &self.pending)
+    }
+
+    // Whether no octets are kept.
+    fn keeps_none(&self) -> bool
+        ensures { IsTrue result ↔ (self.now.pending.items ≡ []) }
+    {
+        self.pending.is_empty()
+    }
+
+    // Keeps octets behind those that are kept.
+    fn keep(&mut self, octets: &[u8]) -> Result<(), Refusal>
+        ensures kept { OnOk result (self.new.pending.items ≡ self.old.pending.items ++ octets.now) }
+        ensures nest { self.new.nest ≡ self.old.nest }
+        ensures refused { self.new.refused ≡ self.old.refused }
+        ensures numbers { IfErr result (λ refusal. refusal ≡ Refusal.NoMemory) }
+    {
+        match self.pending.extend_from_slice(octets) {
+            Ok(()) => Ok(()),
+            Err(_) => Err(Refusal::NoMemory),
+        }
+    }
+
+    // Keeps no octets any longer.
+    fn forget(&mut self)
+        ensures none { self.new.pending.items ≡ [] }
+        ensures nest { self.new.nest ≡ self.old.nest }
+        ensures refused { self.new.refused ≡ self.old.refused }
+    {
+        self.pending.clear();
+    }
+
+    // The octets that are kept, which then are no longer.
+    fn take_kept(&mut self) -> Vec<u8>
+        ensures kept { result.items ≡ self.old.pending.items }
+        ensures none { self.new.pending.items ≡ [] }
+        ensures nest { self.new.nest ≡ self.old.nest }
+        ensures refused { self.new.refused ≡ self.old.refused }
+    {
+        std::mem::replace(&mut self.pending, Vec::new(self.alloc))
+    }
+
+    // Takes the whole steps at the front, and keeps the rest.
+    fn take_whole(&mut self, octets: &[u8]) -> Result<Fed, Refusal>
+        requires accepts { self.old.refused ≡ None }
+        requires sound { IsSoundPieces self.old }
+        requires kept { self.old.pending.items ≡ [] }
+        ensures going_on { OnOk result (IsGoingOn self.old self.new) }
+        ensures there { IfOk result (EndsWithin (length octets.now)) }
+        ensures value { IfOk result (λ fed. (before : List ℕ) → GoesOn self.old.nest before octets.now →
+            IsTakenWhole self.old self.new before octets.now fed) }
+        ensures never { IfErr result (λ refusal. IsFinal refusal → (before more : List ℕ) →
+            GoesOn self.old.nest before octets.now → ¬ HasValue (shape_of self.old) (before ++ (octets.now ++ more))) }
+        ensures numbers { IfErr result IsOfFeeding }
+    {
+        let mut at = 0;
+        loop {
+            let rest = &octets[at..];
+            match self.step(rest) {
+                Ok(Step::Taken(used)) => at += used,
+                Ok(Step::Whole(value, used)) => return Ok(Fed::Done(value, at + used)),
+                Err(refusal) => {
+                    if !is_missing(refusal) {
+                        return Err(refusal);
+                    }
+                    return match self.keep(rest) {
+                        Ok(()) => Ok(Fed::More),
+                        Err(refusal) => Err(refusal),
+                    };
+                }
+            }
+        }
+    }
+
+    // No value is whole: there may be more octets, unless these are too many.
+    fn more(&self) -> Result<Fed, Refusal>
+        requires { self.now.nest.taken ≤ MAX_ENCODING }
+        ensures few { OnOk result (self.now.nest.taken + length self.now.pending.items ≤ MAX_ENCODING) }
+        ensures more { IfOk result (λ fed. fed ≡ Fed.More) }
+        ensures many { IsErr result → MAX_ENCODING < self.now.nest.taken + length self.now.pending.items }
+        ensures numbers { IfErr result (λ refusal. refusal ≡ Refusal.TooLong) }
+    {
+        if self.pending.len() > MAX_ENCODING - self.nest.taken {
+            Err(Refusal::TooLong)
+        } else {
+            Ok(Fed::More)
+        }
+    }
+}
+
+// Whether octets are missing.
+fn is_missing(refusal: Refusal) -> bool
+    ensures { IsTrue result ↔ (refusal ≡ Refusal.Truncated) }
+{
+    refusal == Refusal::Truncated
+}
+
+// How many octets are surely lacking of what a piece's end has cut: at least one.
+fn lacking(kept: &[u8]) -> usize
+    ensures { 1 ≤ result }
+{
+    let Head::Done { used, .. } = read_identifier(kept) else {
+        return 1;
+    };
+    match read_length(&kept[used..]) {
+        Length::Definite { octets, used: size } => {
+            (used + size + octets).saturating_sub(kept.len()).max(1)
+        }
+        Length::Indefinite { .. } => usize::MAX,
+        Length::More | Length::Bad => 1,
+    }
+}

@@ -1,0 +1,102 @@
+//! Reads values from octets that come in pieces.
+
+ghost use Rattle.std.specs.Prelude.{◌≡◌, Ok, Err, IfOk, IfErr};
+ghost use Rattle.berreader.specs.declared.pieces.Fed.{Fed as FedOf};
+ghost use Rattle.berreader.specs.Feeding.{IsTold};
+
+use crate::pieces::{Fed, Pieces};
+use std::alloc::Global;
+use std::marker::Model;
+use types::{Refusal, Value, WellTyped};
+
+/// What a reader answers to a piece.
+#[derive(Debug, Drop)]
+pub enum Step {
+    /// The whole piece was taken, and no value is complete.
+    More,
+    /// A value is complete.
+    Done {
+        /// The value.
+        value: Value,
+        /// How many octets of the piece complete it.
+        used: usize,
+    },
+}
+
+/// Reads values of a type under BER (X.690 clause 8), one after another, from octets that come in pieces.
+#[derive(Debug, Drop)]
+pub struct Reader<'a> {
+    pieces: Pieces<'a>,
+}
+
+impl<'a> Model for Reader<'a> {
+    ghost use Rattle.berreader.specs.declared.pieces.Pieces.{Pieces};
+    ghost use Rattle.berreader.specs.contracts.pieces.Pieces as pieces_contract;
+    ghost use Rattle.berreader.specs.Feeding.{IsSoundReader};
+    ghost use Rattle.std.specs.Prelude.{[]};
+    ghost use mir.Syntax.{named};
+
+    ghost Value = { Pieces };
+
+    ghost coded = { (pieces_contract.the_row record { mir = named 1; lft = [] }).coded };
+
+    ghost view = { λ r. r.pieces };
+
+    ghost invariant = { λ r. IsSoundReader r.pieces };
+}
+
+impl<'a> Reader<'a> {
+    ghost use Rattle.std.specs.Prelude.{◌≡◌, ◌↔◌, ◌⊎◌, ◌++◌, ℕ, List, None, length, Some, IsOk, IfOk, IfErr, OnOk};
+    ghost use Rattle.types.specs.Refusal.{IsFinal};
+    ghost use Rattle.types.specs.View.{ty_view};
+    ghost use Rattle.berreader.specs.Feeding.{EndsStepWithin, HasBeenFed, HasValue, IsFedStep, IsFinished, IsFresh, IsOfFeeding, shape_of};
+
+    /// A reader of values of the type, to which no octet has come. It keeps `alloc`, and takes no memory now.
+    pub fn new(alloc: Global, ty: &'a WellTyped) -> Reader<'a>
+        ensures shape { shape_of result ≡ ty_view ty.now }
+        ensures fresh { IsFresh result }
+    {
+        Reader {
+            pieces: Pieces::new(alloc, ty.as_type()),
+        }
+    }
+
+    /// Takes a piece, from where the one before it ended. `Done` comes with the piece that completes a value, says
+    /// how many octets of the piece do, and leaves the reader as it was made; the octets behind them are not
+    /// looked at. `More` says that the whole piece was taken. An empty piece is answered `More`, until a refusal.
+    ///
+    /// Refused with one of the refusals 2 to 11 where no octets that begin with those that have come could be
+    /// accepted, and with `NoMemory`. After a refusal it is answered again, and nothing is taken.
+    pub fn feed(&mut self, piece: &[u8]) -> Result<Step, Refusal>
+        ensures shape { OnOk result (shape_of self.new ≡ shape_of self.old) }
+        ensures used { IfOk result (EndsStepWithin (length piece.now)) }
+        ensures value { IfOk result (λ step. (octets : List ℕ) → HasBeenFed self.old octets → IsFedStep self.old self.new octets piece.now step) }
+        ensures never { self.old.refused ≡ None → IfErr result (λ refusal. IsFinal refusal → (octets more : List ℕ) →
+            HasBeenFed self.old octets → ¬ HasValue (shape_of self.old) ((octets ++ piece.now) ++ more)) }
+        ensures refused { IfErr result (λ refusal. self.new.refused ≡ Some refusal) }
+        ensures again { (refusal : Refusal) → self.old.refused ≡ Some refusal → result ≡ Err refusal }
+        ensures numbers { IfErr result IsOfFeeding }
+    {
+        told(self.pieces.feed(piece))
+    }
+
+    /// Whether no value is begun; else `Truncated`, or what an earlier piece was refused with. Takes no memory.
+    pub fn finish(&self) -> Result<(), Refusal>
+        ensures exact { IsOk result ↔ IsFinished self.now }
+        ensures refused { IfErr result (λ refusal. (self.now.refused ≡ Some refusal) ⊎ ((self.now.refused ≡ None) × (refusal ≡ Refusal.Truncated))) }
+    {
+        self.pieces.finish()
+    }
+}
+
+// What a piece has come to, as it is answered.
+fn told(fed: Result<Fed, Refusal>) -> Result<Step, Refusal>
+    ensures ok { IfOk result (λ step. (f : FedOf) × (fed ≡ Ok f) × IsTold f step) }
+    ensures refused { IfErr result (λ refusal. fed ≡ Err refusal) }
+{
+    match fed {
+        Ok(Fed::More) => Ok(Step::More),
+        Ok(Fed::Done(value, used)) => Ok(Step::Done { value, used }),
+        Err(refusal) => Err(refusal),
+    }
+}

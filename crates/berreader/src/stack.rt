@@ -1,0 +1,144 @@
+//! The stack of open constructed encodings, each with its parts.
+
+ghost use Rattle.std.specs.Prelude.{◌≡◌, ◌∷◌, [], List, length, OnOk, IfOk, MatchOption};
+ghost use Rattle.types.specs.Shape.{Shape};
+ghost use Rattle.types.specs.View.{value_view};
+ghost use Rattle.berreader.specs.Parts.{Parts, IsDue, IsPut};
+ghost use Rattle.berreader.specs.Stack.{Layer, layer_view, layers_of, with_parts, with_which, IsCounted, IsOpenDue, IsPutInside};
+
+use crate::frame::{Frame, INLINE};
+use crate::holding::Holding;
+use octets::{NoMemory, Tag};
+use smallvec::SmallVec;
+use std::alloc::Global;
+use types::{Ty, Value};
+
+/// An open constructed encoding.
+#[derive(Debug, Drop)]
+pub struct Open<'a> {
+    /// Where it ends.
+    pub frame: Frame,
+    /// Its tag.
+    pub tag: Tag,
+    /// The type that it is of.
+    pub ty: &'a Ty,
+    /// Its parts.
+    pub holding: Holding<'a>,
+    /// Which of them is open, if one is.
+    pub which: usize,
+}
+
+/// The open encodings of a value.
+#[derive(Debug, Drop)]
+pub struct Stack<'a> {
+    /// The innermost one; None where none is open.
+    pub top: Option<Open<'a>>,
+    /// What `top` was as each of them opened, the outermost first.
+    pub outer: SmallVec<Option<Open<'a>>, INLINE>,
+}
+
+impl<'a> Stack<'a> {
+    // No encoding is open.
+    pub fn new(alloc: Global) -> Stack<'a>
+        ensures layers { layers_of result ≡ [] }
+        ensures counted { IsCounted result }
+    {
+        Stack {
+            top: None,
+            outer: SmallVec::new(alloc),
+        }
+    }
+
+    // How many encodings are open.
+    pub fn depth(&self) -> usize
+        requires { IsCounted self.now }
+        ensures { result ≡ length (layers_of self.now) }
+    {
+        self.outer.len()
+    }
+
+    // The innermost one.
+    pub fn top(&self) -> Option<&Open<'a>>
+        ensures { MatchOption result (layers_of self.now ≡ [])
+            (λ top. (others : List Layer) × (layers_of self.now ≡ layer_view top.now ∷ others)) }
+    {
+        self.top.as_ref()
+    }
+
+    // Whether one of them has the definite form.
+    pub fn any_definite(&self) -> bool {
+        is_definite(&self.top) || self.outer.iter().any(|place| is_definite(place))
+    }
+
+    // Opens an encoding inside the innermost one.
+    pub fn push(&mut self, opened: Open<'a>) -> Result<(), NoMemory>
+        ensures layers { OnOk result (layers_of self.new ≡ layer_view opened.entry ∷ layers_of self.old) }
+        ensures counted { IsCounted self.old → OnOk result (IsCounted self.new) }
+    {
+        let top = self.top.take();
+        self.outer.push(top)?;
+        self.top = Some(opened);
+        Ok(())
+    }
+
+    // Takes the innermost one out.
+    pub fn pop(&mut self) -> Option<Open<'a>>
+        ensures layers { MatchOption result (layers_of self.old ≡ [])
+            (λ top. layers_of self.old ≡ layer_view top ∷ layers_of self.new) }
+        ensures counted { IsCounted self.old → IsCounted self.new }
+    {
+        let top = self.top.take()?;
+        self.top = match self.outer.pop() {
+            Some(below) => below,
+            None => None,
+        };
+        Some(top)
+    }
+
+    // Notes which part of the innermost one comes.
+    pub fn set_which(&mut self, which: usize)
+        ensures layers { layers_of self.new ≡ with_which (layers_of self.old) which }
+        ensures counted { IsCounted self.old → IsCounted self.new }
+    {
+        if let Some(top) = &mut self.top {
+            top.which = which;
+        }
+    }
+
+    // Puts the value of the part that has come into the innermost one; hands it back where none is open.
+    pub fn put(&mut self, value: Value) -> Result<Option<Value>, NoMemory>
+        requires { IsOpenDue (layers_of self.old) }
+        ensures put { IfOk result (λ left. MatchOption left
+            (IsPutInside (layers_of self.old) (value_view value) (layers_of self.new))
+            (λ back. (back ≡ value) × (layers_of self.old ≡ []) × (layers_of self.new ≡ []))) }
+        ensures counted { IsCounted self.old → OnOk result (IsCounted self.new) }
+    {
+        match &mut self.top {
+            Some(top) => {
+                top.put(value)?;
+                Ok(None)
+            }
+            None => Ok(Some(value)),
+        }
+    }
+}
+
+impl<'a> Open<'a> {
+    // Puts the value of the part that has come.
+    fn put(&mut self, value: Value) -> Result<(), NoMemory>
+        requires { (type : Shape) × IsDue (layer_view self.old).parts (layer_view self.old).which type }
+        ensures { OnOk result ((parts : Parts)
+            × IsPut (layer_view self.old).parts (layer_view self.old).which (value_view value) parts
+            × (layer_view self.new ≡ with_parts (layer_view self.old) parts)) }
+    {
+        self.holding.put(self.which, value)
+    }
+}
+
+// Whether an encoding of the definite form is open there.
+fn is_definite(place: &Option<Open<'_>>) -> bool {
+    match place {
+        Some(top) => top.frame.definite,
+        None => false,
+    }
+}
