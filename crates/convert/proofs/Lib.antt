@@ -2,3 +2,8 @@ pub mod TranscodingLemmas
 pub mod HexLemmas
 pub mod OptionLemmas
 pub mod WordLemmas
+pub mod StreamLemmas
+pub mod PassingLemmas
+pub mod CallLemmas
+pub mod StreamInstances
+pub mod FeedingLemmas

@@ -4,13 +4,13 @@ use Rattle.std.proofs.Common.{◌≡◌, ◌≢◌, ◌⊎◌, ℕ, ◌+◌, ◌
 use Rattle.std.specs.Option.{is_some, unwrap_or}
 use denote.Bor.{Bor}
 use Rattle.convert.specs.declared.rule.Rule.{Rule}
-use Rattle.convert.specs.declared.rule.Rule.TheVariants.{Ber}
+use Rattle.convert.specs.declared.rule.Rule.TheVariants.{Ber, Cer as ReadCer, Der as ReadDer}
 use Rattle.convert.specs.declared.rule.Canonical.{Canonical}
 use Rattle.convert.specs.declared.rule.Canonical.TheVariants.{Cer, Der}
 use Rattle.convert.specs.declared.options.Setting.{Setting}
 use Rattle.convert.specs.declared.options.Setting.TheVariants.{Hex, To, From}
 use Rattle.convert.specs.declared.options.Settings.{Settings}
-use Rattle.convert.specs.CommandLine.{texts_of, word_of_canonical, words_of, words_of_all, hex_count, rules_to_write, rules_to_read, AreOnce, AreOptions}
+use Rattle.convert.specs.CommandLine.{texts_of, word_of_rule, word_of_canonical, words_of, words_of_all, hex_count, rules_to_write, rules_to_read, AreOnce, AreOptions}
 use Rattle.convert.specs.Options.{count_of, list_of, IsHeld, CannotBe}
 
 pub hex_count-append : (a b : List Setting) → hex_count (a ++ b) ≡ hex_count a + hex_count b
@@ -91,11 +91,22 @@ word_of_canonical-unique Der Der same = refl
 word_of_canonical-unique Cer Der same = let heads : ◌≡◌ {A = ℕ} 99 100 = cc same in absurd (omega (arith, heads))
 word_of_canonical-unique Der Cer same = let heads : ◌≡◌ {A = ℕ} 100 99 = cc same in absurd (omega (arith, heads))
 
+pub word_of_rule-unique : (a b : Rule) → word_of_rule a ≡ word_of_rule b → a ≡ b
+word_of_rule-unique Ber Ber same = refl
+word_of_rule-unique ReadCer ReadCer same = refl
+word_of_rule-unique ReadDer ReadDer same = refl
+word_of_rule-unique Ber ReadCer same = let heads : ◌≡◌ {A = ℕ} 98 99 = cc same in absurd (omega (arith, heads))
+word_of_rule-unique Ber ReadDer same = let heads : ◌≡◌ {A = ℕ} 98 100 = cc same in absurd (omega (arith, heads))
+word_of_rule-unique ReadCer Ber same = let heads : ◌≡◌ {A = ℕ} 99 98 = cc same in absurd (omega (arith, heads))
+word_of_rule-unique ReadCer ReadDer same = let heads : ◌≡◌ {A = ℕ} 99 100 = cc same in absurd (omega (arith, heads))
+word_of_rule-unique ReadDer Ber same = let heads : ◌≡◌ {A = ℕ} 100 98 = cc same in absurd (omega (arith, heads))
+word_of_rule-unique ReadDer ReadCer same = let heads : ◌≡◌ {A = ℕ} 100 99 = cc same in absurd (omega (arith, heads))
+
 -- the words of one option and of no other
 pub words_of-unique : (a b : Setting) (more rest : List (List ℕ)) → words_of a ++ more ≡ words_of b ++ rest → (a ≡ b) × (more ≡ rest)
 words_of-unique Hex Hex more rest same = (refl, cc same)
 words_of-unique (To r) (To s) more rest same = (ap To (word_of_canonical-unique r s (cc same)), cc same)
-words_of-unique (From Ber) (From Ber) more rest same = (refl, cc same)
+words_of-unique (From r) (From s) more rest same = (ap From (word_of_rule-unique r s (cc same)), cc same)
 words_of-unique Hex (To r) more rest same = absurd (cc same)
 words_of-unique Hex (From r) more rest same = absurd (cc same)
 words_of-unique (To r) Hex more rest same = absurd (cc same)

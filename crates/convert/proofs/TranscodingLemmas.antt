@@ -3,27 +3,32 @@ use Rattle.std.proofs.Common.{◌≡◌, ℕ, ◌≤◌, ◌<◌, ◌⊎◌, Lis
 use Rattle.std.proofs.lemmas.List.{length-take-le}
 use Rattle.octets.specs.Rule as encoding
 use Rattle.types.specs.declared.refusal.Refusal.{Refusal}
-use Rattle.types.specs.declared.refusal.Refusal.TheVariants.{Truncated, NotCanonical, OutputTooLong, NoMemory}
+use Rattle.types.specs.declared.refusal.Refusal.TheVariants.{Truncated, OutputTooLong, NoMemory}
 use Rattle.types.specs.Encoding.{IsAccepted, IsSomeAccepted}
-use Rattle.types.specs.Refusal.{IsFinal, IsOfReading, IsOfWriting}
+use Rattle.types.specs.Refusal.{IsFinal, IsOfWriting}
 use Rattle.types.specs.Shape.{Shape, Val}
 use Rattle.types.specs.WellFormed.{IsWellFormed}
 use Rattle.types.specs.Same.{IsSame}
 use Rattle.types.proofs.EncodingLemmas.{encoding_unique}
 use Rattle.types.proofs.SameLemmas.{same_encodings}
 use Rattle.convert.specs.declared.rule.Rule.{Rule}
-use Rattle.convert.specs.declared.rule.Rule.TheVariants.{Ber}
+use Rattle.convert.specs.declared.rule.Rule.TheVariants as reading
 use Rattle.convert.specs.Rule.{rule_of}
 use Rattle.octets.proofs.FrontLemmas.{front_of_more}
+use Rattle.octets.proofs.RuleLemmas.{cer_is_canonical, der_is_canonical}
+use Rattle.strict.specs.Refusal.{IsOfStrictReading}
+use Rattle.strict.proofs.StrictLemmas.{as_ber as accepted_as_ber}
 
-pub rule_of-is : (r : Rule) → rule_of r ≡ encoding.ber
-rule_of-is Ber = refl
+-- what any of the rules accepts, BER accepts
+pub as_ber : (rule : Rule) (shape : Shape) (v : Val) (octets : List ℕ) → IsWellFormed shape → IsAccepted (rule_of rule) shape v octets → IsAccepted encoding.ber shape v octets
+as_ber reading.Ber shape v octets well h = h
+as_ber reading.Cer shape v octets well h = accepted_as_ber encoding.cer shape v octets well cer_is_canonical h
+as_ber reading.Der shape v octets well h = accepted_as_ber encoding.der shape v octets well der_is_canonical h
 
 -- what a reader refuses with says that octets are missing, that they are wrong, or that memory was refused
-pub cases_of_reading : (refusal : Refusal) → IsOfReading refusal → (refusal ≡ Truncated) ⊎ (IsFinal refusal ⊎ (refusal ≡ NoMemory))
+pub cases_of_reading : (refusal : Refusal) → IsOfStrictReading refusal → (refusal ≡ Truncated) ⊎ (IsFinal refusal ⊎ (refusal ≡ NoMemory))
 cases_of_reading Truncated h = inl refl
 cases_of_reading NoMemory h = inr (inr refl)
-cases_of_reading NotCanonical h = absurd h
 cases_of_reading refusal h = inr (inl h)
 
 pub cases_of_writing : (refusal : Refusal) → IsOfWriting refusal → (refusal ≡ OutputTooLong) ⊎ (refusal ≡ NoMemory)
@@ -32,17 +37,17 @@ cases_of_writing NoMemory h = inr refl
 cases_of_writing refusal h = absurd h
 
 -- the encoding at the front is the one that fills what begins so
-pub front_is_whole : (shape : Shape) (v : Val) (n : ℕ) (octets more : List ℕ) → IsWellFormed shape → n ≤ length octets → IsAccepted encoding.ber shape v (take n octets) → (h : IsSomeAccepted encoding.ber shape (octets ++ more))
+pub front_is_whole : (rule : Rule) (shape : Shape) (v : Val) (n : ℕ) (octets more : List ℕ) → IsWellFormed shape → n ≤ length octets → IsAccepted (rule_of rule) shape v (take n octets) → (h : IsSomeAccepted (rule_of rule) shape (octets ++ more))
     → (n ≡ length (octets ++ more)) × IsSame shape v h.0
-front_is_whole shape v n octets more well there read h =
+front_is_whole rule shape v n octets more well there read h =
     let whole = octets ++ more in
-    let same = encoding_unique shape v h.0 (take n octets) whole (drop n octets ++ more) [] well read.encoding h.1.encoding (sym (front_of_more n octets more) ∙ sym (append-nil whole)) in
+    let same = encoding_unique shape v h.0 (take n octets) whole (drop n octets ++ more) [] well (as_ber rule shape v (take n octets) well read).encoding (as_ber rule shape h.0 whole well h.1).encoding (sym (front_of_more n octets more) ∙ sym (append-nil whole)) in
     (sym (length-take-le n octets there) ∙ ap length same.octets, same.values)
 
 -- what is left over belongs to no encoding
-pub none_left_over : (shape : Shape) (v : Val) (n : ℕ) (octets more : List ℕ) → IsWellFormed shape → n < length octets → IsAccepted encoding.ber shape v (take n octets) → IsSomeAccepted encoding.ber shape (octets ++ more) → ⊥
-none_left_over shape v n octets more well left read h =
-    let same = front_is_whole shape v n octets more well (omega arith) read h in
+pub none_left_over : (rule : Rule) (shape : Shape) (v : Val) (n : ℕ) (octets more : List ℕ) → IsWellFormed shape → n < length octets → IsAccepted (rule_of rule) shape v (take n octets) → IsSomeAccepted (rule_of rule) shape (octets ++ more) → ⊥
+none_left_over rule shape v n octets more well left read h =
+    let same = front_is_whole rule shape v n octets more well (omega arith) read h in
     absurd (omega (arith, same.0, length-append octets more))
 
 -- the same values have the same accepted encodings

@@ -6,7 +6,7 @@ use Rattle.convert.specs.declared.command_line.Line.{Line}
 use Rattle.convert.specs.declared.command_line.Verb.{Verb}
 use Rattle.convert.specs.declared.command_line.Verb.TheVariants.{Convert}
 use Rattle.convert.specs.declared.rule.Rule.{Rule}
-use Rattle.convert.specs.declared.rule.Rule.TheVariants.{Ber}
+use Rattle.convert.specs.declared.rule.Rule.TheVariants.{Ber, Cer as ReadCer, Der as ReadDer}
 use Rattle.convert.specs.declared.rule.Canonical.{Canonical}
 use Rattle.convert.specs.declared.rule.Canonical.TheVariants.{Cer, Der}
 use Rattle.convert.specs.declared.options.Setting.{Setting}
@@ -21,6 +21,8 @@ word_of_verb Convert = codes "convert"
 
 abbrev pub word_of_rule : Rule → List ℕ
 word_of_rule Ber = codes "ber"
+word_of_rule ReadCer = codes "cer"
+word_of_rule ReadDer = codes "der"
 
 abbrev pub word_of_canonical : Canonical → List ℕ
 word_of_canonical Cer = codes "cer"

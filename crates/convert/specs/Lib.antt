@@ -5,6 +5,10 @@ pub mod Line
 pub mod CommandLine
 pub mod Options
 pub mod Fault
+pub mod Stream
+pub mod Passing
+pub mod Feeding
+pub use Rattle.devices.specs.Failures
 pub use Rattle.octets.specs.Rule as EncodingRule
 pub use Rattle.octets.specs.Front
 pub use Rattle.octets.specs.Digits

@@ -2,25 +2,37 @@
 //! What its calls take and return is named here too, so that one `use` reaches all of it.
 #![tactic(auto)]
 
+mod batch;
+mod checking;
 mod command_line;
+mod converting;
 mod fault;
+mod feeding;
 mod hex_text;
 mod options;
+mod passing;
 mod printed_path;
+mod putting;
 mod rule;
 mod running;
+mod stopped;
 mod transcoding;
 mod words;
 
 pub use command_line::{Line, LineFault, Verb};
+pub use devices::{Failed, FromReader, FromSlice, Sink, Source, ToVec, ToWriter};
 pub use hex_text::{HexFault, unhex};
 pub use octets::{Class, Tag};
 pub use primitives::Bits;
 pub use rule::{Canonical, Rule};
 pub use running::{cannot_open, run};
+pub use stopped::Stopped;
 pub use strings::{TextKind, TimeKind};
+pub use texts::{same_values_have_one_text, show};
 pub use transcoding::transcode;
-pub use types::{Item, Refusal, Ty, TypeFault, Value, WellTyped, conforms};
+pub use types::{
+    Alternative, Field, Item, Presence, Refusal, Ty, TypeFault, Value, WellTyped, conforms,
+};
 pub use words::line;
 
 /// The most octets that a hexadecimal text may have, white space counted.

@@ -107,6 +107,8 @@ fn rule_of(word: &str) -> Option<Rule>
 {
     match word {
         "ber" => Some(Rule::Ber),
+        "cer" => Some(Rule::Cer),
+        "der" => Some(Rule::Der),
         _ => None,
     }
 }

@@ -5,6 +5,10 @@
 pub enum Rule {
     /// The basic encoding rules (X.690 clause 8).
     Ber,
+    /// The canonical encoding rules (X.690 clause 9).
+    Cer,
+    /// The distinguished encoding rules (X.690 clause 10).
+    Der,
 }
 
 /// The rule that octets are written by: it gives each value one encoding.

@@ -2,7 +2,6 @@
 
 ghost use Rattle.std.specs.Prelude.{◌≡◌, ◌↔◌, IsSome, IfSome, IfNone, IfErr};
 ghost use Rattle.types.specs.Shape.{Shape};
-ghost use Rattle.types.specs.Leaf.{IsLeaf};
 ghost use Rattle.types.specs.View.{ty_view};
 ghost use Rattle.convert.specs.Fault.{fault_status, IsFaultOfInput};
 ghost use Rattle.convert.specs.Line.{IsBuiltIn, IsOneForm, CanRun, IsStatus};
@@ -70,7 +69,6 @@ fn rule_of_form(line: &Line) -> Option<Canonical>
 // The built-in type of a name, with its universal tag.
 fn built_in(name: &str) -> Option<WellTyped>
     ensures value { IfSome result (λ ty. IsBuiltIn name.now (ty_view ty)) }
-    ensures leaf { IfSome result (λ ty. IsLeaf (ty_view ty)) }
     ensures none { IfNone result ((shape : Shape) → ¬ IsBuiltIn name.now shape) }
 {
     let class = Class::Universal;
@@ -97,7 +95,6 @@ fn convert_text<'a, R: Read, W: Write>(
     input: &mut R,
     out: &mut W,
 ) -> Result<(), Fault<'a>>
-    requires { IsLeaf (ty_view ty.now) }
     ensures { IfErr result IsFaultOfInput }
 {
     let text = read_text(alloc, line.input.as_str(), input)?;

@@ -5,9 +5,9 @@ use std::alloc::{AllocError, Global};
 use std::process::Abort;
 
 mod command_lines;
-mod devices;
+mod failing_devices;
+mod hexadecimal;
 mod runs;
-mod texts;
 
 /// A text of this many spaces.
 pub fn spaces(alloc: Global, count: usize) -> Result<Vec<u8>, AllocError> {

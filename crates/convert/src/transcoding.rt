@@ -1,12 +1,13 @@
 //! One value from octets to octets.
 
-ghost use Rattle.std.specs.Prelude.{◌≡◌, ℕ, List, ◌⊎◌, OnOk, IfOk, IfErr};
-ghost use Rattle.octets.specs.Front.{Appends, Begins};
+ghost use Rattle.std.specs.Prelude.{◌≡◌, ◌≤◌, ◌++◌, ℕ, List, ◌⊎◌, length, take, OnOk, IfOk, IfErr};
+ghost use Rattle.octets.specs.Front.{Appends, Begins, HasFront};
 ghost use Rattle.types.specs.Conforms.{Conforms};
 ghost use Rattle.types.specs.Encoding.{IsAccepted, IsSomeAccepted};
-ghost use Rattle.types.specs.Leaf.{IsLeaf};
 ghost use Rattle.types.specs.Refusal.{IsFinal, IsOfTranscoding, IsOfWriting};
 ghost use Rattle.types.specs.View.{ty_view, value_view};
+ghost use Rattle.types.specs.WellFormed.{IsWellFormed};
+ghost use Rattle.strict.specs.Refusal.{IsOfStrictReading};
 ghost use Rattle.convert.specs.Rule.{rule_of, canonical_rule_of};
 ghost use Rattle.convert.specs.Transcoding.{IsTranscoded, HasNoShortEncoding};
 
@@ -14,11 +15,11 @@ use crate::{Canonical, Rule};
 use berreader::read;
 use canon::{Canon, Cer, Der};
 use std::alloc::Global;
+use strict::{read_cer, read_der};
 use types::{Refusal, Value, WellTyped};
 
 /// Reads exactly one value of `ty`, whose encoding by the rule `from` fills `octets`, and returns its
-/// one encoding by the rule `to`. Octets left over are refused with `Identifier`. Asks for a type
-/// without parts: its readers and writers take no others yet.
+/// one encoding by the rule `to`. Octets left over are refused with `Identifier`.
 pub fn transcode(
     alloc: Global,
     ty: &WellTyped,
@@ -26,7 +27,6 @@ pub fn transcode(
     to: Canonical,
     octets: &[u8],
 ) -> Result<Vec<u8>, Refusal>
-    requires { IsLeaf (ty_view ty.now) }
     ensures value { IfOk result (λ out.
         IsTranscoded (rule_of from) (canonical_rule_of to) (ty_view ty.now) octets.now out.items) }
     ensures truncated { result ≡ Err Refusal.Truncated →
@@ -39,14 +39,36 @@ pub fn transcode(
         (result ≡ Err Refusal.OutputTooLong) ⊎ (result ≡ Err Refusal.NoMemory) }
     ensures numbers { IfErr result IsOfTranscoding }
 {
-    let Rule::Ber = from;
-    let (value, used) = read(alloc, ty, octets)?;
+    let (value, used) = read_by(alloc, ty, from, octets)?;
     if used < octets.len() {
         return Err(Refusal::Identifier);
     }
     let mut out = Vec::new(alloc);
     put(alloc, to, ty, &value, &mut out)?;
     Ok(out)
+}
+
+// Reads a value by the rule `from`, and how many octets its encoding has.
+fn read_by(
+    alloc: Global,
+    ty: &WellTyped,
+    from: Rule,
+    octets: &[u8],
+) -> Result<(Value, usize), Refusal>
+    ensures value { IfOk result (λ p. (p.1 ≤ length octets.now)
+        × IsAccepted (rule_of from) (ty_view ty.now) (value_view p.0) (take p.1 octets.now)) }
+    ensures truncated { result ≡ Err Refusal.Truncated →
+        ¬ HasFront (IsSomeAccepted (rule_of from) (ty_view ty.now)) octets.now }
+    ensures never { IfErr result (λ refusal. IsFinal refusal → (more : List ℕ) →
+        ¬ HasFront (IsSomeAccepted (rule_of from) (ty_view ty.now)) (octets.now ++ more)) }
+    ensures numbers { IfErr result IsOfStrictReading }
+    ensures well_formed { IsWellFormed (ty_view ty.now) }
+{
+    match from {
+        Rule::Ber => read(alloc, ty, octets),
+        Rule::Cer => read_cer(alloc, ty, octets),
+        Rule::Der => read_der(alloc, ty, octets),
+    }
 }
 
 // Appends the encoding of `value` by the rule `to`.
@@ -57,8 +79,7 @@ fn put(
     value: &Value,
     out: &mut Vec<u8>,
 ) -> Result<(), Refusal>
-    requires leaf { IsLeaf (ty_view ty.now) }
-    requires conforms { Conforms (ty_view ty.now) (value_view value.now) }
+    requires { Conforms (ty_view ty.now) (value_view value.now) }
     ensures appended { OnOk result (Appends
         (IsAccepted (canonical_rule_of to) (ty_view ty.now) (value_view value.now)) out.old.items out.new.items) }
     ensures too_long { result ≡ Err Refusal.OutputTooLong →

@@ -76,7 +76,6 @@ fn strings_that_are_cut(rt: HostRuntime) -> Result<(), Fail> {
 #[test]
 fn longest_octet_string(rt: HostRuntime) -> Result<(), Fail> {
     let ty = type_of("OCTET STRING")?;
-    assert!(rt; ty.as_type().has_no_parts());
     // 1,044 full segments of 1,004 octets, and 396 octets for the last.
     let octets = octets_of(rt.alloc(), "04 83 0F EF A8, 41 x1044392")?;
     let written = transcode(

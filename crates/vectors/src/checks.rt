@@ -51,9 +51,6 @@ pub fn check_line<R: Abort + AllocGlobal>(
 
 // The number of the refusal of some octets.
 fn refusal_of(alloc: Global, ty: &WellTyped, to: Canonical, octets: &[u8]) -> Option<u8> {
-    if !ty.as_type().has_no_parts() {
-        return None;
-    }
     let refusal = transcode(alloc, ty, Rule::Ber, to, octets).err()?;
     Some(refusal.number())
 }
@@ -68,7 +65,6 @@ fn check_accepted<R: Abort + AllocGlobal>(
     becomes: &str,
     line: &str,
 ) -> Result<(), Fail> {
-    assert!(rt; ty.as_type().has_no_parts());
     let mut want = Vec::from_slice(rt.alloc(), octets)?;
     if becomes != "kept" {
         want = octets_of(rt.alloc(), becomes)?;
@@ -128,9 +124,6 @@ fn check_end<R: Abort + AllocGlobal>(
 
 // How many octets of those there a value has.
 fn octets_read(alloc: Global, ty: &WellTyped, octets: &[u8]) -> Result<usize, Refusal> {
-    if !ty.as_type().has_no_parts() {
-        return Err(Refusal::Form);
-    }
     let (_, used) = read(alloc, ty, octets)?;
     Ok(used)
 }

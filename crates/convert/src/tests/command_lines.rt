@@ -14,27 +14,27 @@ fn line_of(alloc: Global, words: &str) -> Result<Line, LineFault> {
 
 #[test]
 fn command_lines(rt: HostRuntime) -> Result<(), Fail> {
-    // (options, the rule to write by)
+    // (options, the rule to read by, the rule to write by)
     let cases = [
-        ("--hex,--to,der", Canonical::Der),
-        ("--to,der,--hex", Canonical::Der),
-        ("--hex,--to,der,--from,ber", Canonical::Der),
-        ("--hex,--from,ber,--to,der", Canonical::Der),
-        ("--to,der,--hex,--from,ber", Canonical::Der),
-        ("--to,der,--from,ber,--hex", Canonical::Der),
-        ("--from,ber,--hex,--to,der", Canonical::Der),
-        ("--from,ber,--to,der,--hex", Canonical::Der),
-        ("--hex,--to,cer", Canonical::Cer),
-        ("--from,ber,--to,cer,--hex", Canonical::Cer),
+        ("--hex,--to,der", Rule::Ber, Canonical::Der),
+        ("--to,der,--hex", Rule::Ber, Canonical::Der),
+        ("--hex,--to,der,--from,ber", Rule::Ber, Canonical::Der),
+        ("--hex,--from,ber,--to,der", Rule::Ber, Canonical::Der),
+        ("--to,der,--hex,--from,ber", Rule::Ber, Canonical::Der),
+        ("--to,der,--from,ber,--hex", Rule::Ber, Canonical::Der),
+        ("--from,ber,--hex,--to,der", Rule::Ber, Canonical::Der),
+        ("--from,cer,--to,der,--hex", Rule::Cer, Canonical::Der),
+        ("--hex,--to,cer", Rule::Ber, Canonical::Cer),
+        ("--from,der,--to,cer,--hex", Rule::Der, Canonical::Cer),
     ];
-    for (options, to) in cases {
+    for (options, from, to) in cases {
         let words = format!(in rt.alloc(); "asn1x,convert,@builtin,OCTET STRING,in.hex,{options}")?;
         let line = line_of(rt.alloc(), words.as_str())?;
         assert_eq!(rt; line.verb, Verb::Convert, "with {options}");
         assert_eq!(rt; line.module.as_str(), "@builtin", "with {options}");
         assert_eq!(rt; line.name.as_str(), "OCTET STRING", "with {options}");
         assert_eq!(rt; line.input.as_str(), "in.hex", "with {options}");
-        assert_eq!(rt; line.from, Rule::Ber, "with {options}");
+        assert_eq!(rt; line.from, from, "with {options}");
         assert_eq!(rt; line.to, Some(to), "with {options}");
         assert!(rt; line.hex, "with {options}");
     }
@@ -74,7 +74,7 @@ fn options_of_another_form(rt: HostRuntime) -> Result<(), Fail> {
         "--hex,--to",
         "--to,--hex,der",
         "--hex,--to,der,--from",
-        "--hex,--to,der,--from,der",
+        "--hex,--to,der,--from,DER",
         "--hex,--hex,--to,der",
         "--hex,--to,der,--to,der",
         "--hex,--to,cer,--to,der",

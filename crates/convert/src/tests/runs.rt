@@ -1,7 +1,7 @@
 //! What a run prints and returns over devices that do not fail.
 
 use super::{check_run, line_to_der, spaces};
-use crate::Canonical;
+use crate::{Canonical, Rule};
 use std::test::Fail;
 
 #[test]
@@ -61,6 +61,16 @@ fn run_to_cer(rt: HostRuntime) -> Result<(), Fail> {
     let text = format!(in rt.alloc(); "048203e9{full}41")?;
     let want = format!(in rt.alloc(); "2480048203e8{full}0401410000\n")?;
     check_run(&rt, &line, text.as_bytes(), (want.as_str(), "", 0));
+    Ok(())
+}
+
+#[test]
+fn run_from_der(rt: HostRuntime) -> Result<(), Fail> {
+    let mut line = line_to_der(rt.alloc(), "BOOLEAN")?;
+    line.from = Rule::Der;
+    check_run(&rt, &line, b"0101ff", ("0101ff\n", "", 0));
+    let refused = "asn1x: refused 12 NotCanonical after 0 values\n";
+    check_run(&rt, &line, b"01012a", ("", refused, 1));
     Ok(())
 }
 

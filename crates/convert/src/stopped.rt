@@ -1,0 +1,12 @@
+//! Where a call over a stream stopped.
+
+use types::Refusal;
+
+/// A call over a stream stopped within it.
+#[derive(Clone, Copy, Debug, PartialEq, Eq)]
+pub struct Stopped {
+    /// How many values were done before.
+    pub done: u64,
+    /// Why the next one was not.
+    pub refusal: Refusal,
+}
