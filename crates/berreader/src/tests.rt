@@ -1,6 +1,5 @@
 mod holdings;
 mod nests;
-mod readers;
 
 use crate::head::{read_head_tag, read_tag};
 use crate::leaf::{leaf_tag, read_leaf};
