@@ -7,6 +7,7 @@ pub mod LeafLemmas
 pub mod PartLemmas
 pub mod SortLemmas
 pub mod SimpleLemmas
+pub mod LengthSizeLemmas
 pub mod NodeLemmas
 pub mod NodeSizeLemmas
 pub mod StepLemmas
@@ -14,6 +15,7 @@ pub mod TagOrderLemmas
 pub mod TyLemmas
 pub mod TurnLemmas
 pub mod PutLemmas
+pub mod StraightLemmas
 pub mod TagPutLemmas
 pub mod LeastLemmas
 pub mod AcceptedLemmas

@@ -1,5 +1,5 @@
 -- Lemmas on octets that were appended turned round.
-use Rattle.std.proofs.Common.{◌≡◌, ℕ, true, List, [], ◌∷◌, ◌++◌, length, take, drop, sym, ap, ◌∙◌, subst, append_assoc}
+use Rattle.std.proofs.Common.{◌≡◌, ℕ, true, List, [], ◌∷◌, ◌++◌, length, take, drop, refl, sym, ap, ◌∙◌, subst, append_assoc, append-nil}
 use Rattle.std.specs.Prelude.{reverse}
 use Rattle.std.proofs.lemmas.List.{reverse-append, reverse-reverse}
 use Rattle.octets.specs.declared.tag.Tag.{Tag}
@@ -9,40 +9,54 @@ use Rattle.octets.specs.Length.{IsShortestLength}
 use Rattle.octets.specs.Rule.{Rule, cer, der}
 use Rattle.types.specs.Form.{IsConstructed}
 use Rattle.canon.specs.Node.{IsAround}
+use Rattle.canon.specs.Rule.{rule_of}
 use Rattle.canon.specs.Turned.{Turned, end_octets}
+use Rattle.canon.specs.declared.rule.CanonicalRule.{CanonicalRule}
+use Rattle.canon.specs.declared.rule.CanonicalRule.TheVariants.{Cer, Der}
 use Rattle.canon.proofs.PartLemmas.{turned_end}
 
--- the octet 80 and the identifier before contents octets and 00 00
-pub cer_head : (tag : Tag) (start : ℕ) (before one two new old contents : List ℕ) → Appends (IsIdentifier tag true) before one → two ≡ one ++ 128 ∷ [] → new ≡ take start two ++ reverse (drop start two) → start ≡ length before
-    → before ≡ old ++ (0 ∷ 0 ∷ []) ++ reverse contents → Appends (Turned (IsConstructed cer tag contents)) old new
-cer_head tag start before one two new old contents front push turn at is =
-    let added : List ℕ = front.0 ++ 128 ∷ [] in
-    let put : two ≡ before ++ added = push ∙ ap (λ s. s ++ 128 ∷ []) front.1 ∙ append_assoc before front.0 (128 ∷ []) in
-    let stands = turned_end before added two new start at put turn in
-    let whole : List ℕ = (0 ∷ 0 ∷ []) ++ (reverse contents ++ reverse added) in
-    let turned : reverse whole ≡ front.0 ++ (128 ∷ (contents ++ (0 ∷ 0 ∷ []))) =
-    reverse-append (0 ∷ 0 ∷ []) (reverse contents ++ reverse added) ∙ ap (λ s. s ++ (0 ∷ 0 ∷ [])) (reverse-append (reverse contents) (reverse added))
-    ∙ ap (λ s. (s ++ reverse (reverse contents)) ++ (0 ∷ 0 ∷ [])) (reverse-reverse added) ∙ ap (λ s. (added ++ s) ++ (0 ∷ 0 ∷ [])) (reverse-reverse contents)
-    ∙ append_assoc added contents (0 ∷ 0 ∷ []) ∙ append_assoc front.0 (128 ∷ []) (contents ++ (0 ∷ 0 ∷ [])) in (
+end_reversed : (rule : CanonicalRule) → reverse (end_octets (rule_of rule)) ≡ end_octets (rule_of rule)
+end_reversed Cer = refl
+end_reversed Der = refl
+
+-- what stands before contents octets, turned round after what follows them
+pub turned_head : (rule : CanonicalRule) (tag : Tag) (start : ℕ) (before mid new old contents : List ℕ) → Appends (λ front. IsConstructed (rule_of rule) tag contents (front ++ (contents ++ end_octets (rule_of rule)))) before mid
+    → new ≡ take start mid ++ reverse (drop start mid) → start ≡ length before → before ≡ old ++ end_octets (rule_of rule) ++ reverse contents → Appends (Turned (IsConstructed (rule_of rule) tag contents)) old new
+turned_head rule tag start before mid new old contents front turn at is =
+    let end = end_octets (rule_of rule) in
+    let stands = turned_end before front.0 mid new start at front.1 turn in
+    let whole : List ℕ = end ++ (reverse contents ++ reverse front.0) in
+    let turned : reverse whole ≡ front.0 ++ (contents ++ end) =
+    reverse-append end (reverse contents ++ reverse front.0) ∙ ap (λ s. s ++ reverse end) (reverse-append (reverse contents) (reverse front.0))
+    ∙ ap (λ s. (s ++ reverse (reverse contents)) ++ reverse end) (reverse-reverse front.0) ∙ ap (λ s. (front.0 ++ s) ++ reverse end) (reverse-reverse contents)
+    ∙ ap (λ s. (front.0 ++ contents) ++ s) (end_reversed rule) ∙ append_assoc front.0 contents end in (
       whole,
-      stands ∙ ap (λ s. s ++ reverse added) is ∙ append_assoc (old ++ (0 ∷ 0 ∷ [])) (reverse contents) (reverse added) ∙ append_assoc old (0 ∷ 0 ∷ []) (reverse contents ++ reverse added),
-      record { identifier = front.0; tagged = front.2; joined = turned },
+      stands ∙ ap (λ s. s ++ reverse front.0) is ∙ append_assoc (old ++ end) (reverse contents) (reverse front.0) ∙ append_assoc old end (reverse contents ++ reverse front.0),
+      subst (IsConstructed (rule_of rule) tag contents) (sym turned) front.2,
     )
 
--- the length and the identifier before contents octets
-pub der_head : (tag : Tag) (start n : ℕ) (before one two new old contents : List ℕ) → Appends (IsIdentifier tag true) before one → Appends (IsShortestLength n) one two → new ≡ take start two ++ reverse (drop start two) → start ≡ length before
-    → n ≡ length contents → before ≡ old ++ reverse contents → Appends (Turned (IsConstructed der tag contents)) old new
-der_head tag start n before one two new old contents front size turn at count is =
-    let added : List ℕ = front.0 ++ size.0 in
-    let put : two ≡ before ++ added = size.1 ∙ ap (λ s. s ++ size.0) front.1 ∙ append_assoc before front.0 size.0 in
-    let stands = turned_end before added two new start at put turn in
-    let whole : List ℕ = reverse contents ++ reverse added in
-    let turned : reverse whole ≡ front.0 ++ (size.0 ++ contents) =
-    reverse-append (reverse contents) (reverse added) ∙ ap (λ s. s ++ reverse (reverse contents)) (reverse-reverse added) ∙ ap (λ s. added ++ s) (reverse-reverse contents) ∙ append_assoc front.0 size.0 contents in (
-      whole,
-      stands ∙ ap (λ s. s ++ reverse added) is ∙ append_assoc old (reverse contents) (reverse added),
-      record { identifier = front.0; size = size.0; tagged = front.2; sized = subst (λ k. IsShortestLength k size.0) count size.2; joined = turned },
-    )
+-- the octet 80 after the identifier, and a length after it
+pub cer_front : (tag : Tag) (before one two contents : List ℕ) → Appends (IsIdentifier tag true) before one → two ≡ one ++ 128 ∷ []
+    → Appends (λ front. IsConstructed cer tag contents (front ++ (contents ++ (0 ∷ 0 ∷ [])))) before two
+cer_front tag before one two contents front push = (
+  front.0 ++ 128 ∷ [],
+  push ∙ ap (λ s. s ++ 128 ∷ []) front.1 ∙ append_assoc before front.0 (128 ∷ []),
+  record { identifier = front.0; tagged = front.2; joined = append_assoc front.0 (128 ∷ []) (contents ++ (0 ∷ 0 ∷ [])) },
+)
+
+pub der_front : (tag : Tag) (n : ℕ) (before one two contents : List ℕ) → Appends (IsIdentifier tag true) before one → Appends (IsShortestLength n) one two → length contents ≡ n
+    → Appends (λ front. IsConstructed der tag contents (front ++ (contents ++ []))) before two
+der_front tag n before one two contents front size count = (
+  front.0 ++ size.0,
+  size.1 ∙ ap (λ s. s ++ size.0) front.1 ∙ append_assoc before front.0 size.0,
+  record {
+    identifier = front.0;
+    size = size.0;
+    tagged = front.2;
+    sized = subst (λ k. IsShortestLength k size.0) (sym count) size.2;
+    joined = ap (λ s. (front.0 ++ size.0) ++ s) (append-nil contents) ∙ append_assoc front.0 size.0 contents;
+  },
+)
 
 -- contents between what ends the encoding and its head
 pub around_made : (rule : Rule) (tag : Tag) (IsInside : List ℕ → Type 0) (start : ℕ) (old one two new : List ℕ) → start ≡ length old → one ≡ old ++ end_octets rule → (a : Appends (Turned IsInside) one two)

@@ -5,3 +5,9 @@ use Rattle.std.specs.Prelude.{◌≡◌, ◌≤◌, ℕ, List, length, min}
 pub record HasSize (Is : List ℕ → Type 0) (size : ℕ) : Type 0 where
   pub each : (octets : List ℕ) → Is octets → size ≡ min (length octets) 1_048_577
   pub there : size ≤ 1_048_576 → (octets : List ℕ) × Is octets
+
+-- there are such octets, so many
+pub record HasSomeOf (Is : List ℕ → Type 0) (size : ℕ) : Type 0 where
+  pub octets : List ℕ
+  pub holds : Is octets
+  pub count : length octets ≡ size

@@ -1,9 +1,11 @@
 //! What stands around the contents octets of a constructed encoding (X.690 9.1 and 10.1).
 
-ghost use Rattle.std.specs.Prelude.{◌≡◌, ◌≤◌, ◌++◌, ℕ, List, length, reverse, OnOk};
+ghost use Rattle.std.specs.Prelude.{◌≡◌, ◌≤◌, ◌++◌, ℕ, List, length, reverse, OnOk, OnErr};
 ghost use Rattle.octets.specs.declared.TheConstants.{MAX_TAG_NUMBER};
 ghost use Rattle.octets.specs.Front.{Appends};
 ghost use Rattle.types.specs.Form.{IsConstructed};
+ghost use Rattle.canon.specs.declared.rule.CanonicalRule.TheVariants.{Der};
+ghost use Rattle.canon.specs.Part.{Keeps};
 ghost use Rattle.canon.specs.Rule.{rule_of};
 ghost use Rattle.canon.specs.Turned.{Turned, end_octets};
 
@@ -11,14 +13,36 @@ use crate::rule::CanonicalRule;
 use crate::spans::turn;
 use octets::{NoMemory, Tag, put_identifier, put_shortest_length};
 
-// Appends what follows the contents octets, turned round.
+// Appends what follows the contents octets, which reads the same turned round.
 pub(crate) fn put_end(rule: CanonicalRule, out: &mut Vec<u8>) -> Result<(), NoMemory>
-    ensures { OnOk result (out.new.items ≡ out.old.items ++ end_octets (rule_of rule)) }
+    ensures appended { OnOk result (out.new.items ≡ out.old.items ++ end_octets (rule_of rule)) }
+    ensures unchanged { OnErr result (out.new.items ≡ out.old.items) }
 {
     match rule {
         CanonicalRule::Cer => Ok(out.extend_from_slice(&[0x00, 0x00])?),
         CanonicalRule::Der => Ok(()),
     }
+}
+
+// Appends what stands before so many contents octets.
+pub(crate) fn put_front(
+    rule: CanonicalRule,
+    tag: Tag,
+    contents: usize,
+    out: &mut Vec<u8>,
+) -> Result<(), NoMemory>
+    requires { tag.number ≤ MAX_TAG_NUMBER }
+    ensures appended { OnOk result ((inside : List ℕ) → (rule ≡ Der → length inside ≡ contents) → Appends
+        (λ front. IsConstructed (rule_of rule) tag inside (front ++ (inside ++ end_octets (rule_of rule))))
+        out.old.items out.new.items) }
+    ensures kept { OnErr result (Keeps out.old.items out.new.items) }
+{
+    put_identifier(out, tag, true)?;
+    match rule {
+        CanonicalRule::Cer => out.push(0x80)?,
+        CanonicalRule::Der => put_shortest_length(out, contents)?,
+    }
+    Ok(())
 }
 
 // Appends what stands before the contents octets, turned round, where the encoding began at `start`.
@@ -35,11 +59,7 @@ pub(crate) fn put_head(
         Appends (Turned (IsConstructed (rule_of rule) tag contents)) old out.new.items) }
 {
     let end = out.len();
-    put_identifier(out, tag, true)?;
-    match rule {
-        CanonicalRule::Cer => out.push(0x80)?,
-        CanonicalRule::Der => put_shortest_length(out, end - start)?,
-    }
+    put_front(rule, tag, end - start, out)?;
     turn(out, end);
     Ok(())
 }

@@ -77,31 +77,8 @@ pub(crate) fn put_leaf(
     Ok(())
 }
 
-// Appends the encoding of a value under `tag`, of so many octets, or nothing.
-pub(crate) fn put_alone(
-    rule: CanonicalRule,
-    tag: Tag,
-    value: &Value,
-    size: usize,
-    out: &mut Vec<u8>,
-) -> Result<(), NoMemory>
-    requires tag { tag.number ≤ MAX_TAG_NUMBER }
-    requires leaf { IsLeaf (value_view value.now) }
-    ensures appended { OnOk result (Appends
-        (IsLeafEncoding (rule_of rule) tag (value_view value.now)) out.old.items out.new.items) }
-    ensures unchanged { OnErr result (out.new.items ≡ out.old.items) }
-{
-    let start = out.len();
-    out.reserve(size)?;
-    if put_forwards(rule, tag, value, out).is_err() {
-        out.truncate(start);
-        return Err(NoMemory);
-    }
-    Ok(())
-}
-
 // Appends the encoding of a value under `tag`.
-fn put_forwards(
+pub(crate) fn put_forwards(
     rule: CanonicalRule,
     tag: Tag,
     value: &Value,

@@ -1,8 +1,9 @@
 //! Writers of the canonical encodings: CER and DER (X.690 clauses 9 to 11).
 //!
 //! Each gives a value one encoding. Its length is known before the vector grows, so that being out of
-//! memory never hides one that is too long. That of a value with parts is written from the last octet to
-//! the first, so that each length is known once it comes, and turned round at the end.
+//! memory never hides one that is too long. Explicit tags and values without parts are written as they
+//! stand. The encoding of a value with parts is written from the last octet to the first, so that each
+//! length is known once it comes, and turned round at the end.
 #![tactic(auto)]
 
 mod back;
@@ -23,6 +24,7 @@ mod segments;
 mod size_of;
 mod sizes;
 mod spans;
+mod straight;
 mod tags;
 
 pub use canon::Canon;

@@ -3,19 +3,17 @@
 ghost use Rattle.std.specs.Prelude.{◌≡◌, ◌↔◌, ℕ, List, OnOk, OnErr, IfErr};
 ghost use Rattle.octets.specs.Front.{Appends};
 ghost use Rattle.types.specs.Conforms.{Conforms};
-ghost use Rattle.types.specs.Encoding.{IsAccepted, IsEncoding};
+ghost use Rattle.types.specs.Encoding.{IsAccepted};
 ghost use Rattle.types.specs.Refusal.{IsOfWriting};
 ghost use Rattle.types.specs.View.{ty_view, value_view};
-ghost use Rattle.canon.specs.Node.{HasGoodNodes};
 ghost use Rattle.canon.specs.Rule.{rule_of};
 
-use crate::back::put_back;
-use crate::leaf::put_alone;
 use crate::rule::CanonicalRule;
 use crate::size_of::size_of;
+use crate::straight::put_sized;
 use octets::{MAX_ENCODING, NoMemory};
 use std::alloc::Global;
-use types::{Refusal, Ty, Value, WellTyped};
+use types::{Refusal, Value, WellTyped};
 
 // Appends the encoding of `value`. Its length is known before anything grows.
 pub(crate) fn put_within(
@@ -42,48 +40,4 @@ pub(crate) fn put_within(
         Ok(()) => Ok(()),
         Err(NoMemory) => Err(Refusal::NoMemory),
     }
-}
-
-// The same, however long, with room for so many octets from the start.
-fn put_sized(
-    alloc: Global,
-    rule: CanonicalRule,
-    ty: &Ty,
-    value: &Value,
-    size: usize,
-    out: &mut Vec<u8>,
-) -> Result<(), NoMemory>
-    requires nodes { HasGoodNodes (ty_view ty.now) }
-    requires conforms { Conforms (ty_view ty.now) (value_view value.now) }
-    ensures appended { OnOk result
-        (Appends (IsEncoding (rule_of rule) (ty_view ty.now) (value_view value.now)) out.old.items out.new.items) }
-    ensures unchanged { OnErr result (out.new.items ≡ out.old.items) }
-{
-    match ty.tag() {
-        Some(tag) if ty.has_no_parts() => put_alone(rule, tag, value, size, out),
-        Some(_) | None => put_turned(alloc, rule, ty, value, size, out),
-    }
-}
-
-// The same by way of a buffer in which it stands turned round.
-fn put_turned(
-    alloc: Global,
-    rule: CanonicalRule,
-    ty: &Ty,
-    value: &Value,
-    size: usize,
-    out: &mut Vec<u8>,
-) -> Result<(), NoMemory>
-    requires nodes { HasGoodNodes (ty_view ty.now) }
-    requires conforms { Conforms (ty_view ty.now) (value_view value.now) }
-    ensures appended { OnOk result
-        (Appends (IsEncoding (rule_of rule) (ty_view ty.now) (value_view value.now)) out.old.items out.new.items) }
-    ensures unchanged { OnErr result (out.new.items ≡ out.old.items) }
-{
-    let mut turned = Vec::new(alloc);
-    turned.reserve(size)?;
-    put_back(alloc, rule, ty, value, &mut turned)?;
-    turned.reverse();
-    out.extend_from_slice(&turned)?;
-    Ok(())
 }

@@ -3,3 +3,4 @@ mod made;
 mod orders;
 mod refusals;
 mod spellings;
+mod tagged;

@@ -6,8 +6,10 @@ use std::alloc::Global;
 use std::test::Fail;
 use types::{Refusal, Value, conforms};
 
+const TAGGED: Plan = Plan::Explicit(0, &Plan::Octets);
+
 // (type, how many octets of a string, what DER and CER answer: how many octets, or none past the limit)
-const ROWS: [(Plan, usize, Option<usize>, Option<usize>); 6] = [
+const ROWS: [(Plan, usize, Option<usize>, Option<usize>); 10] = [
     (Plan::Octets, 1_044_392, Some(1_044_397), Some(1_048_576)),
     (Plan::Octets, 1_044_393, Some(1_044_398), None),
     (Plan::Octets, 1_048_571, Some(1_048_576), None),
@@ -19,15 +21,19 @@ const ROWS: [(Plan, usize, Option<usize>, Option<usize>); 6] = [
         None,
     ),
     (Plan::SequenceOf(&Plan::Octets), 1_048_567, None, None),
+    (TAGGED, 1_044_388, Some(1_044_398), Some(1_048_576)),
+    (TAGGED, 1_044_389, Some(1_044_399), None),
+    (TAGGED, 1_048_566, Some(1_048_576), None),
+    (TAGGED, 1_048_567, None, None),
 ];
 
 fn value_of(alloc: Global, plan: &Plan, count: usize) -> Result<Value, Fail> {
     let mut octets = Vec::new(alloc);
     octets.resize(count, 0)?;
     let string = Value::Octets(octets);
-    if let Plan::Octets = plan {
+    let Plan::SequenceOf(_) = plan else {
         return Ok(string);
-    }
+    };
     let mut items = Vec::new(alloc);
     items.push(string)?;
     Ok(Value::Items(items))

@@ -54,8 +54,11 @@ const EITHER: Plan = SetOf(&Choice(&[Octets, Empty]));
 
 const SETS: Plan = SetOf(&SetOf(&Integer));
 
+// [0] EXPLICIT CHOICE { a OCTET STRING, b [1] EXPLICIT SEQUENCE OF INTEGER }
+const TAGGED_CHOICE: Plan = Explicit(0, &Choice(&[Octets, Explicit(1, &SequenceOf(&Integer))]));
+
 // (type, value, its DER octets, its CER octets)
-const ROWS: [(Plan, Given, &[u8], &[u8]); 18] = [
+const ROWS: [(Plan, Given, &[u8], &[u8]); 20] = [
     (
         Sequence(&[]),
         Given::Fields(&[]),
@@ -220,6 +223,21 @@ const ROWS: [(Plan, Given, &[u8], &[u8]); 18] = [
         &[0xA0, 0x05, 0xA1, 0x03, 0x01, 0x01, 0xFF],
         &[
             0xA0, 0x80, 0xA1, 0x80, 0x01, 0x01, 0xFF, 0x00, 0x00, 0x00, 0x00,
+        ],
+    ),
+    (
+        TAGGED_CHOICE,
+        Given::Chosen(0, &Given::Octets(&[0x41])),
+        &[0xA0, 0x03, 0x04, 0x01, 0x41],
+        &[0xA0, 0x80, 0x04, 0x01, 0x41, 0x00, 0x00],
+    ),
+    (
+        TAGGED_CHOICE,
+        Given::Chosen(1, &Given::Items(&[ONE])),
+        &[0xA0, 0x07, 0xA1, 0x05, 0x30, 0x03, 0x02, 0x01, 0x01],
+        &[
+            0xA0, 0x80, 0xA1, 0x80, 0x30, 0x80, 0x02, 0x01, 0x01, 0x00, 0x00, 0x00, 0x00, 0x00,
+            0x00,
         ],
     ),
 ];

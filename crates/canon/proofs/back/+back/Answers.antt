@@ -100,7 +100,7 @@ put_back-returns-in_ok-put_components-in-Sequence t c =
     let here : Appends (Turned (AreComponents rule components parts.slots)) one two = subst (λ (s : Slots). Appends (Turned (AreComponents rule components s)) one two) (sym (c.slots_in.ensures parts.slots parts.is))
     (subst (λ (fs : List Field). Appends (Turned (AreComponents rule (components_view fs) (slots_view c.slots_in.result.now))) one two) c.deref.ensures.value c.in_ok-put_components-in-Sequence.ensures) in
     arm c.put_head.result rule tag (AreComponents rule components parts.slots) (IsEncoding rule (ty_view c.args.ty.now) v) c.len-start.result c.args.out.now.items one two c.put_head.new.out.items
-    (omega (arith, c.len-start.ensures)) c.in_ok-put_end-in-Sequence.ensures here
+    (omega (arith, c.len-start.ensures)) c.in_ok-put_end-in-Sequence.ensures.appended here
     (λ b h. subst (λ (s : Shape). IsEncoding rule s v b) (sym is) (subst (λ (w : Val). IsEncoding rule (Shape.sequence tag components) w b) (sym parts.is) ((sequence_alike rule tag components parts.slots).to b h)))
     c.put_head.ensures
 
@@ -117,7 +117,7 @@ put_back-returns-in_ok-put_by_tag-in-Set t c =
     let here : Appends (Turned (AreComponentsByTag rule components parts.slots)) one two = subst (λ (s : Slots). Appends (Turned (AreComponentsByTag rule components s)) one two) (sym (c.slots_in-in-Set.ensures parts.slots parts.is))
     (subst (λ (fs : List Field). Appends (Turned (AreComponentsByTag rule (components_view fs) (slots_view c.slots_in-in-Set.result.now))) one two) c.deref-in-Set.ensures.value c.in_ok-put_by_tag-in-Set.ensures) in
     arm c.put_head-in-Set.result rule tag (AreComponentsByTag rule components parts.slots) (IsEncoding rule (ty_view c.args.ty.now) v) c.len-start.result c.args.out.now.items one two c.put_head-in-Set.new.out.items
-    (omega (arith, c.len-start.ensures)) c.in_ok-put_end-in-Set.ensures here
+    (omega (arith, c.len-start.ensures)) c.in_ok-put_end-in-Set.ensures.appended here
     (λ b h. subst (λ (s : Shape). IsEncoding rule s v b) (sym is) (subst (λ (w : Val). IsEncoding rule (Shape.set tag components) w b) (sym parts.is) ((set_alike rule tag components parts.slots (rule_is_canonical c.args.rule)).to b h)))
     c.put_head-in-Set.ensures
 
@@ -136,7 +136,7 @@ put_back-returns-in_ok-put_items-in-SequenceOf t c =
     let here : Appends (Turned (AreItems (IsEncoding rule type) (listed parts.items))) one two = subst (λ (vs : List Val). Appends (Turned (AreItems (IsEncoding rule type) vs)) one two) (sym (c.items_in.ensures parts.items parts.is))
     (subst (λ (e : Ty). Appends (Turned (AreItems (IsEncoding rule (ty_view e)) (map value_view c.items_in.result.now))) one two) c.deref-in-SequenceOf.ensures c.in_ok-put_items-in-SequenceOf.ensures) in
     arm c.put_head-in-SequenceOf.result rule tag (AreItems (IsEncoding rule type) (listed parts.items)) (IsEncoding rule (ty_view c.args.ty.now) v) c.len-start.result c.args.out.now.items one two c.put_head-in-SequenceOf.new.out.items
-    (omega (arith, c.len-start.ensures)) c.in_ok-put_end-in-SequenceOf.ensures here
+    (omega (arith, c.len-start.ensures)) c.in_ok-put_end-in-SequenceOf.ensures.appended here
     (λ b h. subst (λ (s : Shape). IsEncoding rule s v b) (sym is) (subst (λ (w : Val). IsEncoding rule (Shape.sequence_of tag type) w b) (sym parts.is) ((sequence_of_alike rule tag type parts.items).to b h)))
     c.put_head-in-SequenceOf.ensures
 
@@ -155,7 +155,7 @@ put_back-returns-in_ok-put_in_order-in-SetOf t c =
     let here : Appends (Turned (AreItemsInOrder (IsEncoding rule type) (listed parts.items))) one two = subst (λ (vs : List Val). Appends (Turned (AreItemsInOrder (IsEncoding rule type) vs)) one two) (sym (c.items_in-in-SetOf.ensures parts.items parts.is))
     (subst (λ (e : Ty). Appends (Turned (AreItemsInOrder (IsEncoding rule (ty_view e)) (map value_view c.items_in-in-SetOf.result.now))) one two) c.deref-in-SetOf.ensures c.in_ok-put_in_order-in-SetOf.ensures) in
     arm c.put_head-in-SetOf.result rule tag (AreItemsInOrder (IsEncoding rule type) (listed parts.items)) (IsEncoding rule (ty_view c.args.ty.now) v) c.len-start.result c.args.out.now.items one two c.put_head-in-SetOf.new.out.items
-    (omega (arith, c.len-start.ensures)) c.in_ok-put_end-in-SetOf.ensures here
+    (omega (arith, c.len-start.ensures)) c.in_ok-put_end-in-SetOf.ensures.appended here
     (λ b h. subst (λ (s : Shape). IsEncoding rule s v b) (sym is) (subst (λ (w : Val). IsEncoding rule (Shape.set_of tag type) w b) (sym parts.is) ((set_of_alike rule tag type parts.items (rule_is_canonical c.args.rule)).to b h)))
     c.put_head-in-SetOf.ensures
 
@@ -170,7 +170,7 @@ put_back-returns-in_ok-put_back-in-Explicit t c =
     let two = c.put_back-in-Explicit.new.out.items in
     let here : Appends (Turned (IsEncoding rule type v)) one two = subst (λ (e : Ty). Appends (Turned (IsEncoding rule (ty_view e) v)) one two) c.deref-in-Explicit.ensures c.in_ok-put_back-in-Explicit.ensures in
     arm c.put_head-in-Explicit.result rule tag (IsEncoding rule type v) (IsEncoding rule (ty_view c.args.ty.now) v) c.len-start.result c.args.out.now.items one two c.put_head-in-Explicit.new.out.items
-    (omega (arith, c.len-start.ensures)) c.in_ok-put_end-in-Explicit.ensures here (λ b h. subst (λ (s : Shape). IsEncoding rule s v b) (sym is) ((explicit_alike rule tag type v).to b h)) c.put_head-in-Explicit.ensures
+    (omega (arith, c.len-start.ensures)) c.in_ok-put_end-in-Explicit.ensures.appended here (λ b h. subst (λ (s : Shape). IsEncoding rule s v b) (sym is) ((explicit_alike rule tag type v).to b h)) c.put_head-in-Explicit.ensures
 
 pub put_items-put_back-requires : goal.put_items-put_back-requires
 put_items-put_back-requires t c =

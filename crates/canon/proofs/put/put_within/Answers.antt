@@ -1,4 +1,4 @@
-use Rattle.std.proofs.Common.{refl, sym, subst, arith}
+use Rattle.std.proofs.Common.{◌≤◌, refl, sym, subst, arith}
 use Rattle.types.specs.declared.ty.Ty.{Ty}
 use Rattle.types.specs.Conforms.{Conforms}
 use Rattle.types.specs.Encoding.{IsEncoding}
@@ -16,10 +16,14 @@ size_of-size-requires c = record {
 }
 
 pub put_sized-requires : goal.put_sized-requires
-put_sized-requires c = record {
-  nodes = subst (λ (t : Ty). HasGoodNodes (ty_view t)) (sym c.as_type-shape.ensures.value) (good_nodes (ty_view c.args.ty.now) c.as_type-shape.ensures.well_formed);
-  conforms = subst (λ (t : Ty). Conforms (ty_view t) (value_view c.args.value.now)) (sym c.as_type-shape.ensures.value) c.requires;
-}
+put_sized-requires c =
+    let within : c.size_of-size.result ≤ 1_048_576 = omega (arith, c.if-size-gt-MAX_ENCODING.false) in
+    let some = c.size_of-size.ensures.size.there within in record {
+      nodes = subst (λ (t : Ty). HasGoodNodes (ty_view t)) (sym c.as_type-shape.ensures.value) (good_nodes (ty_view c.args.ty.now) c.as_type-shape.ensures.well_formed);
+      conforms = subst (λ (t : Ty). Conforms (ty_view t) (value_view c.args.value.now)) (sym c.as_type-shape.ensures.value) c.requires;
+      size = record { octets = some.0; holds = some.1; count = omega (arith, within, c.size_of-size.ensures.size.each some.0 some.1) };
+      within = within;
+    }
 
 pub returns-then-size-gt-MAX_ENCODING-clause-too_long : goal.returns-then-size-gt-MAX_ENCODING-clause-too_long
 returns-then-size-gt-MAX_ENCODING-clause-too_long c =
