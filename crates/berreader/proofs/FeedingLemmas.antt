@@ -3,9 +3,8 @@ use Rattle.std.proofs.Common.{◌≡◌, ◌+◌, ◌-◌, ◌<◌, ◌≤◌, �
 use Rattle.std.proofs.Math.Seq.{take-add, take-append-add}
 use Rattle.std.proofs.lemmas.List.{take-append-drop, drop-drop, take_all, length-take-le, take-append-le}
 use Rattle.octets.specs.declared.TheConstants.{MAX_ENCODING}
-use Rattle.octets.specs.Front.{HasFront}
 use Rattle.octets.specs.Rule.{ber}
-use Rattle.types.specs.Encoding.{IsAccepted, IsSomeAccepted, most_nested}
+use Rattle.types.specs.Encoding.{IsAccepted, most_nested}
 use Rattle.types.specs.Shape.{Shape, Val}
 use Rattle.types.specs.View.{ty_view, value_view}
 use Rattle.types.specs.declared.value.Value.{Value}
@@ -427,4 +426,5 @@ pub fresh_reader : (pieces : Pieces) → IsWellFormed (shape_of pieces) → IsFr
 fresh_reader pieces well fresh counted = record {
   sound = λ accepts. record { nest = fresh_nest pieces.nest well fresh.layers counted fresh.taken; well_formed = well };
   numbers = λ refusal is. let both : None ≡ Some refusal = sym fresh.accepts ∙ is in absurd (cc both);
+  depth = subst (λ l. length l ≤ most_nested) (sym fresh.layers) (omega arith);
 }

@@ -22,7 +22,10 @@ pub mod EndLemmas
 pub mod NestLemmas
 pub mod NestBackLemmas
 pub mod FeedingLemmas
+pub mod FreshLemmas
+pub mod WeightLemmas
+pub mod PartsWeightLemmas
+pub mod HeldLemmas
 pub mod NestStepLemmas
-pub mod NestReadLemmas
 pub mod SeatLemmas
 pub mod HoldingLemmas

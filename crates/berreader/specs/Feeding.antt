@@ -1,12 +1,12 @@
 -- What a reader over pieces has been fed, and what it answers to the next piece.
-use Rattle.std.specs.Prelude.{◌≡◌, ◌-◌, ◌≤◌, ⊤, ℕ, List, [], ◌++◌, length, take, Option, Some, None, Result, Ok, Err}
+use Rattle.std.specs.Prelude.{◌≡◌, ◌-◌, ◌≤◌, ⊤, ℕ, List, [], ◌++◌, length, take, Some, None}
 use Rattle.octets.specs.declared.TheConstants.{MAX_ENCODING}
 use Rattle.octets.specs.Front.{HasFront}
 use Rattle.octets.specs.Rule.{ber}
 use Rattle.types.specs.declared.refusal.Refusal.{Refusal}
 use Rattle.types.specs.declared.refusal.Refusal.TheVariants.{Truncated}
-use Rattle.types.specs.Encoding.{IsAccepted, IsSomeAccepted}
-use Rattle.types.specs.Refusal.{IsFinal, IsOfReading}
+use Rattle.types.specs.Encoding.{IsAccepted, IsSomeAccepted, most_nested}
+use Rattle.types.specs.Refusal.{IsOfReading}
 use Rattle.types.specs.Shape.{Shape, Val}
 use Rattle.types.specs.View.{ty_view, value_view}
 use Rattle.types.specs.WellFormed.{IsWellFormed}
@@ -75,6 +75,7 @@ pub record IsSoundPieces (pieces : Pieces) : Type 0 where
 pub record IsSoundReader (pieces : Pieces) : Type 0 where
   pub sound : pieces.refused ≡ None → IsSoundPieces pieces
   pub numbers : (refusal : Refusal) → pieces.refused ≡ Some refusal → IsOfFeeding refusal
+  pub depth : length (layers_of pieces.nest.layers) ≤ most_nested
 
 -- the same type is read, and no refusal has come
 pub record IsGoingOn (old new : Pieces) : Type 0 where

@@ -9,4 +9,5 @@ pub mod Holding
 pub mod Stack
 pub mod Nest
 pub mod Feeding
+pub mod Weight
 pub mod Leaf

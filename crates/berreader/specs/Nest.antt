@@ -205,11 +205,3 @@ pub record IsLast (old new : Nest) (type : Shape) (tag : Tag) (value wrapped : V
 abbrev pub IsCome : Nest → Nest → Shape → Tag → Val → ℕ → step.Step → Type 0
 IsCome old new type tag value used (step.TheVariants.Taken n) = HasCome old new type tag value used n
 IsCome old new type tag value used (step.TheVariants.Whole wrapped n) = IsLast old new type tag value (value_view wrapped) used n
-
--- so many of the octets of a value have been taken
-pub record HasRead (shape : Shape) (nest : Nest) (octets : List ℕ) (at : ℕ) : Type 0 where
-  pub there : at ≤ length octets
-  pub type : ty_view nest.ty.now ≡ shape
-  pub sound : IsSoundNest nest
-  pub forth : (more : List ℕ) → HasFront (IsPartWithin most_nested shape MAX_ENCODING 0) (octets ++ more) → CanFinish nest (drop at octets ++ more)
-  pub taken : HasTaken nest (take at octets)

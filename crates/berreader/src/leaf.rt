@@ -30,38 +30,9 @@ use crate::joined::{Joined, Kind, kind_of};
 use crate::lengths::can_have_length;
 use crate::parts::{read_contents_place, read_opening};
 use crate::segments::Segments;
-use octets::{Class, Length, Tag, read_length};
+use octets::{Length, read_length};
 use std::alloc::Global;
 use types::{Refusal, Ty, Value};
-
-const OCTET_STRING: Tag = Tag {
-    class: Class::Universal,
-    number: 4,
-};
-
-// The tag of a type without parts.
-pub fn leaf_tag(ty: &Ty) -> Tag
-    ensures { result ≡ tag_of (ty_view ty.now) }
-{
-    match ty {
-        Ty::Boolean(tag) => *tag,
-        Ty::Integer(tag) => *tag,
-        Ty::Enumerated(tag, _) => *tag,
-        Ty::Null(tag) => *tag,
-        Ty::Oid(tag) => *tag,
-        Ty::RelativeOid(tag) => *tag,
-        Ty::Bits(tag) => *tag,
-        Ty::Octets(tag) => *tag,
-        Ty::Text(tag, _) => *tag,
-        Ty::Time(tag, _) => *tag,
-        Ty::Sequence(_, _) => OCTET_STRING,
-        Ty::Set(_, _) => OCTET_STRING,
-        Ty::SequenceOf(_, _) => OCTET_STRING,
-        Ty::SetOf(_, _) => OCTET_STRING,
-        Ty::Choice(_) => OCTET_STRING,
-        Ty::Explicit(_, _) => OCTET_STRING,
-    }
-}
 
 // The value of the encoding at the front, by its identifier octets, and how many octets it has. Before
 // it stand `taken` octets, and it ends at `end` at the latest; `levels` constructed encodings may nest in

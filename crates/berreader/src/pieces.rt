@@ -4,7 +4,7 @@ ghost use Rattle.std.specs.Prelude.{◌≡◌, ◌↔◌, ◌⊎◌, IsTrue, ◌
 ghost use Rattle.octets.specs.declared.TheConstants.{MAX_ENCODING};
 ghost use Rattle.types.specs.Refusal.{IsFinal, IsOfReading};
 ghost use Rattle.types.specs.View.{ty_view};
-ghost use Rattle.berreader.specs.Stack.{IsCounted};
+ghost use Rattle.berreader.specs.Stack.{layers_of, IsCounted};
 ghost use Rattle.berreader.specs.Nest.{CanFinish, IsSoundNest, IsStep};
 ghost use Rattle.berreader.specs.Feeding.{EndsWithin, GoesOn, HasBeenFed, HasValue, IsFed, IsFinished, IsFresh, IsGoingOn, IsOfFeeding, IsSoundPieces, IsSoundReader, IsTakenCut, IsTakenWhole, shape_of};
 
@@ -68,10 +68,20 @@ impl<'a> Pieces<'a> {
         match self.take(piece) {
             Ok(fed) => Ok(fed),
             Err(refusal) => {
-                self.refused = Some(refusal);
+                self.refuse(refusal);
                 Err(refusal)
             }
         }
+    }
+
+    // Keeps the refusal, and nothing else.
+    fn refuse(&mut self, refusal: Refusal)
+        ensures refused { self.new.refused ≡ Some refusal }
+        ensures layers { layers_of self.new.nest.layers ≡ [] }
+    {
+        self.nest = Nest::new(self.alloc, self.nest.ty);
+        self.pending = Vec::new(self.alloc);
+        self.refused = Some(refusal);
     }
 
     // Whether no value is begun.

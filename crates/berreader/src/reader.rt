@@ -46,15 +46,20 @@ impl<'a> Model for Reader<'a> {
 }
 
 impl<'a> Reader<'a> {
-    ghost use Rattle.std.specs.Prelude.{◌≡◌, ◌↔◌, ◌⊎◌, ◌++◌, ℕ, List, None, length, Some, IsOk, IfOk, IfErr, OnOk};
+    ghost use Rattle.std.specs.Prelude.{◌≡◌, ◌≤◌, ◌↔◌, ◌⊎◌, ◌++◌, ℕ, List, [], None, length, Some, IsOk, IfOk, IfErr, OnOk};
     ghost use Rattle.types.specs.Refusal.{IsFinal};
     ghost use Rattle.types.specs.View.{ty_view};
+    ghost use Rattle.types.specs.WellFormed.{IsWellFormed};
+    ghost use Rattle.types.specs.Encoding.{most_nested};
+    ghost use Rattle.berreader.specs.Weight.{IsLight, most_weight, open_encodings, weight_held};
     ghost use Rattle.berreader.specs.Feeding.{EndsStepWithin, HasBeenFed, HasValue, IsFedStep, IsFinished, IsFresh, IsOfFeeding, shape_of};
 
     /// A reader of values of the type, to which no octet has come. It keeps `alloc`, and takes no memory now.
     pub fn new(alloc: Global, ty: &'a WellTyped) -> Reader<'a>
         ensures shape { shape_of result ≡ ty_view ty.now }
         ensures fresh { IsFresh result }
+        ensures none { HasBeenFed result [] }
+        ensures well_formed { IsWellFormed (ty_view ty.now) }
     {
         Reader {
             pieces: Pieces::new(alloc, ty.as_type()),
@@ -67,9 +72,15 @@ impl<'a> Reader<'a> {
     ///
     /// Refused with one of the refusals 2 to 11 where no octets that begin with those that have come could be
     /// accepted, and with `NoMemory`. After a refusal it is answered again, and nothing is taken.
+    ///
+    /// At most 64 constructed encodings are open at its end. What the reader then holds weighs at most as much as
+    /// the type has nodes, times one more than the octets of the value that is begun; so does a value.
     pub fn feed(&mut self, piece: &[u8]) -> Result<Step, Refusal>
         ensures shape { OnOk result (shape_of self.new ≡ shape_of self.old) }
         ensures used { IfOk result (EndsStepWithin (length piece.now)) }
+        ensures open { open_encodings self.new ≤ most_nested }
+        ensures held { (octets : List ℕ) → HasBeenFed self.new octets → weight_held self.new ≤ most_weight (shape_of self.new) (length octets) }
+        ensures light { IfOk result (λ step. (octets : List ℕ) → HasBeenFed self.old octets → IsLight (shape_of self.old) octets step) }
         ensures value { IfOk result (λ step. (octets : List ℕ) → HasBeenFed self.old octets → IsFedStep self.old self.new octets piece.now step) }
         ensures never { self.old.refused ≡ None → IfErr result (λ refusal. IsFinal refusal → (octets more : List ℕ) →
             HasBeenFed self.old octets → ¬ HasValue (shape_of self.old) ((octets ++ piece.now) ++ more)) }

@@ -8,9 +8,13 @@ ghost use Rattle.types.specs.Refusal.{IsFinal, IsOfReading};
 ghost use Rattle.types.specs.Same.{IsSame};
 ghost use Rattle.types.specs.Shape.{Val};
 ghost use Rattle.types.specs.View.{ty_view, value_view};
+ghost use Rattle.types.specs.Weight.{weight_of};
 ghost use Rattle.types.specs.WellFormed.{IsWellFormed};
+ghost use Rattle.berreader.specs.declared.pieces.Pieces.{Pieces};
+ghost use Rattle.berreader.specs.Feeding.{HasBeenFed, shape_of};
+ghost use Rattle.berreader.specs.Weight.{most_weight};
 
-use crate::nest::{Nest, Step};
+use crate::reader::{Reader, Step};
 use std::alloc::Global;
 use types::{Refusal, Value, WellTyped};
 
@@ -19,27 +23,28 @@ use types::{Refusal, Value, WellTyped};
 ///
 /// Refused with `Truncated` where octets are missing, with another of the refusals 2 to 11 where no
 /// octets after these could make it an encoding within the limits, and with `NoMemory`: all values but
-/// those of BOOLEAN, INTEGER, ENUMERATED and NULL take memory, and so do more than eight open encodings.
+/// those of BOOLEAN, INTEGER, ENUMERATED and NULL take memory, and so do more than eight open encodings, and
+/// octets that end inside an encoding.
 pub fn read(alloc: Global, ty: &WellTyped, octets: &[u8]) -> Result<(Value, usize), Refusal>
     ensures value { IfOk result (λ p. (p.1 ≤ length octets.now)
         × IsAccepted ber (ty_view ty.now) (value_view p.0) (take p.1 octets.now)) }
     ensures only { IfOk result (λ p. (v : Val) (n : ℕ) → n ≤ length octets.now →
         IsAccepted ber (ty_view ty.now) v (take n octets.now) →
         (n ≡ p.1) × IsSame (ty_view ty.now) (value_view p.0) v) }
+    ensures light { IfOk result (λ p. weight_of (value_view p.0) ≤ most_weight (ty_view ty.now) p.1) }
     ensures truncated { result ≡ Err Refusal.Truncated →
         ¬ HasFront (IsSomeAccepted ber (ty_view ty.now)) octets.now }
+    ensures begun { result ≡ Err Refusal.Truncated →
+        (reader : Pieces) × (shape_of reader ≡ ty_view ty.now) × HasBeenFed reader octets.now }
     ensures never { IfErr result (λ refusal. IsFinal refusal → (more : List ℕ) →
         ¬ HasFront (IsSomeAccepted ber (ty_view ty.now)) (octets.now ++ more)) }
     ensures numbers { IfErr result IsOfReading }
     ensures well_formed { IsWellFormed (ty_view ty.now) }
 {
-    let mut nest = Nest::new(alloc, ty.as_type());
-    let mut at = 0;
-    loop {
-        match nest.step(alloc, &octets[at..]) {
-            Ok(Step::Taken(used)) => at += used,
-            Ok(Step::Whole(value, used)) => return Ok((value, at + used)),
-            Err(refusal) => return Err(refusal),
-        }
+    let mut reader = Reader::new(alloc, ty);
+    match reader.feed(octets) {
+        Ok(Step::Done { value, used }) => Ok((value, used)),
+        Ok(Step::More) => Err(Refusal::Truncated),
+        Err(refusal) => Err(refusal),
     }
 }

@@ -1,6 +1,6 @@
 //! The components of a SET, which come in any order (X.690 8.11).
 
-ghost use Rattle.std.specs.Prelude.{◌≡◌, ◌↔◌, IsTrue, false, map, Contains, MatchOption, IfOk, IfErr, ℕ, None, option_map};
+ghost use Rattle.std.specs.Prelude.{◌≡◌, ◌↔◌, ⊤, IsTrue, false, map, Contains, MatchOption, IfOk, IfErr, ℕ, None, option_map};
 ghost use Rattle.std.specs.List.{AllByRecursion};
 ghost use Rattle.types.specs.Conforms.{MayBeAbsent};
 ghost use Rattle.types.specs.FirstTags.{first_tags};
@@ -49,8 +49,38 @@ pub fn seats_of<'a>(alloc: Global, fields: &'a [Field]) -> Result<Vec<Seat<'a>>,
     Ok(seats)
 }
 
-// Which component begins with the tag, looked for from some place on and then before it.
+// Which component begins with the tag. Components that come in order are found at once, and so are those that
+// come in reverse.
 pub fn seat_due<'a>(seats: &[Seat<'a>], behind: usize, tag: Tag) -> Result<(usize, &'a Ty), Refusal>
+    ensures value { IfOk result (λ p. IsVacant (map seat_view seats.now) p.0 (ty_view p.1.now)
+        × Contains (first_tags (ty_view p.1.now)) tag) }
+    ensures never { IfErr result (λ refusal. (which : ℕ) (type : Shape) →
+        IsVacant (map seat_view seats.now) which type → ¬ Contains (first_tags type) tag) }
+    ensures numbers { IfErr result IsOfDue }
+{
+    match due_at(seats, behind.saturating_sub(2), tag) {
+        Some(found) => Ok(found),
+        None => seat_from(seats, behind, tag),
+    }
+}
+
+// The component at the place, if it begins with the tag and has not come.
+fn due_at<'a>(seats: &[Seat<'a>], place: usize, tag: Tag) -> Option<(usize, &'a Ty)>
+    ensures { MatchOption result ⊤ (λ p. IsVacant (map seat_view seats.now) p.0 (ty_view p.1.now)
+        × Contains (first_tags (ty_view p.1.now)) tag) }
+{
+    if place >= seats.len() {
+        return None;
+    }
+    let seat = &seats[place];
+    if is_due(seat, tag) {
+        return Some((place, &seat.field.ty));
+    }
+    None
+}
+
+// Which component begins with the tag, looked for from some place on and then before it.
+fn seat_from<'a>(seats: &[Seat<'a>], behind: usize, tag: Tag) -> Result<(usize, &'a Ty), Refusal>
     ensures value { IfOk result (λ p. IsVacant (map seat_view seats.now) p.0 (ty_view p.1.now)
         × Contains (first_tags (ty_view p.1.now)) tag) }
     ensures never { IfErr result (λ refusal. (which : ℕ) (type : Shape) →

@@ -1,10 +1,12 @@
 mod holdings;
+mod leaves;
 mod nests;
+mod readers;
 
-use crate::head::{read_head_tag, read_tag};
-use crate::leaf::{leaf_tag, read_leaf};
+use crate::head::read_head_tag;
 use crate::read;
-use octets::{Class, MAX_ENCODING, Tag};
+use octets::{Class, Tag};
+use readers::comes_as_read;
 use std::alloc::Global;
 use std::test::Fail;
 use strings::{TextKind, TimeKind};
@@ -65,16 +67,19 @@ fn refusal_of(read: Result<(Value, usize), Refusal>) -> Option<u8> {
 
 fn refused(alloc: Global, ty: Ty, octets: &[u8]) -> Option<u8> {
     match WellTyped::new(ty) {
-        Ok(ty) => refusal_of(read(alloc, &ty, octets)),
-        Err(_) => None,
+        Ok(ty) if comes_as_read(alloc, &ty, octets) => refusal_of(read(alloc, &ty, octets)),
+        _ => None,
     }
 }
 
-// Reads the whole and each front of it: every shorter one is cut.
+// Reads the whole, in pieces too, and each front of it: every shorter one is cut.
 fn is_read(alloc: Global, ty: Ty, octets: &[u8], want: &[u8], unused: u8) -> bool {
     let Ok(ty) = WellTyped::new(ty) else {
         return false;
     };
+    if !comes_as_read(alloc, &ty, octets) {
+        return false;
+    }
     for cut in 0..octets.len() {
         if refusal_of(read(alloc, &ty, &octets[..cut])) != Some(1) {
             return false;
@@ -382,81 +387,6 @@ fn longest_length_octets(rt: HostRuntime) -> Result<(), Fail> {
     octets.extend_from_slice(&[0x01, 0xAA])?;
     assert!(rt; is_read(rt.alloc(), octet_string(), octets.as_slice(), &[0xAA], 0));
     Ok(())
-}
-
-// Reads a part behind `taken` octets of what ends at `end`: how many octets it has, or the refusal's number.
-fn part(
-    alloc: Global,
-    ty: Ty,
-    (levels, end, taken): (usize, usize, usize),
-    octets: &[u8],
-) -> Option<Result<usize, u8>> {
-    let Ok(ty) = WellTyped::new(ty) else {
-        return None;
-    };
-    let node = ty.as_type();
-    if !node.has_no_parts() || end > MAX_ENCODING {
-        return None;
-    }
-    let (constructed, identifier) = match read_tag(leaf_tag(node), end, taken, octets) {
-        Ok(found) => found,
-        Err(refusal) => return Some(Err(refusal.number())),
-    };
-    let read = read_leaf(
-        alloc,
-        node,
-        identifier,
-        constructed,
-        end,
-        taken,
-        levels,
-        octets,
-    );
-    match read {
-        Ok((_, used)) => Some(Ok(used)),
-        Err(refusal) => Some(Err(refusal.number())),
-    }
-}
-
-#[test]
-fn parts(rt: HostRuntime) {
-    // (levels, end, octets before it), octets, how many octets the part has or the refusal's number
-    let cases: [((usize, usize, usize), &[u8], Result<usize, u8>); 17] = [
-        ((0, 10, 5), &[0x04, 0x03, 0x41, 0x42, 0x43], Ok(5)),
-        ((0, 9, 5), &[0x04, 0x03, 0x41, 0x42, 0x43], Err(11)),
-        ((0, 10, 5), &[0x04, 0x02, 0x41, 0x42, 0x43], Ok(4)),
-        ((0, 10, 5), &[0x04, 0x03, 0x41, 0x42], Err(1)),
-        ((0, 7, 5), &[0x04], Err(1)),
-        ((0, 6, 5), &[0x04], Err(11)),
-        ((0, 5, 5), &[0x04], Err(11)),
-        ((0, 5, 5), &[], Err(11)),
-        ((0, 10, 5), &[0x24, 0x00], Err(10)),
-        ((1, 10, 5), &[0x24, 0x00], Ok(2)),
-        ((1, 10, 5), &[0x24, 0x02, 0x24, 0x00], Err(10)),
-        ((2, 10, 5), &[0x24, 0x02, 0x24, 0x00], Ok(4)),
-        ((1, 9, 5), &[0x24, 0x80, 0x00, 0x00], Ok(4)),
-        ((1, 8, 5), &[0x24, 0x80, 0x00, 0x00], Err(11)),
-        ((1, 10, 5), &[0x24, 0x80, 0x04, 0x02, 0x41], Err(11)),
-        ((1, 20, 5), &[0x24, 0x02, 0x04, 0x01, 0x41], Err(4)),
-        ((1, 6, 5), &[0x1F, 0x81, 0x00], Err(11)),
-    ];
-    for (place, octets, want) in cases {
-        let found = part(rt.alloc(), octet_string(), place, octets);
-        assert_eq!(rt; found, Some(want), "{place:?} at {octets:?}");
-    }
-    // the length octets are judged as far as they stand within
-    assert_eq!(rt;
-        part(rt.alloc(), boolean(), (0, 6, 5), &[0x01, 0x05]),
-        Some(Err(11))
-    );
-    assert_eq!(rt;
-        part(rt.alloc(), boolean(), (0, 7, 5), &[0x01, 0x05]),
-        Some(Err(6))
-    );
-    assert_eq!(rt;
-        part(rt.alloc(), boolean(), (0, 8, 5), &[0x21, 0x00]),
-        Some(Err(3))
-    );
 }
 
 #[test]

@@ -1,5 +1,6 @@
 //! Encodings with parts.
 
+use super::readers::comes_as_read;
 use super::refusal_of;
 use crate::read;
 use octets::{Class, Tag};
@@ -76,16 +77,19 @@ fn type_of(alloc: Global, letter: u8) -> Result<Ty, Fail> {
 
 fn told(alloc: Global, letter: u8, octets: &[u8]) -> Result<Option<u8>, Fail> {
     match WellTyped::new(type_of(alloc, letter)?) {
-        Ok(ty) => Ok(refusal_of(read(alloc, &ty, octets))),
-        Err(_) => Ok(Some(0)),
+        Ok(ty) if comes_as_read(alloc, &ty, octets) => Ok(refusal_of(read(alloc, &ty, octets))),
+        _ => Ok(Some(0)),
     }
 }
 
-// Whether the octets are read as the value, and each shorter front is cut.
+// Whether the octets are read as the value, in pieces too, and each shorter front is cut.
 fn is_value(alloc: Global, letter: u8, octets: &[u8], want: &Value) -> Result<bool, Fail> {
     let Ok(ty) = WellTyped::new(type_of(alloc, letter)?) else {
         return Ok(false);
     };
+    if !comes_as_read(alloc, &ty, octets) {
+        return Ok(false);
+    }
     for cut in 0..octets.len() {
         if refusal_of(read(alloc, &ty, &octets[..cut])) != Some(1) {
             return Ok(false);

@@ -1,63 +1,42 @@
-use Rattle.std.proofs.Common.{◌≡◌, ◌+◌, ◌-◌, ◌++◌, Err, length, take, drop, ap, subst}
-use Rattle.std.proofs.lemmas.List.{take_rest}
+use Rattle.std.proofs.Common.{[], ◌++◌, take, sym, ◌∙◌, subst}
+use Rattle.std.proofs.lemmas.List.{length-take-le}
 use Rattle.types.specs.View.{ty_view, value_view}
-use Rattle.types.specs.declared.refusal.Refusal.TheVariants.{Truncated}
-use Rattle.berreader.specs.Nest.{CanFinish, IsTaken, IsWhole}
+use Rattle.berreader.specs.Feeding.{HasValue}
 use Rattle.berreader.proofs.AcceptedLemmas.{only_accepted}
-use Rattle.berreader.proofs.NestReadLemmas.{read_more, read_whole, finishes, finishes_all}
+use Rattle.berreader.proofs.FreshLemmas.{read_done, read_more}
+use Rattle.berreader.proofs.HeldLemmas.{value_light}
 use Rattle.berreader.proofs.reading.read.Goals as goal
 
-pub loop-used-preserved : goal.loop-used-preserved
-loop-used-preserved c =
-    let octets = c.args.octets.now in
-    let at = c.loop-used.at in
-    let nest = c.loop-used.nest in
-    let used = c.in-Ok-Taken.used in
-    let all : take (length octets - at) (drop at octets) ≡ drop at octets = take_rest octets at in
-    let step = rw c.in-Ok-Taken.field-0-is at c.in-Ok-Taken.ensures.taken in
-    read_more (ty_view c.args.ty.now) nest c.step.new.self octets at used c.loop-used.invariant (subst (λ x. IsTaken nest c.step.new.self x used) all step) c.in-Ok-Taken.ensures.sound
+pub returns-in-Ok-Done-clause-value : goal.returns-in-Ok-Done-clause-value
+returns-in-Ok-Done-clause-value c =
+    read_done (ty_view c.args.ty.now) c.new-reader.result c.feed.new.self c.args.octets.now c.in-Ok-Done.value c.in-Ok-Done.used c.in-Ok-Done.field-0 c.new-reader.ensures.shape c.new-reader.ensures.none c.in-Ok-Done.field-0-is c.in-Ok-Done.ensures.value
 
-pub returns-in-Ok-Whole-clause-value : goal.returns-in-Ok-Whole-clause-value
-returns-in-Ok-Whole-clause-value c =
+pub returns-in-Ok-Done-clause-light : goal.returns-in-Ok-Done-clause-light
+returns-in-Ok-Done-clause-light c =
+    let used = c.in-Ok-Done.used in
     let octets = c.args.octets.now in
-    let at = c.loop-used.at in
-    let nest = c.loop-used.nest in
-    let used = c.in-Ok-Whole.used in
-    let v = value_view c.in-Ok-Whole.value in
-    let all : take (length octets - at) (drop at octets) ≡ drop at octets = take_rest octets at in
-    let step = rw c.in-Ok-Whole.field-0-is at c.in-Ok-Whole.ensures.taken in
-    let read = read_whole (ty_view c.args.ty.now) nest c.step.new.self octets v at used c.loop-used.invariant (subst (λ x. IsWhole nest c.step.new.self x v used) all step) in
-    (read.there, read.accepted)
+    let done = read_done (ty_view c.args.ty.now) c.new-reader.result c.feed.new.self octets c.in-Ok-Done.value used c.in-Ok-Done.field-0 c.new-reader.ensures.shape c.new-reader.ensures.none c.in-Ok-Done.field-0-is c.in-Ok-Done.ensures.value in
+    value_light (ty_view c.args.ty.now) (value_view c.in-Ok-Done.value) (take used octets) used (sym (length-take-le used octets done.0)) done.1
 
-pub returns-in-Ok-Whole-clause-only : goal.returns-in-Ok-Whole-clause-only
-returns-in-Ok-Whole-clause-only c = λ w n below g.
+pub returns-in-Ok-Done-clause-only : goal.returns-in-Ok-Done-clause-only
+returns-in-Ok-Done-clause-only c = λ v n below g.
     let octets = c.args.octets.now in
-    let at = c.loop-used.at in
-    let nest = c.loop-used.nest in
-    let used = c.in-Ok-Whole.used in
-    let v = value_view c.in-Ok-Whole.value in
-    let shape = ty_view c.args.ty.now in
-    let all : take (length octets - at) (drop at octets) ≡ drop at octets = take_rest octets at in
-    let step = rw c.in-Ok-Whole.field-0-is at c.in-Ok-Whole.ensures.taken in
-    let read = read_whole shape nest c.step.new.self octets v at used c.loop-used.invariant (subst (λ x. IsWhole nest c.step.new.self x v used) all step) in
-    let only = only_accepted shape v w n (at + used) octets c.as_type.ensures.well_formed read.there below read.accepted g in
+    let value = c.in-Ok-Done.value in
+    let used = c.in-Ok-Done.used in
+    let done = read_done (ty_view c.args.ty.now) c.new-reader.result c.feed.new.self octets value used c.in-Ok-Done.field-0 c.new-reader.ensures.shape c.new-reader.ensures.none c.in-Ok-Done.field-0-is c.in-Ok-Done.ensures.value in
+    let only = only_accepted (ty_view c.args.ty.now) (value_view value) v n used octets c.new-reader.ensures.well_formed done.0 below done.1 g in
     (only.used_is, only.same)
 
-pub returns-in-Err-clause-truncated : goal.returns-in-Err-clause-truncated
-returns-in-Err-clause-truncated c = λ same f.
-    let octets = c.args.octets.now in
-    let at = c.loop-used.at in
-    let nest = c.loop-used.nest in
-    let all : take (length octets - at) (drop at octets) ≡ drop at octets = take_rest octets at in
-    let known : c.in-Err.refusal ≡ Truncated = cc same in
-    let none : CanFinish nest (drop at octets) → ⊥ = subst (λ x. CanFinish nest x → ⊥) all (c.in-Err.ensures.truncated (ap Err known)) in
-    none (finishes_all (ty_view c.args.ty.now) nest octets at c.loop-used.invariant f)
+pub returns-in-Ok-More-clause-truncated : goal.returns-in-Ok-More-clause-truncated
+returns-in-Ok-More-clause-truncated c = λ same h.
+    let more = read_more c.new-reader.result c.feed.new.self c.args.octets.now c.in-Ok-More.field-0 c.new-reader.ensures.none c.in-Ok-More.field-0-is c.in-Ok-More.ensures.value in
+    more.none (subst (λ s. HasValue s c.args.octets.now) (sym c.new-reader.ensures.shape) h)
 
-pub returns-in-Err-clause-never : goal.returns-in-Err-clause-never
-returns-in-Err-clause-never c = λ final more f.
-    let octets = c.args.octets.now in
-    let at = c.loop-used.at in
-    let nest = c.loop-used.nest in
-    let all : take (length octets - at) (drop at octets) ≡ drop at octets = take_rest octets at in
-    let none : CanFinish nest (drop at octets ++ more) → ⊥ = subst (λ x. CanFinish nest (x ++ more) → ⊥) all (c.in-Err.ensures.never final more) in
-    none (finishes (ty_view c.args.ty.now) nest octets more at c.loop-used.invariant f)
+pub returns-in-Ok-More-clause-begun : goal.returns-in-Ok-More-clause-begun
+returns-in-Ok-More-clause-begun c = λ same.
+    let more = read_more c.new-reader.result c.feed.new.self c.args.octets.now c.in-Ok-More.field-0 c.new-reader.ensures.none c.in-Ok-More.field-0-is c.in-Ok-More.ensures.value in
+    (c.feed.new.self, c.in-Ok-More.ensures.shape ∙ c.new-reader.ensures.shape, more.has_been_fed)
+
+pub returns-clause-never : goal.returns-clause-never
+returns-clause-never c = λ final more h.
+    c.in-Err.ensures.never c.new-reader.ensures.fresh.accepts final [] more c.new-reader.ensures.none (subst (λ s. HasValue s (c.args.octets.now ++ more)) (sym c.new-reader.ensures.shape) h)

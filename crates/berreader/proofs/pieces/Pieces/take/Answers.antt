@@ -1,7 +1,7 @@
-use Rattle.std.proofs.Common.{◌≡◌, ◌+◌, ◌-◌, ◌≤◌, ◌++◌, List, ℕ, length, take, drop, ap, sym, subst, ◌∙◌, arith}
+use Rattle.std.proofs.Common.{◌+◌, ◌≤◌, ◌++◌, length, take, ap, sym, subst, arith}
 use Rattle.std.proofs.lemmas.List.{length-drop}
 use Rattle.types.specs.View.{value_view}
-use Rattle.berreader.specs.Feeding.{HasBeenFed, IsDone, IsFed, IsFresh, IsTakenCut, shape_of}
+use Rattle.berreader.specs.Feeding.{IsDone, IsFed, IsFresh, IsTakenCut, shape_of}
 use Rattle.berreader.proofs.FeedingLemmas.{next_of_piece, fed_so_far, done_cut, never_cut, done_rest, more_rest, never_rest, taken_cut_is, fed_is_done}
 use Rattle.berreader.proofs.pieces.Pieces.take.Goals as goal
 

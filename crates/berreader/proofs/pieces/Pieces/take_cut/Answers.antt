@@ -1,4 +1,4 @@
-use Rattle.std.proofs.Common.{◌≡◌, ◌-◌, ◌++◌, List, ℕ, length, take, drop, Err, IfOk, IfErr, ap, sym, subst, ◌∙◌, arith, append_assoc}
+use Rattle.std.proofs.Common.{◌≡◌, ◌-◌, ◌++◌, length, take, drop, Err, ap, sym, subst, ◌∙◌, append_assoc}
 use Rattle.types.specs.View.{value_view}
 use Rattle.berreader.specs.Nest.{IsWhole}
 use Rattle.berreader.specs.Feeding.{GoesOn, HasValue, IsDoneBefore, shape_of}

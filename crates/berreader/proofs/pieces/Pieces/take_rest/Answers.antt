@@ -1,4 +1,4 @@
-use Rattle.std.proofs.Common.{◌≡◌, ◌++◌, List, ℕ, [], ap, sym, subst, ◌∙◌, append-nil, append_assoc, inl, inr, refl}
+use Rattle.std.proofs.Common.{◌≡◌, ◌++◌, [], ap, sym, subst, ◌∙◌, append-nil, append_assoc, inl, inr, refl}
 use Rattle.types.specs.View.{value_view}
 use Rattle.berreader.specs.Feeding.{HasBeenFed, HasValue, IsTakenWhole, shape_of}
 use Rattle.berreader.proofs.FeedingLemmas.{more_is_fed, too_many, done_is_fed, on_from_fed, taken_whole_is}

@@ -1,9 +1,9 @@
-use Rattle.std.proofs.Common.{◌≡◌, ◌+◌, ap, sym, subst, refl, ◌∙◌, ◌++◌, ◌-◌, List, ℕ, Err, length, take, drop}
+use Rattle.std.proofs.Common.{◌≡◌, ◌+◌, ap, sym, subst, ◌∙◌, ◌++◌, ◌-◌, Err, length, take, drop}
 use Rattle.types.specs.declared.refusal.Refusal.TheVariants as Refusal
 use Rattle.types.specs.View.{value_view}
 use Rattle.berreader.specs.Nest.{CanFinish}
 use Rattle.berreader.specs.Feeding.{shape_of}
-use Rattle.berreader.proofs.FeedingLemmas.{IsOnTheWay, done_as, on_the_way_step, done_on_the_way, kept_on_the_way, none_on_the_way, slice_behind, taken_behind, whole_behind, of_feeding}
+use Rattle.berreader.proofs.FeedingLemmas.{IsOnTheWay, done_as, on_the_way_step, done_on_the_way, kept_on_the_way, none_on_the_way, slice_behind, taken_behind, whole_behind}
 use Rattle.berreader.proofs.pieces.Pieces.take_whole.Goals as goal
 
 pub loop-used-preserved : goal.loop-used-preserved

@@ -3,7 +3,7 @@ use Rattle.std.proofs.lemmas.List.{take_rest, length-map, length-drop}
 use Rattle.types.specs.View.{ty_view}
 use Rattle.berreader.specs.Holding.{seat_view}
 use Rattle.berreader.proofs.SeatLemmas.{vacant_below, vacant_before, vacant_behind, none_in_both}
-use Rattle.berreader.proofs.seats.seat_due.Goals as goal
+use Rattle.berreader.proofs.seats.seat_from.Goals as goal
 
 pub overflow_add-result : goal.overflow_add-result
 overflow_add-result c =

@@ -1,0 +1,54 @@
+-- Lemmas on a reader of whose next value no octet has come.
+use Rattle.std.proofs.Common.{◌≡◌, ◌≤◌, ℕ, List, [], ◌++◌, length, take, refl, sym, ap, ◌∙◌, subst, arith}
+use Rattle.std.proofs.lemmas.List.{take_all}
+use Rattle.octets.specs.declared.TheConstants.{MAX_ENCODING}
+use Rattle.octets.specs.Front.{HasFront}
+use Rattle.octets.specs.Rule.{ber}
+use Rattle.types.specs.declared.value.Value.{Value}
+use Rattle.types.specs.Encoding.{IsAccepted, IsEncoding, most_nested}
+use Rattle.types.specs.Shape.{Shape}
+use Rattle.types.specs.View.{value_view}
+use Rattle.types.proofs.ApartInstances.{of_no_octets}
+use Rattle.berreader.specs.declared.pieces.Pieces.{Pieces}
+use Rattle.berreader.specs.declared.reader.Step as answer
+use Rattle.berreader.specs.Nest.{CanComplete, IsPartWithin, StandsAt}
+use Rattle.berreader.specs.Feeding.{HasBeenFed, HasValue, IsDone, IsFedStep, IsFresh, IsMore, shape_of}
+use Rattle.berreader.proofs.AcceptedLemmas.{within_of_accepted}
+
+none_in_none : (shape : Shape) → HasValue shape [] → ⊥
+none_in_none shape h = of_no_octets ber shape h.2.0 (subst (IsEncoding ber shape h.2.0) (take_all h.0 [] (omega arith)) h.2.1.encoding)
+
+-- no octets have been fed to it
+pub fresh_has_been_fed : (pieces : Pieces) → IsFresh pieces → HasBeenFed pieces []
+fresh_has_been_fed pieces fresh =
+    let shape = shape_of pieces in
+    let kept = pieces.pending.items in
+    record {
+      accepts = fresh.accepts;
+      before = [];
+      joined = sym fresh.kept;
+      goes_on = record {
+        taken = record { count = sym fresh.taken; stands = subst (λ l. StandsAt shape l []) (sym fresh.layers) refl };
+        forth = λ more h.
+            let part : HasFront (IsPartWithin most_nested shape MAX_ENCODING pieces.nest.taken) (kept ++ more) =
+            subst (λ n. HasFront (IsPartWithin most_nested shape MAX_ENCODING n) (kept ++ more)) (sym fresh.taken) (within_of_accepted shape (kept ++ more) h) in
+            subst (λ l. CanComplete shape l pieces.nest.taken (kept ++ more)) (sym fresh.layers) part;
+      };
+      none = none_in_none shape;
+    }
+
+-- and no others
+pub fresh_has_been_fed_none : (pieces : Pieces) (octets : List ℕ) → IsFresh pieces → HasBeenFed pieces octets → octets ≡ []
+fresh_has_been_fed_none pieces octets fresh fed =
+    let none : fed.before ≡ [] = subst (λ l. StandsAt (shape_of pieces) l fed.before) fresh.layers fed.goes_on.taken.stands in
+    fed.joined ∙ ap (λ o. o ++ pieces.pending.items) none ∙ fresh.kept
+
+-- what the first piece comes to
+pub read_done : (shape : Shape) (old new : Pieces) (octets : List ℕ) (value : Value) (used : ℕ) (step : answer.Step) → shape_of old ≡ shape → HasBeenFed old [] → step ≡ answer.TheVariants.Done value used
+    → ((before : List ℕ) → HasBeenFed old before → IsFedStep old new before octets step) → (used ≤ length octets) × IsAccepted ber shape (value_view value) (take used octets)
+read_done shape old new octets value used step same fed is h =
+    let done : IsDone (shape_of old) [] octets (value_view value) used × IsFresh new = subst (IsFedStep old new [] octets) is (h [] fed) in
+    (done.0.there, subst (λ s. IsAccepted ber s (value_view value) (take used octets)) same done.0.accepted)
+
+pub read_more : (old new : Pieces) (octets : List ℕ) (step : answer.Step) → HasBeenFed old [] → step ≡ answer.TheVariants.More → ((before : List ℕ) → HasBeenFed old before → IsFedStep old new before octets step) → IsMore (shape_of old) new octets
+read_more old new octets step fed is h = subst (IsFedStep old new [] octets) is (h [] fed)

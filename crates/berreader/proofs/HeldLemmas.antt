@@ -1,0 +1,78 @@
+-- Lemmas on how much a reader holds.
+use Rattle.std.proofs.Common.{◌≡◌, ◌+◌, ◌*◌, ◌≤◌, inl, inr, ℕ, true, List, [], ◌∷◌, ◌++◌, Result, Ok, Err, IfOk, length, take, ap, ◌∙◌, arith, length-append}
+use Rattle.std.proofs.Math.Nat.{mul-add}
+use Rattle.std.proofs.lemmas.List.{length-take-le}
+use Rattle.octets.specs.declared.tag.Tag.{Tag}
+use Rattle.octets.specs.Rule.{ber}
+use Rattle.octets.proofs.ShortestLemmas.{IsLength-size}
+use Rattle.types.specs.declared.refusal.Refusal.{Refusal}
+use Rattle.types.specs.Encoding.{IsAccepted}
+use Rattle.types.specs.Shape.{Shape, Val}
+use Rattle.types.specs.View.{value_view}
+use Rattle.types.specs.Weight.{weight_of}
+use Rattle.types.specs.WellFormed.{nodes_of}
+use Rattle.berreader.specs.declared.frame.Frame.{Frame}
+use Rattle.berreader.specs.declared.pieces.Pieces.{Pieces}
+use Rattle.berreader.specs.declared.reader.Step as answer
+use Rattle.berreader.specs.Completing.{IsOpening, Opens}
+use Rattle.berreader.specs.Feeding.{HasBeenFed, IsFedStep, shape_of}
+use Rattle.berreader.specs.Nest.{IsDueInside, StandsAt, levels_inside}
+use Rattle.berreader.specs.Stack.{Layer, layers_of}
+use Rattle.berreader.specs.Weight.{IsLight, most_weight, weight_held, weight_of_layers, weight_of_parts}
+use Rattle.berreader.proofs.WeightLemmas.{at_least_once, light, more_of, some_identifier, some_nodes}
+use Rattle.berreader.proofs.PartsWeightLemmas.{due_nodes, node_nodes, parts_light}
+
+some_size : (end taken : ℕ) (frame : Frame) (size : List ℕ) → Opens end taken frame size → 1 ≤ length size
+some_size end taken frame size (inl h) = (IsLength-size h.contents size h.sized).0
+some_size end taken frame size (inr h) = omega (arith, ap length h.mark)
+
+opening_size : (tag : Tag) (end taken : ℕ) (frame : Frame) (head : List ℕ) → IsOpening tag end taken frame head → 2 ≤ length head
+opening_size tag end taken frame head h =
+    omega (arith, ap length h.joined, length-append h.identifier h.size, some_identifier tag true h.identifier h.tagged, some_size end (taken + length h.identifier) frame h.size h.form)
+
+-- what is open has no more nodes than the whole
+inside_nodes : (shape : Shape) (layers : List Layer) (octets : List ℕ) (type : Shape) → StandsAt shape layers octets → IsDueInside shape layers type → length (nodes_of type) ≤ length (nodes_of shape)
+inside_nodes shape [] octets type h due = omega (arith, ap (λ s. length (nodes_of s)) due)
+inside_nodes shape (layer ∷ others) octets type h due =
+    omega (arith, due_nodes h.node layer.parts layer.which type h.parts due, node_nodes layer.tag layer.type h.node h.chosen, inside_nodes shape others h.before layer.type h.behind h.due)
+
+layers_light : (shape : Shape) (layers : List Layer) (octets : List ℕ) → StandsAt shape layers octets → weight_of_layers layers ≤ length (nodes_of shape) * length octets
+layers_light shape [] octets h = omega arith
+layers_light shape (layer ∷ others) octets h =
+    let n = length (nodes_of shape) in
+    let few : length (nodes_of h.node) ≤ n = omega (arith, node_nodes layer.tag layer.type h.node h.chosen, inside_nodes shape others h.before layer.type h.behind h.due) in
+    let own : weight_of_parts layer.parts ≤ n + n * length h.contents = parts_light h.node layer.parts (levels_inside others) h.contents n few h.parts h.holds in
+    let rest : weight_of_layers others ≤ n * length h.before = layers_light shape others h.before h.behind in
+    let size : length octets ≡ length h.before + (length h.head + length h.contents) = ap length h.joined ∙ length-append h.before (h.head ++ h.contents) ∙ ap (λ k. length h.before + k) (length-append h.head h.contents) in
+    let whole : n * length octets ≡ n * length h.before + (n * length h.head + n * length h.contents) =
+    ap (λ k. n * k) size ∙ mul-add n (length h.before) (length h.head + length h.contents) ∙ ap (λ k. n * length h.before + k) (mul-add n (length h.head) (length h.contents)) in
+    let head : n * 1 ≤ n * length h.head = more_of n 1 (length h.head) (omega (arith, opening_size layer.tag _ (length h.before) layer.frame h.head h.opening)) in
+    omega (arith, own, rest, whole, head)
+
+-- what is held weighs no more than the octets of the value that is begun may
+pub held_light : (pieces : Pieces) (octets : List ℕ) → HasBeenFed pieces octets → weight_held pieces ≤ most_weight (shape_of pieces) (length octets)
+held_light pieces octets fed =
+    let n = length (nodes_of (shape_of pieces)) in
+    let kept = pieces.pending.items in
+    let layers = layers_light (shape_of pieces) (layers_of pieces.nest.layers) fed.before fed.goes_on.taken.stands in
+    let size : length octets ≡ length fed.before + length kept = ap length fed.joined ∙ length-append fed.before kept in
+    let split : n * length octets ≡ n * length fed.before + n * length kept = ap (λ k. n * k) size ∙ mul-add n (length fed.before) (length kept) in
+    let more : n * length octets ≤ n * (length octets + 1) = more_of n (length octets) (length octets + 1) (omega arith) in
+    omega (arith, layers, split, more, at_least_once n (length kept) (some_nodes (shape_of pieces)))
+
+-- so does a value
+pub value_light : (shape : Shape) (value : Val) (octets : List ℕ) (used : ℕ) → used ≡ length octets → IsAccepted ber shape value octets → weight_of value ≤ most_weight shape used
+value_light shape value octets used size h =
+    let n = length (nodes_of shape) in
+    let more : n * length octets ≤ n * (used + 1) = more_of n (length octets) (used + 1) (omega (arith, size)) in
+    omega (arith, light shape value octets n (omega arith) h.encoding, more)
+
+step_light : (old new : Pieces) (octets piece : List ℕ) (step : answer.Step) → IsFedStep old new octets piece step → IsLight (shape_of old) octets step
+step_light old new octets piece (answer.TheVariants.Done value used) h =
+    let size : length (octets ++ take used piece) ≡ length octets + length (take used piece) = length-append octets (take used piece) in
+    value_light (shape_of old) (value_view value) (octets ++ take used piece) (length octets + used) (omega (arith, size, length-take-le used piece h.0.there)) h.0.accepted
+step_light old new octets piece answer.TheVariants.More h = tt
+
+pub fed_light : (old new : Pieces) (piece : List ℕ) (r : Result answer.Step Refusal) → IfOk r (λ step. (octets : List ℕ) → HasBeenFed old octets → IsFedStep old new octets piece step) → IfOk r (λ step. (octets : List ℕ) → HasBeenFed old octets → IsLight (shape_of old) octets step)
+fed_light old new piece (Ok step) h = λ octets fed. step_light old new octets piece step (h octets fed)
+fed_light old new piece (Err e) h = tt
