@@ -1,6 +1,6 @@
 //! Which arcs are values of OBJECT IDENTIFIER and RELATIVE-OID (X.690 8.19 and 8.20).
 
-use crate::rows::type_of;
+use crate::types_by_name::type_of;
 use convert::{Value, conforms};
 use std::alloc::Global;
 use std::test::Fail;
@@ -8,9 +8,9 @@ use std::test::Fail;
 // Whether arcs are a value of an OBJECT IDENTIFIER, and whether of a RELATIVE-OID.
 fn conform(alloc: Global, arcs: &[u128]) -> Result<(bool, bool), Fail> {
     let value = Value::Oid(Vec::from_slice(alloc, arcs)?);
-    let absolute = conforms(type_of("OBJECT IDENTIFIER")?.as_type(), &value);
+    let absolute = conforms(type_of(alloc, "OBJECT IDENTIFIER")?.as_type(), &value);
     let value = Value::RelativeOid(Vec::from_slice(alloc, arcs)?);
-    let relative = conforms(type_of("RELATIVE-OID")?.as_type(), &value);
+    let relative = conforms(type_of(alloc, "RELATIVE-OID")?.as_type(), &value);
     Ok((absolute, relative))
 }
 

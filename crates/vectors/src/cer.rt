@@ -2,80 +2,105 @@
 //! as under DER.
 
 use crate::checks::check_table;
-use crate::rows::{octets_of, type_of};
+use crate::rows::octets_of;
+use crate::types_by_name::type_of;
 use convert::{Canonical, Rule, transcode};
 use std::test::Fail;
 
-// octets | under CER
+// octets | | under CER
 const SHORT: &str = "
 BOOLEAN:
-01 01 2A                        | 01 01 FF
+01 01 2A                         || 01 01 FF
 INTEGER:
-02 81 02 FF 7F                  | 02 02 FF 7F
+02 81 02 FF 7F                   || 02 02 FF 7F
 NULL:
-05 81 00                        | 05 00
+05 81 00                         || 05 00
 OBJECT IDENTIFIER:
-06 81 03 81 34 03               | 06 03 81 34 03
+06 81 03 81 34 03                || 06 03 81 34 03
 RELATIVE-OID:
-0D 81 02 81 34                  | 0D 02 81 34
+0D 81 02 81 34                   || 0D 02 81 34
 BIT STRING:
-03 02 07 FF                     | 03 02 07 80
-03 01 00                        | kept
+03 02 07 FF                      || 03 02 07 80
+03 01 00                         || kept
 OCTET STRING:
-04 00                           | kept
-24 06 04 01 41 04 01 41         | 04 02 41 41
+04 00                            || kept
+24 06 04 01 41 04 01 41          || 04 02 41 41
 UTF8String:
-0C 81 02 C3 A9                  | 0C 02 C3 A9
+0C 81 02 C3 A9                   || 0C 02 C3 A9
 UTCTime:
-17 81 0D, '240229120000Z'       | 17 0D, '240229120000Z'
+17 81 0D, '240229120000Z'        || 17 0D, '240229120000Z'
 ";
 
-// octets | under CER
+// octets | | under CER
 const CUT: &str = "
 OCTET STRING:
-04 82 03 E8, 41 x1000             | kept
-04 82 03 E9, 41 x1001             | 24 80, 04 82 03 E8, 41 x1000, 04 01 41, 00 00
-04 82 07 D0, 41 x2000             | 24 80, 04 82 03 E8, 41 x1000, 04 82 03 E8, 41 x1000, 00 00
-04 82 08 50, 41 x2128             | 24 80, 04 82 03 E8, 41 x1000, 04 82 03 E8, 41 x1000, 04 81 80, 41 x128, 00 00
-24 80, 04 82 01 F4, 41 x500, 24 80, 04 82 01 F5, 41 x501, 00 00 x2 | 24 80, 04 82 03 E8, 41 x1000, 04 01 41, 00 00
+04 82 03 E8, 41 x1000            || kept
+04 82 03 E9, 41 x1001            || 24 80, 04 82 03 E8, 41 x1000, 04 01 41, 00 00
+04 82 07 D0, 41 x2000            || 24 80, 04 82 03 E8, 41 x1000, 04 82 03 E8, 41 x1000, 00 00
+04 82 08 50, 41 x2128            || 24 80, 04 82 03 E8, 41 x1000, 04 82 03 E8, 41 x1000, 04 81 80, 41 x128, 00 00
+24 80, 04 82 01 F4, 41 x500, 24 80, 04 82 01 F5, 41 x501, 00 00 x2 || 24 80, 04 82 03 E8, 41 x1000, 04 01 41, 00 00
 UTF8String:
-0C 82 03 E8, 41 x1000             | kept
-0C 82 03 E9, 41 x1001             | 2C 80, 04 82 03 E8, 41 x1000, 04 01 41, 00 00
+0C 82 03 E8, 41 x1000            || kept
+0C 82 03 E9, 41 x1001            || 2C 80, 04 82 03 E8, 41 x1000, 04 01 41, 00 00
 # The cut is between octets, here those of one character.
-0C 82 03 E9, 41 x999, C3 A9       | 2C 80, 04 82 03 E8, 41 x999, C3, 04 01 A9, 00 00
-BIT STRING:
-03 82 03 E8 00, 41 x999           | kept
-03 82 03 E9 00, 41 x1000          | 23 80, 03 82 03 E8 00, 41 x999, 03 02 00 41, 00 00
-03 82 07 CF 00, 41 x1998          | 23 80, 03 82 03 E8 00, 41 x999, 03 82 03 E8 00, 41 x999, 00 00
-# 7,993 bits, the last 1.
-03 82 03 E9 07, 41 x999, 80       | 23 80, 03 82 03 E8 00, 41 x999, 03 02 07 80, 00 00
-03 82 03 E9 07, 41 x999, FF       | 23 80, 03 82 03 E8 00, 41 x999, 03 02 07 80, 00 00
-23 82 03 F5, 03 82 01 F5 00, 41 x500, 03 82 01 F4 00, 41 x499, 03 02 07 FF | 23 80, 03 82 03 E8 00, 41 x999, 03 02 07 80, 00 00
+0C 82 03 E9, 41 x999, C3 A9      || 2C 80, 04 82 03 E8, 41 x999, C3, 04 01 A9, 00 00
 [0] OCTET STRING:
-80 82 03 E9, 41 x1001             | A0 80, 04 82 03 E8, 41 x1000, 04 01 41, 00 00
-[0] BIT STRING:
-80 82 03 E9 00, 41 x1000          | A0 80, 03 82 03 E8 00, 41 x999, 03 02 00 41, 00 00
+80 82 03 E9, 41 x1001            || A0 80, 04 82 03 E8, 41 x1000, 04 01 41, 00 00
 ";
 
-// octets | under CER
+// octets | | under CER
+const CUT_BITS: &str = "
+BIT STRING:
+03 82 03 E8 00, 41 x999          || kept
+03 82 03 E9 00, 41 x1000         || 23 80, 03 82 03 E8 00, 41 x999, 03 02 00 41, 00 00
+03 82 07 CF 00, 41 x1998         || 23 80, 03 82 03 E8 00, 41 x999, 03 82 03 E8 00, 41 x999, 00 00
+# 7,993 bits, the last 1.
+03 82 03 E9 07, 41 x999, 80      || 23 80, 03 82 03 E8 00, 41 x999, 03 02 07 80, 00 00
+03 82 03 E9 07, 41 x999, FF      || 23 80, 03 82 03 E8 00, 41 x999, 03 02 07 80, 00 00
+23 82 03 F5, 03 82 01 F5 00, 41 x500, 03 82 01 F4 00, 41 x499, 03 02 07 FF || 23 80, 03 82 03 E8 00, 41 x999, 03 02 07 80, 00 00
+[0] BIT STRING:
+80 82 03 E9 00, 41 x1000         || A0 80, 03 82 03 E8 00, 41 x999, 03 02 00 41, 00 00
+";
+
+// octets | under DER | under CER
+const ALREADY_CUT: &str = "
+OCTET STRING:
+24 80, 04 82 03 E8, 41 x1000, 04 01 41, 00 00 | 04 82 03 E9, 41 x1001 | kept
+24 80, 04 82 03 E7, 41 x999, 04 02 41 41, 00 00 | 04 82 03 E9, 41 x1001 | 24 80, 04 82 03 E8, 41 x1000, 04 01 41, 00 00
+24 80 04 01 AA 00 00              | 04 01 AA | 04 01 AA
+BIT STRING:
+23 80, 03 82 03 E8 00, 41 x999, 03 02 00 41, 00 00 | 03 82 03 E9 00, 41 x1000 | kept
+";
+
+// octets | under DER | under CER
 const LONGEST: &str = "
 OCTET STRING:
-04 83 0F EF A9, 41 x1044393       | refused 14
+04 83 0F EF A9, 41 x1044393 | kept | refused 14
 ";
 
 #[test]
 fn short_encodings(rt: HostRuntime) -> Result<(), Fail> {
-    check_table(&rt, Canonical::Cer, SHORT)
+    check_table(rt.alloc(), SHORT)
 }
 
 #[test]
 fn strings_that_are_cut(rt: HostRuntime) -> Result<(), Fail> {
-    check_table(&rt, Canonical::Cer, CUT)
+    check_table(rt.alloc(), CUT)
+}
+
+#[test]
+fn bit_strings_that_are_cut(rt: HostRuntime) -> Result<(), Fail> {
+    check_table(rt.alloc(), CUT_BITS)
+}
+
+#[test]
+fn strings_in_segments(rt: HostRuntime) -> Result<(), Fail> {
+    check_table(rt.alloc(), ALREADY_CUT)
 }
 
 #[test]
 fn longest_octet_string(rt: HostRuntime) -> Result<(), Fail> {
-    let ty = type_of("OCTET STRING")?;
+    let ty = type_of(rt.alloc(), "OCTET STRING")?;
     // 1,044 full segments of 1,004 octets, and 396 octets for the last.
     let octets = octets_of(rt.alloc(), "04 83 0F EF A8, 41 x1044392")?;
     let written = transcode(
@@ -86,5 +111,5 @@ fn longest_octet_string(rt: HostRuntime) -> Result<(), Fail> {
         octets.as_slice(),
     )?;
     assert_eq!(rt; written.len(), 1_048_576);
-    check_table(&rt, Canonical::Cer, LONGEST)
+    check_table(rt.alloc(), LONGEST)
 }

@@ -1,129 +1,116 @@
 //! What the rows of the tables are compared with.
 
-use crate::rows::{octets_of, type_of};
-use berreader::read;
-use convert::{Canonical, Refusal, Rule, WellTyped, transcode};
+use crate::accepted::check_accepted;
+use crate::answers::{convert_by, number_of, read_by};
+use crate::pieces::check_pieces;
+use crate::rows::{Becomes, Row, row_of};
+use crate::types_by_name::type_of;
+use convert::{Canonical, Refusal, Rule, WellTyped};
 use std::alloc::Global;
-use std::process::Abort;
 use std::test::Fail;
 
-// An accepted encoding of at most this many octets is also cut before each of its octets.
-const MAX_CUT: usize = 1_100;
+/// The rules that octets are read by.
+pub const RULES: [Rule; 3] = [Rule::Ber, Rule::Cer, Rule::Der];
 
-/// Checks what the rows of a table become under a canonical rule.
-pub fn check_table<R: Abort + AllocGlobal>(rt: &R, to: Canonical, table: &str) -> Result<(), Fail> {
-    let mut ty = type_of("NULL")?;
+/// Checks what the rows of a table become.
+pub fn check_table(alloc: Global, table: &str) -> Result<(), Fail> {
+    let mut ty = type_of(alloc, "NULL")?;
     for line in table.lines() {
         if let Some(name) = line.strip_suffix(':') {
-            ty = type_of(name)?;
+            ty = type_of(alloc, name)?;
         }
-        if !line.starts_with('#') {
-            check_line(rt, &ty, to, line)?;
-        }
+        check_line(alloc, &ty, line)?;
     }
     Ok(())
 }
 
 /// Checks a line, where it is a row of a table of this type.
-pub fn check_line<R: Abort + AllocGlobal>(
-    rt: &R,
-    ty: &WellTyped,
-    to: Canonical,
-    line: &str,
-) -> Result<(), Fail> {
-    let Some((octets, becomes)) = line.split_once('|') else {
+pub fn check_line(alloc: Global, ty: &WellTyped, line: &str) -> Result<(), Fail> {
+    match row_of(alloc, ty, line)? {
+        Some(row) => check_row(alloc, &row),
+        None => Ok(()),
+    }
+}
+
+fn check_row(alloc: Global, row: &Row) -> Result<(), Fail> {
+    match row.der {
+        Becomes::Refused(14) => check_accepted(alloc, row),
+        Becomes::Refused(number) => check_refused(alloc, row, number),
+        Becomes::LeftOver => check_left_over(alloc, row),
+        Becomes::Octets(_) => check_accepted(alloc, row),
+        Becomes::NotSaid => check_accepted(alloc, row),
+    }
+}
+
+/// Fails where something does not hold of a row.
+pub fn expect(holds: bool, what: &str, row: &Row) -> Result<(), Fail> {
+    if holds {
         return Ok(());
-    };
-    let octets = octets_of(rt.alloc(), octets)?;
-    match becomes.trim().strip_prefix("refused ") {
-        Some(number) => {
-            let found = refusal_of(rt.alloc(), ty, to, octets.as_slice());
-            assert_eq!(rt;
-                found,
-                Some(number.parse::<u8>()?),
-                "at {line} under {to:?}"
-            );
-        }
-        None => check_accepted(rt, ty, to, octets.as_slice(), becomes.trim(), line)?,
+    }
+    let line = row.line;
+    Err(Fail::new(format_args!("{what} at {line}")))
+}
+
+/// Fails where octets of a row are refused.
+pub fn refused(refusal: Refusal, what: &str, row: &Row) -> Result<(), Fail> {
+    let number = refusal.number();
+    let line = row.line;
+    Err(Fail::new(format_args!("refused {number}: {what} at {line}")))
+}
+
+/// Fails where the number of a refusal is another one.
+pub fn expect_number(found: Option<u8>, want: u8, what: &str, row: &Row) -> Result<(), Fail> {
+    if found == Some(want) {
+        return Ok(());
+    }
+    let line = row.line;
+    Err(Fail::new(format_args!("{found:?} and not {want}: {what} at {line}")))
+}
+
+// Checks that all readers refuse octets.
+fn check_refused(alloc: Global, row: &Row, number: u8) -> Result<(), Fail> {
+    let octets = row.octets.as_slice();
+    let read = read_by(alloc, Rule::Ber, row.ty, octets);
+    check_pieces(alloc, row, octets, &read)?;
+    expect_number(number_of(read), number, "read by BER", row)?;
+    if row.is_long() {
+        return Ok(());
+    }
+    for rule in RULES {
+        check_not_taken(alloc, row, rule, number)?;
     }
     Ok(())
 }
 
-// The number of the refusal of some octets.
-fn refusal_of(alloc: Global, ty: &WellTyped, to: Canonical, octets: &[u8]) -> Option<u8> {
-    let refusal = transcode(alloc, ty, Rule::Ber, to, octets).err()?;
-    Some(refusal.number())
+// Checks that octets are refused by a rule.
+fn check_not_taken(alloc: Global, row: &Row, rule: Rule, number: u8) -> Result<(), Fail> {
+    let octets = row.octets.as_slice();
+    let read = read_by(alloc, rule, row.ty, octets);
+    expect_number(number_of(read), number, name_of(rule), row)?;
+    let der = convert_by(alloc, (rule, Canonical::Der), row.ty, octets);
+    expect_number(number_of(der), number, "converted to DER", row)?;
+    let cer = convert_by(alloc, (rule, Canonical::Cer), row.ty, octets);
+    expect_number(number_of(cer), number, "converted to CER", row)
 }
 
-// Checks what accepted octets become, that what is written becomes itself, and that these octets and no
-// others are taken.
-fn check_accepted<R: Abort + AllocGlobal>(
-    rt: &R,
-    ty: &WellTyped,
-    to: Canonical,
-    octets: &[u8],
-    becomes: &str,
-    line: &str,
-) -> Result<(), Fail> {
-    let mut want = Vec::from_slice(rt.alloc(), octets)?;
-    if becomes != "kept" {
-        want = octets_of(rt.alloc(), becomes)?;
+// Checks that a value ends before the octets do.
+fn check_left_over(alloc: Global, row: &Row) -> Result<(), Fail> {
+    let octets = row.octets.as_slice();
+    let read = read_by(alloc, Rule::Ber, row.ty, octets);
+    check_pieces(alloc, row, octets, &read)?;
+    match read {
+        Ok((_, used)) => expect(used < octets.len(), "nothing left over", row)?,
+        Err(refusal) => refused(refusal, "no value", row)?,
     }
-    let written = transcode(rt.alloc(), ty, Rule::Ber, to, octets)?;
-    assert!(rt;
-        written.as_slice() == want.as_slice(),
-        "at {line} under {to:?}"
-    );
-    let again = transcode(rt.alloc(), ty, Rule::Ber, to, want.as_slice())?;
-    assert!(rt;
-        again.as_slice() == want.as_slice(),
-        "again at {line} under {to:?}"
-    );
-    if octets.len() <= MAX_CUT {
-        check_cuts(rt, ty, to, octets, line);
-    }
-    check_end(rt, ty, octets, line)
+    let answer = convert_by(alloc, (Rule::Ber, Canonical::Der), row.ty, octets);
+    expect_number(number_of(answer), 2, "converted", row)
 }
 
-// Checks that no octet of an accepted encoding can be done without.
-fn check_cuts<R: Abort + AllocGlobal>(
-    rt: &R,
-    ty: &WellTyped,
-    to: Canonical,
-    octets: &[u8],
-    line: &str,
-) {
-    for end in 0..octets.len() {
-        let found = refusal_of(rt.alloc(), ty, to, &octets[..end]);
-        assert_eq!(rt; found, Some(1), "at the first {end} octets of {line}");
-        let read = octets_read(rt.alloc(), ty, &octets[..end]);
-        assert_eq!(rt;
-            read,
-            Err(Refusal::Truncated),
-            "at the first {end} octets of {line}"
-        );
+/// How messages name a rule.
+pub fn name_of(rule: Rule) -> &'static str {
+    match rule {
+        Rule::Ber => "read by BER",
+        Rule::Cer => "read by CER",
+        Rule::Der => "read by DER",
     }
-}
-
-// Checks that an accepted encoding is read whole, and not what follows it: octets that begin an end of
-// contents, a segment and a constructed one.
-fn check_end<R: Abort + AllocGlobal>(
-    rt: &R,
-    ty: &WellTyped,
-    octets: &[u8],
-    line: &str,
-) -> Result<(), Fail> {
-    for next in [0x00, 0x04, 0x24] {
-        let mut more = Vec::from_slice(rt.alloc(), octets)?;
-        more.push(next)?;
-        let read = octets_read(rt.alloc(), ty, more.as_slice());
-        assert_eq!(rt; read, Ok(octets.len()), "before {next} after {line}");
-    }
-    Ok(())
-}
-
-// How many octets of those there a value has.
-fn octets_read(alloc: Global, ty: &WellTyped, octets: &[u8]) -> Result<usize, Refusal> {
-    let (_, used) = read(alloc, ty, octets)?;
-    Ok(used)
 }

@@ -5,6 +5,10 @@
 #![tactic(auto)]
 
 #[cfg(test)]
+mod accepted;
+#[cfg(test)]
+mod answers;
+#[cfg(test)]
 mod arcs;
 #[cfg(test)]
 mod cer;
@@ -15,12 +19,26 @@ mod enumerated;
 #[cfg(test)]
 mod library_use;
 #[cfg(test)]
+mod many_parts;
+#[cfg(test)]
 mod nesting;
+#[cfg(test)]
+mod pieces;
 #[cfg(test)]
 mod primitive;
 #[cfg(test)]
 mod rows;
 #[cfg(test)]
+mod same_values;
+#[cfg(test)]
 mod segments;
 #[cfg(test)]
+mod sequences;
+#[cfg(test)]
+mod sets;
+#[cfg(test)]
 mod tags;
+#[cfg(test)]
+mod told;
+#[cfg(test)]
+mod types_by_name;

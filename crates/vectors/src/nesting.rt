@@ -1,9 +1,12 @@
 //! Levels and lengths of strings in segments: at most 64 constructed encodings nest, and the outermost has at
 //! most 1,048,576 octets, which are this project's own limits (`docs/PROFILE.md`, "Own: limits").
 
+use crate::answers::convert_by;
 use crate::checks::{check_line, check_table};
-use crate::rows::type_of;
-use convert::Canonical;
+use crate::rows::octets_of;
+use crate::types_by_name::type_of;
+use convert::{Canonical, Refusal, Rule};
+use std::alloc::Global;
 use std::test::Fail;
 
 // octets | under DER
@@ -41,12 +44,12 @@ OCTET STRING:
 
 #[test]
 fn levels(rt: HostRuntime) -> Result<(), Fail> {
-    check_table(&rt, Canonical::Der, LEVELS)
+    check_table(rt.alloc(), LEVELS)
 }
 
 #[test]
 fn levels_of_definite_lengths(rt: HostRuntime) -> Result<(), Fail> {
-    let ty = type_of("OCTET STRING")?;
+    let ty = type_of(rt.alloc(), "OCTET STRING")?;
     // 63 levels, of 127 contents octets down to 3
     let mut levels = String::new(rt.alloc());
     for level in 0u8..63 {
@@ -62,33 +65,39 @@ fn levels_of_definite_lengths(rt: HostRuntime) -> Result<(), Fail> {
     ];
     for (outer, becomes) in cases {
         let line = format!(in rt.alloc(); "{outer}{levels}0401AA|{becomes}")?;
-        check_line(&rt, &ty, Canonical::Der, line.as_str())?;
+        check_line(rt.alloc(), &ty, line.as_str())?;
     }
     Ok(())
 }
 
 #[test]
 fn lengths(rt: HostRuntime) -> Result<(), Fail> {
-    check_table(&rt, Canonical::Der, LENGTHS)
+    check_table(rt.alloc(), LENGTHS)
+}
+
+// Octets 41 in 255 segments of 4,096, and one more with the rest: what they become under DER.
+fn segments_before(alloc: Global, last: &str) -> Result<Result<Vec<u8>, Refusal>, Fail> {
+    let ty = type_of(alloc, "OCTET STRING")?;
+    let mut segments = String::from_str(alloc, "24 80")?;
+    for _ in 0..255 {
+        segments.push_str(", 04 82 10 00, 41 x4096")?;
+    }
+    let octets = format!(in alloc; "{segments}, {last}, 00 00")?;
+    let octets = octets_of(alloc, octets.as_str())?;
+    let rules = (Rule::Ber, Canonical::Der);
+    Ok(convert_by(alloc, rules, &ty, octets.as_slice()))
 }
 
 #[test]
 fn longest_strings(rt: HostRuntime) -> Result<(), Fail> {
-    let ty = type_of("OCTET STRING")?;
-    // (identifier and length octets behind 255 segments of 4,096 octets, how many octets follow, under DER)
-    let cases = [
-        ("04 82 0B FB", 3_067, "04 83 0F FB FB, 41 x1047547"),
-        ("04 82 0B FC", 3_068, "04 83 0F FB FC, 41 x1047548"),
-        ("04 82 0B FD", 3_069, "refused 11"),
-        ("04 83 00 0B FC", 3_068, "refused 11"),
-    ];
-    let mut segments = String::from_str(rt.alloc(), "24 80")?;
-    for _ in 0..255 {
-        segments.push_str(", 04 82 10 00, 41 x4096")?;
-    }
-    for (head, count, becomes) in cases {
-        let line = format!(in rt.alloc(); "{segments}, {head}, 41 x{count}, 00 00 | {becomes}")?;
-        check_line(&rt, &ty, Canonical::Der, line.as_str())?;
-    }
+    let alloc = rt.alloc();
+    let found = segments_before(alloc, "04 82 0B FB, 41 x3067")??;
+    assert!(rt; found == octets_of(alloc, "04 83 0F FB FB, 41 x1047547")?);
+    let found = segments_before(alloc, "04 82 0B FC, 41 x3068")??;
+    assert!(rt; found == octets_of(alloc, "04 83 0F FB FC, 41 x1047548")?);
+    let found = segments_before(alloc, "04 82 0B FD, 41 x3069")?;
+    assert_eq!(rt; found.err(), Some(Refusal::TooLong));
+    let found = segments_before(alloc, "04 83 00 0B FC, 41 x3068")?;
+    assert_eq!(rt; found.err(), Some(Refusal::TooLong));
     Ok(())
 }

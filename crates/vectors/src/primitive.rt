@@ -1,7 +1,6 @@
 //! Primitive encodings of all types but ENUMERATED (X.690 8.2, 8.3, 8.6 to 8.8, 8.19, 8.20, 8.23, 8.25).
 
 use crate::checks::check_table;
-use convert::Canonical;
 use std::test::Fail;
 
 // octets | under DER
@@ -15,8 +14,9 @@ BOOLEAN:
 01 82 00 01 00           | 01 01 00
                          | refused 1
 01 01                    | refused 1
-01 01 FF 02              | refused 2
-01 01 FF 00 00           | refused 2
+01 01 FF 02              | left over
+01 01 FF 00 00           | left over
+02                       | refused 2
 02 01 FF                 | refused 2
 00 00                    | refused 5
 01 02 FF FF              | refused 6
@@ -98,7 +98,7 @@ OCTET STRING:
 04 84 00 00 00 01 41     | 04 01 41
 04 02 41                 | refused 1
 05 00                    | refused 2
-04 01 41 41              | refused 2
+04 01 41 41              | left over
 04 80                    | refused 3
 04 FF                    | refused 4
 04 84 00 10 00 01        | refused 4
@@ -155,27 +155,27 @@ OCTET STRING:
 04 82 FF FF, 00 x65535           | kept
 04 83 01 00 00, 00 x65536        | kept
 # 1,048,576 octets with identifier and length, and one more
-04 83 0F FF FB, 00 x1048571      | kept
+04 83 0F FF FB, 00 x1048571      | kept | refused 14
 04 83 0F FF FC, 00 x1048572      | refused 11
 04 84 00 0F FF FB, 00 x1048571   | refused 11
 ";
 
 #[test]
 fn simple_types(rt: HostRuntime) -> Result<(), Fail> {
-    check_table(&rt, Canonical::Der, SIMPLE_TYPES)
+    check_table(rt.alloc(), SIMPLE_TYPES)
 }
 
 #[test]
 fn strings(rt: HostRuntime) -> Result<(), Fail> {
-    check_table(&rt, Canonical::Der, STRINGS)
+    check_table(rt.alloc(), STRINGS)
 }
 
 #[test]
 fn times(rt: HostRuntime) -> Result<(), Fail> {
-    check_table(&rt, Canonical::Der, TIMES)
+    check_table(rt.alloc(), TIMES)
 }
 
 #[test]
 fn octet_strings_by_size(rt: HostRuntime) -> Result<(), Fail> {
-    check_table(&rt, Canonical::Der, SIZES)
+    check_table(rt.alloc(), SIZES)
 }

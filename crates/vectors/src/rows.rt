@@ -1,13 +1,81 @@
 //! How the tables of octets are read.
 //!
-//! A line that ends with a colon names the type of the rows below it, a remark begins with `#`. A row has
-//! octets, a bar, and what they become: octets, `kept` for the same ones, or `refused` and a number.
+//! A line that ends with a colon is the type of the rows below it, a remark begins with `#`. A row has octets,
+//! what they become under DER, and what under CER, with bars between. The second or the third column may be empty
+//! or missing. What they become is octets, `kept` for the same ones, `refused` and a number, or `left over` where a
+//! value ends before the octets do. What a reader refuses stands in the second column alone, and `refused 14` means
+//! one writer.
+//!
 //! Octets are parts with commas between them: hexadecimal digits, or characters between `'`. A part that
 //! ends with `x` and a number stands there as many times.
 
-use convert::{Class, Tag, TextKind, TimeKind, Ty, WellTyped, unhex};
+use convert::{WellTyped, unhex};
 use std::alloc::Global;
 use std::test::Fail;
+
+/// A row of a table.
+#[derive(Drop)]
+pub struct Row<'a> {
+    pub ty: &'a WellTyped,
+    pub line: &'a str,
+    pub octets: Vec<u8>,
+    pub der: Becomes,
+    pub cer: Becomes,
+}
+
+impl<'a> Row<'a> {
+    /// Whether the octets are too many to be read often.
+    pub fn is_long(&self) -> bool {
+        self.octets.len() > 1_100
+    }
+}
+
+/// What octets become under a rule.
+#[derive(Drop)]
+pub enum Becomes {
+    Octets(Vec<u8>),
+    Refused(u8),
+    LeftOver,
+    NotSaid,
+}
+
+/// The row that a line has, where it is no remark and no type.
+pub fn row_of<'a>(
+    alloc: Global,
+    ty: &'a WellTyped,
+    line: &'a str,
+) -> Result<Option<Row<'a>>, Fail> {
+    if line.starts_with('#') {
+        return Ok(None);
+    }
+    let Some((octets, columns)) = line.split_once('|') else {
+        return Ok(None);
+    };
+    let octets = octets_of(alloc, octets)?;
+    let (der, cer) = columns.split_once('|').unwrap_or((columns, ""));
+    let der = outcome_of(alloc, octets.as_slice(), der.trim())?;
+    let cer = outcome_of(alloc, octets.as_slice(), cer.trim())?;
+    Ok(Some(Row {
+        ty,
+        line,
+        octets,
+        der,
+        cer,
+    }))
+}
+
+// What a column says that octets become.
+fn outcome_of(alloc: Global, octets: &[u8], column: &str) -> Result<Becomes, Fail> {
+    if let Some(number) = column.strip_prefix("refused ") {
+        return Ok(Becomes::Refused(number.parse::<u8>()?));
+    }
+    Ok(match column {
+        "" => Becomes::NotSaid,
+        "left over" => Becomes::LeftOver,
+        "kept" => Becomes::Octets(Vec::from_slice(alloc, octets)?),
+        _ => Becomes::Octets(octets_of(alloc, column)?),
+    })
+}
 
 /// The octets that a column spells.
 pub fn octets_of(alloc: Global, column: &str) -> Result<Vec<u8>, Fail> {
@@ -28,57 +96,4 @@ fn octets_of_part(alloc: Global, part: &str) -> Result<Vec<u8>, Fail> {
         Some((_, text)) => Ok(Vec::from_slice(alloc, text.trim_end_matches('\'').as_bytes())?),
         None => Ok(unhex(alloc, part.as_bytes())?),
     }
-}
-
-/// The type of a name, which may stand behind a tag in brackets.
-pub fn type_of(text: &str) -> Result<WellTyped, Fail> {
-    let ty = match text.split_once("] ") {
-        Some((tag, name)) => {
-            let tag = tag_of(tag).ok_or("no such tag")?;
-            type_under(Some(tag), name)
-        }
-        None => type_under(None, text),
-    };
-    Ok(WellTyped::new(ty.ok_or("no such type")?)?)
-}
-
-// The tag behind an open bracket: its class, which is context-specific where none is named, and its number.
-fn tag_of(text: &str) -> Option<Tag> {
-    let (class, number) = match text.split_once(' ') {
-        Some(("[APPLICATION", number)) => (Class::Application, number),
-        Some(("[PRIVATE", number)) => (Class::Private, number),
-        Some(_) => return None,
-        None => (Class::Context, text.strip_prefix('[')?),
-    };
-    let number = number.parse::<u32>().ok()?;
-    Some(Tag { class, number })
-}
-
-/// A tag that the standard assigns.
-pub fn universal(number: u32) -> Tag {
-    let class = Class::Universal;
-    Tag { class, number }
-}
-
-// The type of a name under a tag, or under its universal tag.
-fn type_under(tag: Option<Tag>, name: &str) -> Option<Ty> {
-    let ty = match name {
-        "BOOLEAN" => Ty::Boolean(tag.unwrap_or(universal(1))),
-        "INTEGER" => Ty::Integer(tag.unwrap_or(universal(2))),
-        "BIT STRING" => Ty::Bits(tag.unwrap_or(universal(3))),
-        "OCTET STRING" => Ty::Octets(tag.unwrap_or(universal(4))),
-        "NULL" => Ty::Null(tag.unwrap_or(universal(5))),
-        "OBJECT IDENTIFIER" => Ty::Oid(tag.unwrap_or(universal(6))),
-        "UTF8String" => Ty::Text(tag.unwrap_or(universal(12)), TextKind::Utf8),
-        "RELATIVE-OID" => Ty::RelativeOid(tag.unwrap_or(universal(13))),
-        "NumericString" => Ty::Text(tag.unwrap_or(universal(18)), TextKind::Numeric),
-        "PrintableString" => Ty::Text(tag.unwrap_or(universal(19)), TextKind::Printable),
-        "IA5String" => Ty::Text(tag.unwrap_or(universal(22)), TextKind::Ia5),
-        "UTCTime" => Ty::Time(tag.unwrap_or(universal(23)), TimeKind::Utc),
-        "GeneralizedTime" => Ty::Time(tag.unwrap_or(universal(24)), TimeKind::Generalized),
-        "VisibleString" => Ty::Text(tag.unwrap_or(universal(26)), TextKind::Visible),
-        "BMPString" => Ty::Text(tag.unwrap_or(universal(30)), TextKind::Bmp),
-        _ => return None,
-    };
-    Some(ty)
 }

@@ -3,7 +3,6 @@
 //! the next: the alphabet is asked of the whole.
 
 use crate::checks::check_table;
-use convert::Canonical;
 use std::test::Fail;
 
 // octets | under DER
@@ -19,7 +18,7 @@ OCTET STRING:
 24 0B 24 80 04 81 01 41 00 00 04 01 42        | 04 02 41 42
 24 80 24 03 04 01 41 24 03 04 01 42 00 00     | 04 02 41 42
 24 80 03 02 00 41 00 00                       | refused 2
-24 80 04 01 41 00 00 00                       | refused 2
+24 80 04 01 41 00 00 00                       | left over
 24 03 04 82 00 01 41                          | refused 4
 24 02 1F 81 00                                | refused 4
 BIT STRING:
@@ -125,15 +124,15 @@ BIT STRING:
 
 #[test]
 fn strings(rt: HostRuntime) -> Result<(), Fail> {
-    check_table(&rt, Canonical::Der, STRINGS)
+    check_table(rt.alloc(), STRINGS)
 }
 
 #[test]
 fn texts(rt: HostRuntime) -> Result<(), Fail> {
-    check_table(&rt, Canonical::Der, TEXTS)
+    check_table(rt.alloc(), TEXTS)
 }
 
 #[test]
 fn ends(rt: HostRuntime) -> Result<(), Fail> {
-    check_table(&rt, Canonical::Der, ENDS)
+    check_table(rt.alloc(), ENDS)
 }

@@ -1,8 +1,8 @@
 //! Types under tags other than the universal ones (X.680 8, X.690 8.14).
 
 use crate::checks::check_table;
-use crate::rows::type_of;
-use convert::{Canonical, Class, Tag, Ty, TypeFault, Value, WellTyped, conforms};
+use crate::types_by_name::type_of;
+use convert::{Class, Tag, Ty, TypeFault, Value, WellTyped, conforms};
 use std::test::Fail;
 
 // octets | under DER
@@ -44,7 +44,7 @@ DF FF FF FF 7F 81 00     | DF FF FF FF 7F 00
 
 #[test]
 fn other_tags(rt: HostRuntime) -> Result<(), Fail> {
-    check_table(&rt, Canonical::Der, OTHER_TAGS)
+    check_table(rt.alloc(), OTHER_TAGS)
 }
 
 #[test]
@@ -65,7 +65,7 @@ fn tags_of_no_type(rt: HostRuntime) {
 
 #[test]
 fn value_under_another_tag(rt: HostRuntime) -> Result<(), Fail> {
-    let ty = type_of("[PRIVATE 0] INTEGER")?;
+    let ty = type_of(rt.alloc(), "[PRIVATE 0] INTEGER")?;
     assert!(rt; conforms(ty.as_type(), &Value::Integer(-1)));
     assert!(rt; !conforms(ty.as_type(), &Value::Null));
     Ok(())

@@ -1,0 +1,189 @@
+//! What holds of the octets that BER accepts.
+
+use crate::answers::{convert_by, number_of, read_by, write_by};
+use crate::checks::{RULES, expect, expect_number, name_of, refused};
+use crate::pieces::{check_end_fed, check_front_fed, check_pieces};
+use crate::rows::{Becomes, Row};
+use convert::{Canonical, Rule, Value};
+use std::alloc::Global;
+use std::test::Fail;
+
+/// Checks what octets become under DER and CER, and that these octets are taken and no fewer.
+pub fn check_accepted(alloc: Global, row: &Row) -> Result<(), Fail> {
+    let octets = row.octets.as_slice();
+    let read = read_by(alloc, Rule::Ber, row.ty, octets);
+    check_pieces(alloc, row, octets, &read)?;
+    match read {
+        Ok((value, used)) => {
+            expect(used == octets.len(), "not all octets taken", row)?;
+            check_written(alloc, row, Canonical::Der, &row.der, &value)?;
+            check_written(alloc, row, Canonical::Cer, &row.cer, &value)?;
+        }
+        Err(refusal) => refused(refusal, "no value", row)?,
+    }
+    if row.is_long() {
+        return Ok(());
+    }
+    check_crossed(alloc, row)?;
+    check_fronts(alloc, row, octets)?;
+    check_ends(alloc, row)
+}
+
+// Checks what a value becomes under a rule.
+fn check_written(
+    alloc: Global,
+    row: &Row,
+    to: Canonical,
+    becomes: &Becomes,
+    value: &Value,
+) -> Result<(), Fail> {
+    match write_by(alloc, to, row.ty, value) {
+        Ok(written) => {
+            let written = written.as_slice();
+            expect(is_what(becomes, written), written_by(to), row)?;
+            check_conversion(alloc, row, to, written)?;
+            check_strict(alloc, row, to, written)
+        }
+        Err(refusal) => {
+            let number = refusal.number();
+            expect(is_refused(becomes, number), written_by(to), row)?;
+            check_unwritten(alloc, row, to, number)
+        }
+    }
+}
+
+fn is_what(becomes: &Becomes, written: &[u8]) -> bool {
+    match becomes {
+        Becomes::Octets(want) => written == want.as_slice(),
+        Becomes::NotSaid => true,
+        Becomes::Refused(_) => false,
+        Becomes::LeftOver => false,
+    }
+}
+
+fn is_refused(becomes: &Becomes, number: u8) -> bool {
+    match becomes {
+        Becomes::Refused(want) => number == *want,
+        Becomes::Octets(_) => false,
+        Becomes::NotSaid => false,
+        Becomes::LeftOver => false,
+    }
+}
+
+fn written_by(to: Canonical) -> &'static str {
+    match to {
+        Canonical::Cer => "written by CER",
+        Canonical::Der => "written by DER",
+    }
+}
+
+// The rule that a canonical one is.
+fn rule_of(to: Canonical) -> Rule {
+    match to {
+        Canonical::Cer => Rule::Cer,
+        Canonical::Der => Rule::Der,
+    }
+}
+
+// Checks that the octets become what is written, which becomes itself.
+fn check_conversion(alloc: Global, row: &Row, to: Canonical, written: &[u8]) -> Result<(), Fail> {
+    let octets = convert_by(alloc, (Rule::Ber, to), row.ty, row.octets.as_slice())?;
+    expect(octets.as_slice() == written, "converted from BER", row)?;
+    if row.is_long() {
+        return Ok(());
+    }
+    for from in [Rule::Ber, rule_of(to)] {
+        let again = convert_by(alloc, (from, to), row.ty, written)?;
+        expect(again.as_slice() == written, "converted to itself", row)?;
+    }
+    Ok(())
+}
+
+// Checks that the strict reader of a rule takes what is written, and neither its fronts nor other octets.
+fn check_strict(alloc: Global, row: &Row, to: Canonical, written: &[u8]) -> Result<(), Fail> {
+    let rule = rule_of(to);
+    if row.octets.as_slice() != written {
+        check_not_canonical(alloc, row, rule)?;
+        check_fronts(alloc, row, written)?;
+    }
+    match read_by(alloc, rule, row.ty, written) {
+        Ok((_, used)) => expect(used == written.len(), name_of(rule), row),
+        Err(refusal) => refused(refusal, name_of(rule), row),
+    }
+}
+
+// Checks that a rule refuses octets that are not what it writes.
+fn check_not_canonical(alloc: Global, row: &Row, rule: Rule) -> Result<(), Fail> {
+    let octets = row.octets.as_slice();
+    let answer = read_by(alloc, rule, row.ty, octets);
+    expect_number(number_of(answer), 12, name_of(rule), row)?;
+    if row.is_long() {
+        return Ok(());
+    }
+    let answer = convert_by(alloc, (rule, Canonical::Der), row.ty, octets);
+    expect_number(number_of(answer), 12, "converted", row)
+}
+
+// Checks that no conversion and no strict reader takes what a rule cannot write.
+fn check_unwritten(alloc: Global, row: &Row, to: Canonical, number: u8) -> Result<(), Fail> {
+    let octets = row.octets.as_slice();
+    let answer = convert_by(alloc, (Rule::Ber, to), row.ty, octets);
+    expect_number(number_of(answer), number, "converted from BER", row)?;
+    if row.is_long() {
+        return Ok(());
+    }
+    check_not_canonical(alloc, row, rule_of(to))
+}
+
+// Checks that what one rule writes becomes what the other does.
+fn check_crossed(alloc: Global, row: &Row) -> Result<(), Fail> {
+    let octets = row.octets.as_slice();
+    let der = convert_by(alloc, (Rule::Ber, Canonical::Der), row.ty, octets)?;
+    let cer = convert_by(alloc, (Rule::Ber, Canonical::Cer), row.ty, octets)?;
+    let der_of_cer = convert_by(alloc, (Rule::Cer, Canonical::Der), row.ty, cer.as_slice())?;
+    expect(der_of_cer.as_slice() == der.as_slice(), "CER to DER", row)?;
+    let cer_of_der = convert_by(alloc, (Rule::Der, Canonical::Cer), row.ty, der.as_slice())?;
+    expect(cer_of_der.as_slice() == cer.as_slice(), "DER to CER", row)
+}
+
+// Checks that no octet of an encoding can be done without.
+fn check_fronts(alloc: Global, row: &Row, octets: &[u8]) -> Result<(), Fail> {
+    if row.is_long() {
+        return Ok(());
+    }
+    for end in 0..octets.len() {
+        check_front(alloc, row, &octets[..end])?;
+    }
+    Ok(())
+}
+
+fn check_front(alloc: Global, row: &Row, front: &[u8]) -> Result<(), Fail> {
+    for rule in RULES {
+        let answer = read_by(alloc, rule, row.ty, front);
+        expect_number(number_of(answer), 1, "a front", row)?;
+    }
+    let answer = convert_by(alloc, (Rule::Ber, Canonical::Der), row.ty, front);
+    expect_number(number_of(answer), 1, "a front converted", row)?;
+    check_front_fed(alloc, row, front)
+}
+
+// Checks that octets are read whole, and not what follows them: octets that begin an end of contents, a value, a
+// segment and one with parts.
+fn check_ends(alloc: Global, row: &Row) -> Result<(), Fail> {
+    for next in [0x00, 0x02, 0x04, 0x24, 0x30] {
+        let mut more = Vec::from_slice(alloc, row.octets.as_slice())?;
+        more.push(next)?;
+        check_end(alloc, row, more.as_slice())?;
+    }
+    Ok(())
+}
+
+fn check_end(alloc: Global, row: &Row, more: &[u8]) -> Result<(), Fail> {
+    match read_by(alloc, Rule::Ber, row.ty, more) {
+        Ok((_, used)) => expect(used == row.octets.len(), "before an octet", row)?,
+        Err(refusal) => refused(refusal, "before an octet", row)?,
+    }
+    let answer = convert_by(alloc, (Rule::Ber, Canonical::Der), row.ty, more);
+    expect_number(number_of(answer), 2, "with an octet left over", row)?;
+    check_end_fed(alloc, row, more)
+}

@@ -1,0 +1,150 @@
+//! SEQUENCE, SEQUENCE OF, CHOICE and explicit tags (X.690 8.9, 8.10, 8.13 and 8.14), with components that may be
+//! absent (X.690 11.5).
+
+use crate::checks::check_table;
+use std::test::Fail;
+
+// octets | under DER | under CER
+const COMPONENTS: &str = "
+SEQUENCE { }:
+30 00                          | kept                       | 30 80 00 00
+30 80 00 00                    | 30 00                      | kept
+30 82 00 00                    | 30 00                      | 30 80 00 00
+SEQUENCE { a INTEGER OPTIONAL, b BOOLEAN }:
+30 03 01 01 FF                 | kept                       | 30 80 01 01 FF 00 00
+30 06 02 01 05 01 01 01        | 30 06 02 01 05 01 01 FF    | 30 80 02 01 05 01 01 FF 00 00
+30 80 02 01 05 01 01 00 00 00  | 30 06 02 01 05 01 01 00    | kept
+30 03 02 01 05                 | refused 8
+30 80 02 01 05 00 00           | refused 8
+30 06 01 01 FF 02 01 05        | refused 2
+30 06 01 01 FF 01 01 FF        | refused 2
+30 06 02 01 05 02 01 05        | refused 2
+30 05 01 01 FF 00 00           | refused 2
+SEQUENCE { a INTEGER OPTIONAL, b BOOLEAN OPTIONAL, c NULL OPTIONAL }:
+30 00                          | kept                       | 30 80 00 00
+30 02 05 00                    | kept                       | 30 80 05 00 00 00
+30 05 02 01 00 05 00           | kept                       | 30 80 02 01 00 05 00 00 00
+30 08 02 01 00 01 01 00 05 00  | kept                       | 30 80 02 01 00 01 01 00 05 00 00 00
+30 05 05 00 02 01 00           | refused 2
+30 04 05 00 05 00              | refused 2
+[APPLICATION 40] SEQUENCE { a [1] SEQUENCE { b NULL }, c [2] SEQUENCE { } OPTIONAL }:
+7F 28 04 A1 02 05 00           | kept                       | 7F 28 80 A1 80 05 00 00 00 00 00
+7F 28 80 A1 80 05 00 00 00 A2 80 00 00 00 00 | 7F 28 06 A1 02 05 00 A2 00 | kept
+7F 28 02 A2 00                 | refused 8
+7F 28 02 A1 00                 | refused 8
+30 04 A1 02 05 00              | refused 2
+";
+
+// octets | under DER | under CER
+const DEFAULTS: &str = "
+SEQUENCE { a [0] INTEGER DEFAULT 1, b [1] BOOLEAN }:
+30 03 81 01 FF                 | kept                       | 30 80 81 01 FF 00 00
+30 06 80 01 01 81 01 FF        | 30 03 81 01 FF             | 30 80 81 01 FF 00 00
+30 07 80 81 01 01 81 01 2A     | 30 03 81 01 FF             | 30 80 81 01 FF 00 00
+30 06 80 01 02 81 01 00        | kept                       | 30 80 80 01 02 81 01 00 00 00
+30 06 80 01 01 80 01 01        | refused 2
+30 03 80 01 01                 | refused 8
+30 07 80 02 00 01 81 01 FF     | refused 6
+SEQUENCE { a BOOLEAN DEFAULT TRUE, b OCTET STRING DEFAULT '4142'H }:
+30 00                          | kept                       | 30 80 00 00
+30 03 01 01 01                 | 30 00                      | 30 80 00 00
+30 03 01 01 00                 | kept                       | 30 80 01 01 00 00 00
+30 04 04 02 41 42              | 30 00                      | 30 80 00 00
+30 0A 24 80 04 01 41 04 01 42 00 00 | 30 00                 | 30 80 00 00
+30 0B 01 01 FF 24 06 04 01 41 04 01 42 | 30 00              | 30 80 00 00
+30 04 24 02 04 00              | 30 02 04 00                | 30 80 04 00 00 00
+30 03 04 01 41                 | kept                       | 30 80 04 01 41 00 00
+SEQUENCE { a [0] EXPLICIT INTEGER DEFAULT -1, b [1] EXPLICIT INTEGER OPTIONAL }:
+30 05 A0 03 02 01 FF           | 30 00                      | 30 80 00 00
+30 80 A0 80 02 81 01 FF 00 00 00 00 | 30 00                 | 30 80 00 00
+30 05 A1 03 02 01 FF           | kept                       | 30 80 A1 80 02 01 FF 00 00 00 00
+30 05 A0 03 02 01 01           | kept                       | 30 80 A0 80 02 01 01 00 00 00 00
+";
+
+// octets | under DER | under CER
+const ITEMS: &str = "
+SEQUENCE OF NULL:
+30 04 05 00 05 00              | kept                       | 30 80 05 00 05 00 00 00
+30 80 05 81 00 00 00           | 30 02 05 00                | 30 80 05 00 00 00
+30 00                          | kept                       | 30 80 00 00
+30 02 00 00                    | refused 5
+SEQUENCE OF INTEGER:
+30 09 02 01 05 02 01 03 02 01 05 | kept                     | 30 80 02 01 05 02 01 03 02 01 05 00 00
+30 06 02 01 05 01 01 05        | refused 2
+30 03 02 02 05 00              | refused 4
+30 05 02 01 05                 | refused 1
+30 02 02 11                    | refused 6
+SEQUENCE OF SEQUENCE OF INTEGER:
+30 80 30 80 00 00 30 03 02 01 01 00 00 | 30 07 30 00 30 03 02 01 01 | 30 80 30 80 00 00 30 80 02 01 01 00 00 00 00
+30 04 30 80 00 00              | 30 02 30 00                | 30 80 30 80 00 00 00 00
+30 04 30 80 02 01              | refused 4
+30 02 30 80                    | refused 4
+SEQUENCE OF OCTET STRING:
+30 80 24 80 04 01 41 00 00 04 00 00 00 | 30 05 04 01 41 04 00 | 30 80 04 01 41 04 00 00 00
+30 04 24 80 04 00              | refused 4
+SEQUENCE OF SEQUENCE { a INTEGER OPTIONAL, b CHOICE { c NULL, d SEQUENCE OF BOOLEAN } }:
+30 0D 30 02 05 00 30 80 02 01 07 30 00 00 00 | 30 0B 30 02 05 00 30 05 02 01 07 30 00 | 30 80 30 80 05 00 00 00 30 80 02 01 07 30 80 00 00 00 00 00 00
+30 80 30 80 30 80 01 01 01 00 00 00 00 00 00 | 30 07 30 05 30 03 01 01 FF | 30 80 30 80 30 80 01 01 FF 00 00 00 00 00 00
+30 04 30 02 30 00              | kept                       | 30 80 30 80 30 80 00 00 00 00 00 00
+30 05 30 03 02 01 07           | refused 8
+";
+
+// octets | under DER | under CER
+const CHOICES_AND_TAGS: &str = "
+CHOICE { x [0] NULL, y [1] BOOLEAN }:
+80 00                          | kept                       | 80 00
+81 01 01                       | 81 01 FF                   | 81 01 FF
+82 00                          | refused 2
+A0 00                          | refused 3
+CHOICE { a INTEGER, b CHOICE { c BOOLEAN, d SEQUENCE OF INTEGER } }:
+02 01 03                       | kept                       | 02 01 03
+01 01 2A                       | 01 01 FF                   | 01 01 FF
+30 80 02 01 04 00 00           | 30 03 02 01 04             | kept
+31 00                          | refused 2
+SEQUENCE { a [0] EXPLICIT CHOICE { x [0] NULL, y [1] BOOLEAN }, b [1] INTEGER }:
+30 07 A0 02 80 00 81 01 05     | kept                       | 30 80 A0 80 80 00 00 00 81 01 05 00 00
+30 80 A0 80 80 00 00 00 81 01 05 00 00 | 30 07 A0 02 80 00 81 01 05 | kept
+30 08 A0 03 81 01 2A 81 01 05  | 30 08 A0 03 81 01 FF 81 01 05 | 30 80 A0 80 81 01 FF 00 00 81 01 05 00 00
+30 05 A0 00 81 01 05           | refused 4
+30 09 A0 04 80 00 80 00 81 01 05 | refused 2
+[1] EXPLICIT INTEGER:
+A1 03 02 01 05                 | kept                       | A1 80 02 01 05 00 00
+A1 80 02 01 05 00 00           | A1 03 02 01 05             | kept
+A1 06 02 01 05 02 01 05        | refused 2
+A1 05 02 01 05 00 00           | refused 2
+A1 80 02 01 05 02 01 05 00 00  | refused 2
+A1 00                          | refused 4
+A1 80 00 00                    | refused 5
+A1 02 00 00                    | refused 5
+A1 03 01 01 05                 | refused 2
+81 01 05                       | refused 3
+[0] EXPLICIT [1] EXPLICIT BOOLEAN:
+A0 05 A1 03 01 01 01           | A0 05 A1 03 01 01 FF       | A0 80 A1 80 01 01 FF 00 00 00 00
+A0 80 A1 03 01 01 FF 00 00     | A0 05 A1 03 01 01 FF       | A0 80 A1 80 01 01 FF 00 00 00 00
+A0 03 A1 01 01                 | refused 4
+A0 04 A1 02 01 00              | refused 6
+[0] EXPLICIT CHOICE { a [0] EXPLICIT NULL, b [1] OCTET STRING }:
+A0 04 A0 02 05 00              | kept                       | A0 80 A0 80 05 00 00 00 00 00
+A0 05 A1 03 04 01 41           | A0 03 81 01 41             | A0 80 81 01 41 00 00
+A0 02 05 00                    | refused 2
+";
+
+#[test]
+fn components(rt: HostRuntime) -> Result<(), Fail> {
+    check_table(rt.alloc(), COMPONENTS)
+}
+
+#[test]
+fn defaults(rt: HostRuntime) -> Result<(), Fail> {
+    check_table(rt.alloc(), DEFAULTS)
+}
+
+#[test]
+fn items(rt: HostRuntime) -> Result<(), Fail> {
+    check_table(rt.alloc(), ITEMS)
+}
+
+#[test]
+fn choices_and_tags(rt: HostRuntime) -> Result<(), Fail> {
+    check_table(rt.alloc(), CHOICES_AND_TAGS)
+}
