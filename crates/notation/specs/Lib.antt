@@ -1,0 +1,13 @@
+pub mod Universal
+pub mod Tagging
+pub mod Numbering
+pub mod Defaults
+pub mod Meaning
+pub mod Under
+pub mod Parts
+pub mod References
+pub mod Fault
+pub mod Size
+pub mod Refused
+pub mod Known
+pub mod Waiting

@@ -1,0 +1,70 @@
+//! The cause to refuse a name that reaches a cycle of references.
+
+use crate::references::references_of;
+use crate::scope::Scope;
+use crate::stop::Cause;
+use std::alloc::{AllocError, Global};
+
+/// The assignments that are reached from one.
+#[derive(Drop)]
+struct Reached {
+    /// Of each assignment, whether it is reached.
+    marks: Vec<bool>,
+    /// The places of those that are reached, in the order in which they were found.
+    places: Vec<usize>,
+}
+
+impl Reached {
+    fn add(&mut self, place: usize) -> Result<(), AllocError> {
+        if let Some(mark) = self.marks.get_mut(place) {
+            if !*mark {
+                *mark = true;
+                self.places.push(place)?;
+            }
+        }
+        Ok(())
+    }
+}
+
+impl Scope<'_> {
+    /// The cause to refuse the assignment at this place, which is not known once all that can be are: a
+    /// reference that is not assigned, or else a cycle.
+    pub fn cause_to_refuse(&self, alloc: Global, place: usize) -> Result<Cause, AllocError> {
+        let mut reached = Reached {
+            marks: Vec::new(alloc),
+            places: Vec::new(alloc),
+        };
+        for _known in &self.seen {
+            reached.marks.push(false)?;
+        }
+        reached.add(place)?;
+        for turn in 0..self.seen.len() {
+            let Some(place) = reached.places.get(turn) else {
+                return Ok(Cause::Cycle);
+            };
+            if !self.reach(alloc, *place, &mut reached)? {
+                return Ok(Cause::UnknownType);
+            }
+        }
+        Ok(Cause::Cycle)
+    }
+
+    /// Adds what the assignment at this place refers to. Whether all of it is assigned.
+    fn reach(
+        &self,
+        alloc: Global,
+        place: usize,
+        reached: &mut Reached,
+    ) -> Result<bool, AllocError> {
+        let Some(body) = self.body_at(place) else {
+            return Ok(true);
+        };
+        for name in &references_of(alloc, body)? {
+            let Some(used) = self.place_of(name) else {
+                return Ok(false);
+            };
+            reached.add(used)?;
+        }
+        Ok(true)
+    }
+}

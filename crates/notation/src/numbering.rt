@@ -1,0 +1,107 @@
+//! The numbers of the items of an ENUMERATED (X.680 clause 20).
+
+use crate::stop::{Cause, Stop};
+use std::alloc::{AllocError, Global};
+use syntax::{Item, SignedNumber};
+
+/// The number, where it is within -2^127 to 2^127-1.
+pub fn number_of(signed: SignedNumber) -> Option<i128> {
+    if !signed.negative {
+        return i128::try_from(signed.magnitude).ok();
+    }
+    if signed.magnitude == 1 << 127 {
+        return Some(i128::MIN);
+    }
+    match i128::try_from(signed.magnitude) {
+        Ok(magnitude) => Some(-magnitude),
+        Err(_) => None,
+    }
+}
+
+/// Whether the numbers that are written are within their limits.
+pub fn are_numbers_within(items: &[Item]) -> bool {
+    for item in items {
+        if let Some(signed) = item.number {
+            if number_of(signed).is_none() {
+                return false;
+            }
+        }
+    }
+    true
+}
+
+/// Whether the numbers that are written differ.
+pub fn numbers_differ(alloc: Global, items: &[Item]) -> Result<bool, AllocError> {
+    let written = written_numbers(alloc, items)?;
+    let mut last = None;
+    for number in &written {
+        if last == Some(*number) {
+            return Ok(false);
+        }
+        last = Some(*number);
+    }
+    Ok(true)
+}
+
+/// The numbers that are written, ascending.
+fn written_numbers(alloc: Global, items: &[Item]) -> Result<Vec<i128>, AllocError> {
+    let mut written = Vec::new(alloc);
+    for item in items {
+        if let Some(signed) = item.number {
+            if let Some(number) = number_of(signed) {
+                written.push(number)?;
+            }
+        }
+    }
+    written.sort_unstable();
+    Ok(written)
+}
+
+/// The items with their numbers: those that are written, and for the others in order of text the
+/// successive numbers from 0, but for those that are written.
+pub fn numbered(alloc: Global, items: &[Item]) -> Result<Vec<types::Item>, Stop> {
+    let written = written_numbers(alloc, items)?;
+    let mut free = FreeNumbers {
+        written: &written,
+        passed: 0,
+        next: 0,
+    };
+    let mut numbered = Vec::with_capacity(alloc, items.len())?;
+    for item in items {
+        let number = match item.number {
+            Some(signed) => number_of(signed),
+            None => free.take(),
+        };
+        numbered.push(types::Item {
+            name: item.name.clone()?,
+            number: number.ok_or(Cause::TooLarge)?,
+        })?;
+    }
+    Ok(numbered)
+}
+
+/// The numbers from 0 that are not written.
+#[derive(Drop)]
+struct FreeNumbers<'a> {
+    /// What is written, ascending.
+    written: &'a [i128],
+    /// How many of these are below `next`.
+    passed: usize,
+    /// The least number that is left, or written.
+    next: i128,
+}
+
+impl FreeNumbers<'_> {
+    /// The least number that is left.
+    fn take(&mut self) -> Option<i128> {
+        while self.passed < self.written.len() && self.written[self.passed] <= self.next {
+            if self.written[self.passed] == self.next {
+                self.next = self.next.checked_add(1)?;
+            }
+            self.passed += 1;
+        }
+        let number = self.next;
+        self.next = number.checked_add(1)?;
+        Some(number)
+    }
+}

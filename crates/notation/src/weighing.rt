@@ -1,0 +1,136 @@
+//! How large the type of an expression is, and what is wrong with it, as far as its own text and what
+//! is known of the names in it tell.
+
+use crate::names::{alternatives_differ, components_differ, items_differ};
+use crate::numbering::{are_numbers_within, numbers_differ};
+use crate::scope::Scope;
+use crate::stop::Cause;
+use crate::tagging::{are_alternatives_tagged, are_components_tagged};
+use crate::weight::Weight;
+use std::alloc::{AllocError, Global};
+use syntax::{Alternative, Component, Expr, Item, TagMode, TagPrefix};
+use types::MAX_LIST;
+
+impl<'a> Scope<'a> {
+    /// How large the type is. The tag that a type within it begins with is judged there, its own tag is
+    /// not.
+    #[cycle(weighing)]
+    pub fn weight_of(&self, alloc: Global, expr: &'a Expr) -> Result<Weight, AllocError> {
+        match expr {
+            Expr::Tagged(prefix, inner) => self.weight_of_tagged(alloc, prefix, inner),
+            Expr::List(_, components) => self.weight_of_list(alloc, components),
+            Expr::Of(_, inner) => Ok(self.weight_within(alloc, inner)?.as_constructed()),
+            Expr::Choice(alternatives) => self.weight_of_choice(alloc, alternatives),
+            Expr::Enumerated(items) => weight_of_items(alloc, items),
+            Expr::Simple(_) => Ok(Weight::NOTHING.with_node()),
+            Expr::Reference(name) => Ok(match self.seen_of(name) {
+                Some(seen) => seen.weight,
+                None => Weight::refused(Cause::UnknownType),
+            }),
+        }
+    }
+
+    #[cycle(weighing)]
+    fn weight_of_tagged(
+        &self,
+        alloc: Global,
+        prefix: &TagPrefix,
+        inner: &'a Expr,
+    ) -> Result<Weight, AllocError> {
+        if self.is_explicit(prefix.mode, inner) == Some(true) {
+            return Ok(self.weight_within(alloc, inner)?.as_constructed());
+        }
+        let is_choice = self.is_untagged_choice(inner) == Some(true);
+        let fits = prefix.mode != TagMode::Implicit || !is_choice;
+        Ok(
+            self.weight_of(alloc, inner)?
+                .unless(fits, Cause::ImplicitChoice),
+        )
+    }
+
+    #[cycle(weighing)]
+    fn weight_of_list(
+        &self,
+        alloc: Global,
+        components: &'a [Component],
+    ) -> Result<Weight, AllocError> {
+        let automatic = self.is_automatic(are_components_tagged(components));
+        let mut weight = Weight::NOTHING;
+        for component in components {
+            weight = weight.beside(self.weight_of_part(alloc, automatic, &component.body)?);
+        }
+        Ok(
+            weight
+                .as_constructed()
+                .unless(components.len() <= MAX_LIST, Cause::TooLarge)
+                .unless(components_differ(alloc, components)?, Cause::RepeatedName),
+        )
+    }
+
+    #[cycle(weighing)]
+    fn weight_of_choice(
+        &self,
+        alloc: Global,
+        alternatives: &'a [Alternative],
+    ) -> Result<Weight, AllocError> {
+        let automatic = self.is_automatic(are_alternatives_tagged(alternatives));
+        let mut weight = Weight::NOTHING;
+        for alternative in alternatives {
+            weight = weight.beside(self.weight_of_part(alloc, automatic, &alternative.body)?);
+        }
+        Ok(
+            weight
+                .with_node()
+                .unless(is_length_within(alternatives.len()), Cause::TooLarge)
+                .unless(
+                    alternatives_differ(alloc, alternatives)?,
+                    Cause::RepeatedName,
+                ),
+        )
+    }
+
+    /// How large a component or an alternative is, which may be tagged automatically.
+    #[cycle(weighing)]
+    fn weight_of_part(
+        &self,
+        alloc: Global,
+        automatic: bool,
+        body: &'a Expr,
+    ) -> Result<Weight, AllocError> {
+        if !automatic {
+            return self.weight_within(alloc, body);
+        }
+        let weight = self.weight_of(alloc, body)?;
+        if self.is_untagged_choice(body) == Some(true) {
+            Ok(weight.as_constructed())
+        } else {
+            Ok(weight)
+        }
+    }
+
+    /// How large a type is that stands with its own tag.
+    #[cycle(weighing)]
+    pub fn weight_within(&self, alloc: Global, expr: &'a Expr) -> Result<Weight, AllocError> {
+        let weight = self.weight_of(alloc, expr)?;
+        match self.root_of(expr, None) {
+            Some(root) => Ok(weight.unless(root.is_tag_within(), Cause::TooLarge)),
+            None => Ok(weight),
+        }
+    }
+}
+
+fn weight_of_items(alloc: Global, items: &[Item]) -> Result<Weight, AllocError> {
+    let weight = Weight::NOTHING.with_node();
+    let within = is_length_within(items.len()) && are_numbers_within(items);
+    Ok(
+        weight
+            .unless(within, Cause::TooLarge)
+            .unless(items_differ(alloc, items)?, Cause::RepeatedName)
+            .unless(numbers_differ(alloc, items)?, Cause::RepeatedNumber),
+    )
+}
+
+/// Whether a CHOICE or an ENUMERATED may have so many alternatives or items.
+fn is_length_within(length: usize) -> bool {
+    1 <= length && length <= MAX_LIST
+}
