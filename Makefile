@@ -2,12 +2,20 @@ PREFIX ?= $(HOME)/.local
 
 .PHONY: demo test install clean rt
 
-# Converts 01 01 2a, a BOOLEAN under BER, to DER, by a program that is compiled without a proof.
+# Converts 01 01 2a, a BOOLEAN under BER, to DER, then checks, shows and converts the records of a module, by a
+# program that is compiled once, without a proof. examples/demo/ has the words of each run.
 demo: rt
-	@echo '$$ cat data/in.hex'
-	@cat crates/asn1x/data/in.hex
-	@echo '$$ asn1x $(stored_run)'
-	@$(call quietly,$(in_program) rt try -- $(stored_run))
+	@for file in crates/asn1x/data/in.hex examples/calls.asn examples/calls.hex; do \
+	    echo "$$ cat $${file##*/}" && cat $$file && echo; \
+	done
+	@printed=$$($(call quietly,$(in_program) rt try --cases ../../examples/demo --data in.hex=data/in.hex \
+	    --data calls.asn=../../examples/calls.asn --data calls.hex=../../examples/calls.hex)) && \
+	echo "$$printed" | while read -r line; do \
+	    case $$line in \
+	    '== '*) echo "$$ asn1x $$(paste -sd ' ' examples/demo/$${line#== }.args)" ;; \
+	    *) echo "$$line" ;; \
+	    esac; \
+	done
 	@echo '(compiled with run-time checks, and not yet proved: "make install" proves it)'
 
 # Passes the gate: every proof, must-fail edit, test and stored run.

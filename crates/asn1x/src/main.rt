@@ -1,9 +1,10 @@
-//! The program `asn1x`: fetches its words and opens its files. All else is `convert`'s.
+//! The program `asn1x`: fetches its words, reads its module and opens its input. All else is `convert`'s.
 #![tactic(auto)]
 
-use convert::{Line, LineFault, cannot_open, line, run};
+use convert::{Line, LineFault, cannot_open, cannot_read_module, line, no_words, read_module, run};
 use std::env;
 use std::fs::File;
+use std::io;
 use std::process::ExitCode;
 
 fn main(rt: HostRuntime) -> ExitCode {
@@ -14,26 +15,47 @@ fn main(rt: HostRuntime) -> ExitCode {
 fn status(rt: &HostRuntime) -> u8 {
     match line_of_words(rt) {
         Ok(line) => run_line(rt, &line),
-        Err(fault) => fault.status(),
+        Err(fault) => fault.print(rt),
     }
 }
 
 // The command line that the program was called with.
 fn line_of_words(rt: &HostRuntime) -> Result<Line, LineFault> {
-    let words: Vec<String> = env::args(rt)?.collect(rt.alloc())?;
+    let words = match env::args(rt) {
+        Ok(words) => words,
+        Err(error) => return Err(no_words(rt.alloc(), &error)),
+    };
+    let words: Vec<String> = words.collect(rt.alloc())?;
     let words: Vec<&str> = words.iter().map(|word| word.as_str()).collect(rt.alloc())?;
     line(rt.alloc(), words.as_slice())
 }
 
-// Opens the input and runs a command line over it.
+// Reads the module's file, opens the input and runs a command line over them.
 fn run_line(rt: &HostRuntime, line: &Line) -> u8 {
+    let mut err = rt.stderr();
+    match module_octets(rt, line.module.as_str()) {
+        Ok(module) => run_over(rt, line, module.as_slice()),
+        Err(error) => cannot_read_module(line.module.as_str(), &error, &mut err),
+    }
+}
+
+// The octets of a module's file, of which `@builtin` has none.
+fn module_octets(rt: &HostRuntime, path: &str) -> io::Result<Vec<u8>> {
+    if path == "@builtin" {
+        return Ok(Vec::new(rt.alloc()));
+    }
+    read_module(rt.alloc(), &mut File::open(rt, path)?)
+}
+
+// Opens the input and runs a command line over it.
+fn run_over(rt: &HostRuntime, line: &Line, module: &[u8]) -> u8 {
     let path = line.input.as_str();
     let mut err = rt.stderr();
     match File::open(rt, path) {
         Ok(mut input) => run(
             rt.alloc(),
             line,
-            &[],
+            module,
             &mut input,
             &mut rt.stdout(),
             &mut err,

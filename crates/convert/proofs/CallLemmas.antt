@@ -19,6 +19,8 @@ use Rattle.types.proofs.DepthLemmas.{canonical_are_ber}
 use Rattle.types.proofs.ZipLemmas.{zip_map}
 use Rattle.devices.proofs.DeviceLemmas.{appends_none, consumes_none, appends_more, consumes_more, consumes_keeps}
 use Rattle.convert.specs.Stream.{most_streamed, AreWritten, IsLine, IsConverted, IsChecked, IsListed, IsStopped, IsCheckStopped, Refuses, RefusesToWrite, OfStream}
+use Rattle.convert.specs.Feeding.{IsUnfinished}
+use Rattle.convert.specs.Given.{HasGiven}
 use Rattle.convert.specs.Passing.{Writes, PassesOn, StopsPassing, StandsAfter}
 use Rattle.convert.proofs.StreamLemmas.{written_is_stream}
 use Rattle.convert.proofs.PassingLemmas.{writes_none, writes_on, writes_before, refuses_plainly, other}
@@ -94,6 +96,19 @@ source_fails StandsAt rule shape Stands done total left left_old left_new taken 
     stopped rule shape Stands done SourceFault left left_new taken taken_old s.given s.rest s.written [] (consumes_keeps left left_old left_new s.given s.gives keeps) s.takes s.writes
     (λ more _. refuses_plainly rule shape SourceFault (s.given ++ more) (s.rest ++ more) (λ h. h) (other SourceFault StreamTooLong (λ h. omega (arith, h))))
     (λ more _. writes_no_part rule shape Stands SourceFault (s.rest ++ more) (other SourceFault OutputTooLong (λ h. omega (arith, h))) (other SourceFault SinkFault (λ h. omega (arith, h))))
+
+-- what it gave before
+pub has_given : (StandsAt : List ℕ → Type 0) (rule : Rule) (shape : Shape) (Stands : Meaning) (done total : ℕ) (left left_old left_new taken taken_old : Option (List ℕ))
+    → StandsAfter (IsUnfinished StandsAt rule shape) rule shape Stands done total left left_old taken taken_old → Keeps left_old left_new → HasGiven rule shape done left left_new
+has_given StandsAt rule shape Stands done total left left_old left_new taken taken_old s keeps = record {
+  given = s.given;
+  values = s.writes.values;
+  rest = s.rest;
+  gives = consumes_keeps left left_old left_new s.given s.gives keeps;
+  counted = s.writes.counted;
+  read = s.writes.read;
+  none = s.stands.none;
+}
 
 -- the source gave more than a stream has
 pub too_long : (StandsAt : List ℕ → Type 0) (rule : Rule) (shape : Shape) (Stands : Meaning) (done total : ℕ) (left left_old left_new taken taken_old : Option (List ℕ)) (piece : List ℕ)
@@ -203,3 +218,10 @@ pub all_converted : (from : Rule) (to : Canonical) (shape : Shape) {E : Type 0} 
 all_converted from to shape (Err e) left taken taken_new well h = tt
 all_converted from to shape (Ok done) left taken taken_new well h =
     of_stream _ (IsConverted from (canonical_rule_of to) shape done) left taken taken_new (λ stream written w. converted from (canonical_rule_of to) shape done stream written well (canonical_is to) w.0 w.1) h
+
+pub all_listed : (IsText : Meaning) (from : Rule) (shape : Shape) {E : Type 0} (r : Result ℕ E) (left taken taken_new : Option (List ℕ))
+    → IfOk r (λ done. OfStream left taken taken_new (λ stream written. Writes from shape (IsLine IsText) done stream [] written [] × (length stream ≤ most_streamed)))
+    → IfOk r (λ done. OfStream left taken taken_new (IsListed IsText from shape done))
+all_listed IsText from shape (Err e) left taken taken_new h = tt
+all_listed IsText from shape (Ok done) left taken taken_new h =
+    of_stream _ (IsListed IsText from shape done) left taken taken_new (λ stream written w. listed IsText from shape done stream written w.0 w.1) h

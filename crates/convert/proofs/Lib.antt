@@ -1,9 +1,11 @@
 pub mod TranscodingLemmas
+pub mod LawLemmas
 pub mod HexLemmas
-pub mod OptionLemmas
 pub mod WordLemmas
 pub mod StreamLemmas
 pub mod PassingLemmas
 pub mod CallLemmas
 pub mod StreamInstances
 pub mod FeedingLemmas
+pub mod ReaderLemmas
+pub mod StrictReaderLemmas

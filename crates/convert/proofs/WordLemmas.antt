@@ -1,61 +1,44 @@
--- Lemmas on the words of the command line.
-use Rattle.std.proofs.Common.{◌≡◌, ℕ, ◌-◌, ◌≤◌, true, List, [], ◌∷◌, length, get_or, take, drop, Some, codes, refl, sym, ◌∙◌, ap, subst, arith}
-use Rattle.std.proofs.lemmas.List.{take_all}
-use denote.Bor.{Bor}
+-- What a command line takes of the program's words.
+use Rattle.std.proofs.Common.{◌≡◌, ℕ, List, Option, None, Some, Result, Ok, Err, IfOk, ap, ap₂, refl, sym, ◌∙◌}
+use Rattle.std.specs.Prelude.{option_map}
+use Rattle.clap.specs.Words.{HasMatchesOf, Row, app_of, found_of, rows_of, subcommand_name_of, subcommand_rows_of}
+use Rattle.clap.specs.declared.builder.command.Command.{Command}
+use Rattle.clap.specs.declared.parser.matches.ArgMatches.{ArgMatches}
+use Rattle.clap.specs.declared.parser.matches.ArgMatches.TheViews.{out-ArgMatches, out-SubCommand}
+use Rattle.std.specs.Box.{box_value}
+use Rattle.convert.specs.declared.command_line.Line.{Line}
 use Rattle.convert.specs.declared.command_line.Verb.{Verb}
-use Rattle.convert.specs.declared.command_line.Verb.TheVariants.{Convert}
-use Rattle.convert.specs.declared.rule.Rule.{Rule}
-use Rattle.convert.specs.declared.rule.Canonical.{Canonical}
-use Rattle.convert.specs.CommandLine.{texts_of, Command, command_to_convert, AreOptions, IsCommandLine}
+use Rattle.convert.specs.CommandLine.{word_of_verb}
+use Rattle.convert.specs.Entries.{HasEntries, IsLineOf}
 
--- the first five words, and those behind them
-pub texts_of-five : (words : List (Bor (List ℕ))) (d : Bor (List ℕ)) → 5 ≤ length words
-    → texts_of words ≡ (get_or words 0 d).now ∷ (get_or words 1 d).now ∷ (get_or words 2 d).now ∷ (get_or words 3 d).now ∷ (get_or words 4 d).now ∷ texts_of (take (length words - 5) (drop 5 words))
-texts_of-five [] d enough = absurd (omega (arith, enough))
-texts_of-five (a ∷ []) d enough = absurd (omega (arith, enough))
-texts_of-five (a ∷ b ∷ []) d enough = absurd (omega (arith, enough))
-texts_of-five (a ∷ b ∷ c ∷ []) d enough = absurd (omega (arith, enough))
-texts_of-five (a ∷ b ∷ c ∷ e ∷ []) d enough = absurd (omega (arith, enough))
-texts_of-five (a ∷ b ∷ c ∷ e ∷ f ∷ rest) d enough =
-    ap (λ more. a.now ∷ b.now ∷ c.now ∷ e.now ∷ f.now ∷ texts_of more) (sym (take_all (length (a ∷ b ∷ c ∷ e ∷ f ∷ rest) - 5) rest (omega arith)))
+abbrev pub NamedRows : Type 0
+NamedRows = List ℕ × List Row
 
-pub verb_is : (verb : Verb) → verb ≡ Convert
-verb_is Convert = refl
+abbrev pub named : List ℕ → List Row → Option NamedRows
+named name rows = Some (name, rows)
 
--- a command by its parts
-pub command_is : (other : Command) (name input : List ℕ) (from : Rule) (to : Canonical) → other.module ≡ codes "@builtin" → other.name ≡ name → other.input ≡ input → other.from ≡ from → other.to ≡ Some to → other.hex ≡ true → other ≡ command_to_convert name input from to
-command_is other name input from to built_in is_name is_input is_from is_to is_hex =
-    ap (λ verb. record other { verb = verb }) (verb_is other.verb)
-    ∙ ap (λ at. record (command_to_convert other.name other.input other.from to) { «module» = at; to = other.to; hex = other.hex }) built_in
-    ∙ ap (λ rule. record (command_to_convert other.name other.input other.from to) { to = rule; hex = other.hex }) is_to
-    ∙ ap (λ hex. record (command_to_convert other.name other.input other.from to) { hex = hex }) is_hex
-    ∙ ap (λ x. command_to_convert x other.input other.from to) is_name
-    ∙ ap (λ x. command_to_convert name x other.from to) is_input
-    ∙ ap (λ x. command_to_convert name input x to) is_from
+-- what two views of an option say of it
+of_both : {A : Type 0} (f : A → List ℕ) (h : A → NamedRows) (s : Option A) (name : List ℕ) (rows : List Row) → ((a : A) → f a ≡ (h a).0) → Some name ≡ option_map f s → Some rows ≡ option_map (λ (p : NamedRows). p.1) (option_map h s)
+    → option_map h s ≡ named name rows
+of_both f h None name rows same a b = absurd (cc a)
+of_both f h (Some x) name rows same a b =
+    let name_is : name ≡ f x = cc a in
+    let rows_are : rows ≡ (h x).1 = cc b in
+    ap₂ named (sym (same x) ∙ sym name_is) (sym rows_are)
 
--- the words are those of a command, where the first five are and the others are its options
-pub command_line_of : (words : List (Bor (List ℕ))) (d : Bor (List ℕ)) (from : Rule) (to : Canonical) → 5 ≤ length words → (get_or words 1 d).now ≡ codes "convert" → (get_or words 2 d).now ≡ codes "@builtin" → AreOptions from to (texts_of (take (length words - 5) (drop 5 words)))
-    → IsCommandLine (command_to_convert (get_or words 3 d).now (get_or words 4 d).now from to) (texts_of words)
-command_line_of words d from to enough verb built_in settings = record {
-  program = (get_or words 0 d).now;
-  options = texts_of (take (length words - 5) (drop 5 words));
-  is = rw (← verb, ← built_in) (texts_of-five words d enough);
-  built_in = refl;
-  hex = refl;
-  rule = to;
-  to = refl;
-  settings = settings;
+-- the subcommand that was met
+pub met : (m : ArgMatches) (name : List ℕ) (rows : List Row) → Some name ≡ subcommand_name_of m → Some rows ≡ option_map (λ (p : NamedRows). p.1) (subcommand_rows_of m) → subcommand_rows_of m ≡ named name rows
+met m name rows a b = of_both (λ s. (out-SubCommand (box_value s)).name.now) (λ s. ((out-SubCommand (box_value s)).name.now, rows_of (found_of (out-SubCommand (box_value s)).matches))) (out-ArgMatches m).subcommand name rows (λ s. refl) a b
+
+-- the command line that its entries are
+pub line_of : (words : List (List ℕ)) (command : Command) (m inner : ArgMatches) (name : List ℕ) (verb : Verb) {E : Type 0} (r : Result Line E) → HasMatchesOf (app_of command) words m
+    → subcommand_rows_of m ≡ named name (rows_of (found_of inner)) → name ≡ word_of_verb verb → IfOk r (HasEntries inner) → IfOk r (λ line. line.verb ≡ verb) → IfOk r (IsLineOf words)
+line_of words command m inner name verb (Err e) parsed is name_is entries verb_is = tt
+line_of words command m inner name verb (Ok line) parsed is name_is entries verb_is = record {
+  command = command;
+  matches = m;
+  inner = inner;
+  parsed = parsed;
+  met = is ∙ ap (λ n. named n (rows_of (found_of inner))) (name_is ∙ ap word_of_verb (sym verb_is));
+  entries = entries;
 }
-
--- the options of a command that the words say
-pub options_of : (words : List (Bor (List ℕ))) (d : Bor (List ℕ)) (other : Command) → 5 ≤ length words → (line : IsCommandLine other (texts_of words)) → AreOptions other.from line.rule (texts_of (take (length words - 5) (drop 5 words)))
-options_of words d other enough line =
-    let same = sym line.is ∙ texts_of-five words d enough in
-    let behind : line.options ≡ texts_of (take (length words - 5) (drop 5 words)) = cc same in
-    subst (AreOptions other.from line.rule) behind line.settings
-
--- its type and its input
-pub parts_unique : (words : List (Bor (List ℕ))) (d : Bor (List ℕ)) (other : Command) → 5 ≤ length words → IsCommandLine other (texts_of words) → (other.name ≡ (get_or words 3 d).now) × (other.input ≡ (get_or words 4 d).now)
-parts_unique words d other enough line =
-    let same = sym line.is ∙ texts_of-five words d enough in
-    (cc same, cc same)

@@ -1,10 +1,15 @@
 -- Exit statuses of the program's faults.
-use Rattle.std.specs.Prelude.{◌≡◌, ◌⊎◌, ℕ}
+use Rattle.std.specs.Prelude.{◌≡◌, ◌≢◌, ◌↔◌, ◌⊎◌, ℕ, nat_eq, if◌then◌else◌}
 use Rattle.types.specs.declared.refusal.Refusal.{Refusal}
 use Rattle.types.specs.declared.refusal.Refusal.TheVariants.{SourceFault, SinkFault, NoMemory}
+use Rattle.clap.specs.Words.{kind_of}
+use Rattle.clap.specs.declared.error.Error as clap
+use Rattle.clap.specs.declared.error.kind.ErrorKind.{ErrorKind}
+use Rattle.clap.specs.declared.error.kind.ErrorKind.TheVariants.{DisplayHelp, DisplayVersion, OutOfMemory as OutOfMemoryForWords}
 use Rattle.hex.specs.declared.error.FromHexError.{FromHexError}
 use Rattle.hex.specs.declared.error.FromHexError.TheVariants.{OutOfMemory}
 use Rattle.convert.specs.declared.hex_text.HexFault as hex
+use Rattle.convert.specs.declared.stopped.Stopped.{Stopped}
 use Rattle.convert.specs.declared.fault.Fault as fault
 use Rattle.convert.specs.declared.command_line.LineFault.{LineFault}
 use Rattle.convert.specs.declared.command_line.LineFault.TheVariants.{Words, NoMemory as NoMemoryForWords}
@@ -16,20 +21,38 @@ refusal_status SinkFault = 3
 refusal_status NoMemory = 4
 refusal_status _ = 1
 
+-- 2 where a module is refused, 4 where memory ran out
+abbrev pub module_status : ℕ → ℕ
+module_status number = if nat_eq number 33 then 4 else 2
+
 abbrev pub fault_status : fault.Fault → ℕ
 fault_status (fault.TheVariants.Refused refusal done) = refusal_status refusal
 fault_status fault.TheVariants.NotHexadecimal = 1
 fault_status fault.TheVariants.TextTooLong = 1
 fault_status (fault.TheVariants.CannotRead path) = 3
+fault_status (fault.TheVariants.Module refused) = module_status refused.number
 fault_status fault.TheVariants.NoSuchType = 64
 
-abbrev pub line_fault_status : LineFault → ℕ
-line_fault_status Words = 64
-line_fault_status NoMemoryForWords = 4
+-- what a fault of clap is to the program
+abbrev pub line_fault_by : ErrorKind → clap.Error → LineFault
+line_fault_by OutOfMemoryForWords error = NoMemoryForWords
+line_fault_by _ error = Words error
+
+abbrev pub line_fault_of : clap.Error → LineFault
+line_fault_of error = line_fault_by (kind_of error) error
+
+-- 64 where the words are wrong, 0 where they ask for help or the version, 4 where memory ran out
+abbrev pub IsLineStatus : LineFault → ℕ → Type 0
+IsLineStatus NoMemoryForWords status = status ≡ 4
+IsLineStatus (Words error) status = ((status ≡ 0) ⊎ (status ≡ 64)) × ((status ≡ 64) ↔ ((kind_of error ≢ DisplayHelp) × (kind_of error ≢ DisplayVersion)))
 
 -- what a refusal of octets is to the program, before which no value was done
 abbrev pub fault_of_refusal : Refusal → fault.Fault
 fault_of_refusal refusal = fault.TheVariants.Refused refusal 0
+
+-- what a call over a stream that stopped is to it
+abbrev pub fault_of_stopped : Stopped → fault.Fault
+fault_of_stopped stopped = fault.TheVariants.Refused stopped.refusal stopped.done
 
 -- what a refusal of text is to it
 abbrev pub fault_of_text : hex.HexFault → fault.Fault

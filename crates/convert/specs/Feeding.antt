@@ -7,25 +7,33 @@ use Rattle.types.specs.declared.refusal.Refusal.{Refusal}
 use Rattle.types.specs.declared.refusal.Refusal.TheVariants.{Truncated, NotCanonical, OutputTooLong, NoMemory}
 use Rattle.types.specs.Encoding.{IsAccepted, IsSomeAccepted}
 use Rattle.types.specs.Refusal.{IsFinal}
-use Rattle.types.specs.Shape.{Shape}
+use Rattle.types.specs.Shape.{Shape, Val}
 use Rattle.types.specs.View.{value_view}
-use Rattle.convert.specs.declared.feeding.Step.{Step}
-use Rattle.convert.specs.declared.feeding.Step.TheVariants.{More, Done}
+use Rattle.berreader.specs.declared.pieces.Pieces.{Pieces}
+use Rattle.berreader.specs.declared.reader.Step.{Step}
+use Rattle.berreader.specs.declared.reader.Step.TheVariants.{More, Done}
+use Rattle.berreader.specs.Feeding.{HasBeenFed, shape_of}
 
--- of a piece at least one octet was taken, and no more than it has
-abbrev pub UsesWithin : Step → List ℕ → Type 0
-UsesWithin More piece = ⊤
-UsesWithin (Done value used) piece = (1 ≤ used) × (used ≤ length piece)
+-- a BER reader of the type has refused nothing, and took these octets since no value was begun
+pub record StandsOpen (shape : Shape) (reader : Pieces) (octets : List ℕ) : Type 0 where
+  pub type : shape_of reader ≡ shape
+  pub fed : HasBeenFed reader octets
 
 -- 2 to 12, these only of the canonical rules, and 17
 pub record IsOfFeeding (rule : Rule) (refusal : Refusal) : Type 0 where
   pub number : IsFinal refusal ⊎ (refusal ≡ NoMemory)
   pub strict : refusal ≡ NotCanonical → IsCanonical rule
 
+-- so many octets of a piece complete a value, behind the octets that were taken before it
+pub record IsDone (rule : Rule) (shape : Shape) (v : Val) (used : ℕ) (old piece : List ℕ) : Type 0 where
+  pub some : 1 ≤ used
+  pub there : used ≤ length piece
+  pub accepted : IsAccepted rule shape v (old ++ take used piece)
+
 -- what feeding a piece led to, behind the octets that were taken before it
 abbrev pub IsFed : (List ℕ → Type 0) → Rule → Shape → Result Step Refusal → List ℕ → List ℕ → Type 0
 IsFed StandsAt rule shape (Ok More) old piece = StandsAt (old ++ piece) × ¬ HasFront (IsSomeAccepted rule shape) (old ++ piece)
-IsFed StandsAt rule shape (Ok (Done value used)) old piece = IsAccepted rule shape (value_view value) (old ++ take used piece) × StandsAt []
+IsFed StandsAt rule shape (Ok (Done value used)) old piece = IsDone rule shape (value_view value) used old piece × StandsAt []
 IsFed StandsAt rule shape (Err refusal) old piece = IsOfFeeding rule refusal × (IsFinal refusal → (more : List ℕ) → ¬ HasFront (IsSomeAccepted rule shape) ((old ++ piece) ++ more))
 
 -- Ok exactly where no value is begun

@@ -1,13 +1,16 @@
 pub mod Rule
 pub mod Transcoding
+pub mod Laws
 pub mod HexText
 pub mod Line
 pub mod CommandLine
-pub mod Options
 pub mod Fault
 pub mod Stream
 pub mod Passing
 pub mod Feeding
+pub mod Given
+pub mod Entries
+pub mod StrictReader
 pub use Rattle.devices.specs.Failures
 pub use Rattle.octets.specs.Rule as EncodingRule
 pub use Rattle.octets.specs.Front

@@ -1,10 +1,12 @@
 -- Command lines and exit statuses of the program.
-use Rattle.std.specs.Prelude.{◌≡◌, ◌⊎◌, ℕ, true, List, Some, codes, string_bytes}
+use Rattle.std.specs.Prelude.{◌≡◌, ◌≢◌, ◌↔◌, ◌⊎◌, ℕ, IsSome, List, codes, string_bytes}
 use Rattle.octets.specs.declared.tag.Class.TheVariants.{Universal}
 use Rattle.octets.specs.declared.tag.Tag.{Tag}
 use Rattle.types.specs.Shape.{SimpleType, StringType, Shape}
+use Rattle.syntax.specs.Tree.{Tree}
+use Rattle.syntax.specs.ModuleText.{IsModuleText}
 use Rattle.convert.specs.declared.command_line.Line.{Line}
-use Rattle.convert.specs.declared.rule.Canonical.TheVariants.{Cer, Der}
+use Rattle.convert.specs.declared.command_line.Verb.TheVariants.{Convert}
 
 abbrev pub universal : ℕ → Tag
 universal number = record { class = Universal; number = number }
@@ -17,18 +19,39 @@ IsBuiltIn name shape =
     ⊎ ((name ≡ codes "OCTET STRING") × (shape ≡ Shape.string (universal 4) StringType.octet_string))
     ⊎ ((name ≡ codes "NULL") × (shape ≡ Shape.simple (universal 5) SimpleType.null))
 
--- the line asks for what can be done: a hexadecimal text of the built-in module's, to CER or DER
-pub record IsOneForm (line : Line) : Type 0 where
-  pub built_in : string_bytes line.module ≡ codes "@builtin"
-  pub to : (line.to ≡ Some Cer) ⊎ (line.to ≡ Some Der)
-  pub hex : line.hex ≡ true
+-- a line to convert says by which rule to write
+abbrev pub IsTask : Line → Type 0
+IsTask line = line.verb ≡ Convert → IsSome line.to
 
--- and its type is there
+-- a rule to write by stands there exactly where the values are to be converted
+abbrev pub IsVerbWithRule : Line → Type 0
+IsVerbWithRule line = (line.verb ≡ Convert) ↔ IsSome line.to
+
+-- the line names a module's file
+abbrev pub NamesFile : Line → Type 0
+NamesFile line = string_bytes line.module ≢ codes "@builtin"
+
+-- where the line names no file, it names a built-in type
+abbrev pub CanType : Line → Type 0
+CanType line = string_bytes line.module ≡ codes "@builtin" → (shape : Shape) × IsBuiltIn (string_bytes line.name) shape
+
+-- the status of a line that names no type: 64 where no built-in type has the name, 2 or 4 where a module is refused
+abbrev pub IsFaultOfType : Line → ℕ → Type 0
+IsFaultOfType line status = ((status ≡ 64) × ¬ CanType line) ⊎ (((status ≡ 2) ⊎ (status ≡ 4)) × NamesFile line)
+
+-- the octets of a file spell a module within the limits
+abbrev pub IsModuleFile : List ℕ → Type 0
+IsModuleFile octets = (m : Tree) × IsModuleText octets m
+
+-- the line asks for what can be done
 pub record CanRun (line : Line) : Type 0 where
-  pub form : IsOneForm line
-  pub shape : Shape
-  pub type : IsBuiltIn (string_bytes line.name) shape
+  pub task : IsTask line
+  pub type : CanType line
 
--- 0 all done, 1 octets refused, 3 a file or device, 4 memory, 64 the command line
+-- 0 all done, 1 octets refused, 2 a module refused, 3 a file or device, 4 memory, 64 the command line
 abbrev pub IsStatus : ℕ → Type 0
-IsStatus status = (status ≡ 0) ⊎ (status ≡ 1) ⊎ (status ≡ 3) ⊎ (status ≡ 4) ⊎ (status ≡ 64)
+IsStatus status = (status ≡ 0) ⊎ (status ≡ 1) ⊎ (status ≡ 2) ⊎ (status ≡ 3) ⊎ (status ≡ 4) ⊎ (status ≡ 64)
+
+-- the input is looked at: all was done, or its octets or a device were refused
+abbrev pub IsStatusOfInput : ℕ → Type 0
+IsStatusOfInput status = (status ≡ 0) ⊎ (status ≡ 1) ⊎ (status ≡ 3)

@@ -8,8 +8,9 @@ ghost use Rattle.types.specs.View.{value_view};
 ghost use Rattle.convert.specs.Feeding.{IsUnfinished, IsOfGathering};
 ghost use Rattle.convert.specs.Passing.{IsAdded, HasGathered, StopsGathering};
 
-use crate::feeding::{Feed, Step};
+use crate::feeding::Feed;
 use crate::putting::Put;
+use berreader::Step;
 use std::alloc::Global;
 use types::{Refusal, Value};
 

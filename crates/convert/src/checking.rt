@@ -2,6 +2,7 @@
 
 ghost use Rattle.std.specs.Prelude.{◌≡◌, [], None, IfOk, IfErr, IfSome, MatchResult};
 ghost use Rattle.types.specs.View.{ty_view};
+ghost use Rattle.convert.specs.Given.{HasGiven};
 ghost use Rattle.convert.specs.Stream.{IsChecked, IsCheckStopped, IsOfChecking, source_failures};
 
 use crate::Stopped;
@@ -11,7 +12,7 @@ use crate::passing::pass_all;
 use crate::putting::Nothing;
 use devices::{Failed, Sink, Source};
 use std::alloc::Global;
-use types::WellTyped;
+use types::{Refusal, WellTyped};
 
 // A sink that takes all and tells nothing.
 #[derive(Drop)]
@@ -44,6 +45,8 @@ pub fn check_by<F: Feed, S: Source>(
         (IsChecked F.rule (ty_view ty.now) done)) }
     ensures stopped { IfErr result (λ stopped. IfSome (S.left source.old)
         (IsCheckStopped F.rule (ty_view ty.now) stopped.done stopped.refusal)) }
+    ensures given { IfErr result (λ stopped. stopped.refusal ≡ Refusal.SourceFault →
+        HasGiven F.rule (ty_view ty.now) stopped.done (S.left source.old) (S.left source.new)) }
     ensures source { MatchResult result (λ _. S.failures source.new ≡ 0)
         (λ stopped. S.failures source.new ≡ source_failures stopped.refusal) }
     ensures numbers { IfErr result (λ stopped. IsOfChecking stopped.refusal) }

@@ -3,11 +3,16 @@
 ghost use Rattle.std.specs.Prelude.{◌≡◌};
 
 use crate::{Canonical, Rule};
+use clap::error::ErrorKind;
 use std::alloc::AllocError;
 
 /// What the program is asked to do.
 #[derive(Clone, Copy, Debug, PartialEq, Eq)]
 pub enum Verb {
+    /// To write the text of each value.
+    Show,
+    /// To count the values.
+    Check,
     /// To write each value's canonical encoding.
     Convert,
 }
@@ -32,10 +37,10 @@ pub struct Line {
 }
 
 /// Why words are no command line.
-#[derive(Clone, Copy, Debug, PartialEq, Eq)]
+#[derive(Debug, Drop)]
 pub enum LineFault {
-    /// They are not of the one form.
-    Words,
+    /// `clap` refuses them, or they ask for its help or the version.
+    Words(clap::Error),
     /// A growth was refused.
     NoMemory,
 }
@@ -50,16 +55,40 @@ impl From<AllocError> for LineFault {
     }
 }
 
-impl LineFault {
-    ghost use Rattle.convert.specs.Fault.{line_fault_status};
+impl From<clap::Error> for LineFault {
+    ghost use Rattle.convert.specs.Fault.{line_fault_of};
 
-    /// The exit status: 64, or 4 where memory ran out.
-    pub fn status(self) -> u8
-        ensures { result ≡ line_fault_status self }
+    ghost from_gives = { λ error fault. fault ≡ line_fault_of error };
+
+    fn from(error: clap::Error) -> LineFault {
+        match error.kind() {
+            ErrorKind::OutOfMemory => LineFault::NoMemory,
+            _ => LineFault::Words(error),
+        }
+    }
+}
+
+impl LineFault {
+    ghost use Rattle.convert.specs.Fault.{IsLineStatus};
+
+    /// The exit status: 64, or 0 where help or the version was asked for, or 4 where memory ran out.
+    pub fn status(&self) -> u8
+        ensures { IsLineStatus self.now result }
     {
         match self {
-            LineFault::Words => 64,
+            LineFault::Words(error) if error.use_stderr() => 64,
+            LineFault::Words(_) => 0,
             LineFault::NoMemory => 4,
         }
+    }
+
+    /// Prints the text of `clap`, help and the version on the standard output, and returns the status.
+    pub fn print<R: Print + Eprint>(&self, rt: &R) -> u8
+        ensures { IsLineStatus self.now result }
+    {
+        if let LineFault::Words(error) = self {
+            let _ = error.print(rt);
+        }
+        self.status()
     }
 }

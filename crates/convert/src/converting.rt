@@ -3,6 +3,7 @@
 ghost use Rattle.std.specs.Prelude.{◌≡◌, [], IfOk, IfErr, MatchResult};
 ghost use Rattle.types.specs.Encoding.{IsAccepted};
 ghost use Rattle.types.specs.View.{ty_view};
+ghost use Rattle.convert.specs.Given.{HasGiven};
 ghost use Rattle.convert.specs.Rule.{canonical_rule_of};
 ghost use Rattle.convert.specs.Stream.{IsConverted, IsStopped, OfStream, source_failures, sink_failures};
 
@@ -13,7 +14,7 @@ use crate::putting::Encodings;
 use crate::{Canonical, Stopped};
 use devices::{Sink, Source};
 use std::alloc::Global;
-use types::WellTyped;
+use types::{Refusal, WellTyped};
 
 /// Converts the values that a fresh reader of `ty` reads, one after another, and returns how many.
 pub fn convert_by<F: Feed, S: Source, K: Sink>(
@@ -32,6 +33,8 @@ pub fn convert_by<F: Feed, S: Source, K: Sink>(
     ensures stopped { IfErr result (λ stopped. OfStream (S.left source.old) (K.taken sink.old) (K.taken sink.new)
         (IsStopped (IsAccepted (canonical_rule_of to) (ty_view ty.now)) F.rule (ty_view ty.now)
         stopped.done stopped.refusal)) }
+    ensures given { IfErr result (λ stopped. stopped.refusal ≡ Refusal.SourceFault →
+        HasGiven F.rule (ty_view ty.now) stopped.done (S.left source.old) (S.left source.new)) }
     ensures source { MatchResult result (λ _. S.failures source.new ≡ 0)
         (λ stopped. S.failures source.new ≡ source_failures stopped.refusal) }
     ensures sink { MatchResult result (λ _. K.failures sink.new ≡ 0)

@@ -1,11 +1,13 @@
 //! Why the program stops, and the lines that say so.
 
 ghost use Rattle.std.specs.Prelude.{◌≡◌};
-ghost use Rattle.convert.specs.Fault.{fault_status, refusal_status, fault_of_text, fault_of_refusal};
+ghost use Rattle.convert.specs.Fault.{fault_status, refusal_status, module_status, fault_of_text, fault_of_refusal, fault_of_stopped};
 
-use crate::HexFault;
+use crate::module_file::fault_name;
 use crate::printed_path::PrintedPath;
+use crate::{HexFault, Stopped};
 use std::alloc::AllocError;
+use std::io::Write;
 use thiserror::Error;
 use types::Refusal;
 
@@ -29,6 +31,9 @@ pub enum Fault<'a> {
     /// A file cannot be opened or read.
     #[error("asn1x: cannot read {path}", path = PrintedPath(.0))]
     CannotRead(&'a str),
+    /// The octets of a module's file are refused.
+    #[error("asn1x: module refused {number} {name} at {line}:{column}", number = .0.number, name = fault_name(.0.number), line = .0.line, column = .0.column)]
+    Module(notation::Fault),
     /// No built-in type has the name.
     #[error("asn1x: no such built-in type")]
     NoSuchType,
@@ -37,9 +42,18 @@ pub enum Fault<'a> {
 impl From<Refusal> for Fault<'_> {
     ghost from_gives = { λ refusal fault. fault ≡ fault_of_refusal refusal };
 
-    // Until a run takes several values, none is done before one that is refused.
+    // What is refused before any value is done.
     fn from(refusal: Refusal) -> Self {
         Fault::Refused { refusal, done: 0 }
+    }
+}
+
+impl From<Stopped> for Fault<'_> {
+    ghost from_gives = { λ stopped fault. fault ≡ fault_of_stopped stopped };
+
+    fn from(stopped: Stopped) -> Self {
+        let Stopped { done, refusal } = stopped;
+        Fault::Refused { refusal, done }
     }
 }
 
@@ -74,9 +88,18 @@ impl Fault<'_> {
             Fault::Refused { refusal, .. } => status_of(*refusal),
             Fault::NotHexadecimal | Fault::TextTooLong => 1,
             Fault::CannotRead(_) => 3,
+            Fault::Module(fault) => status_of_module(fault.number),
             Fault::NoSuchType => 64,
         }
     }
+}
+
+/// Prints a fault's line and returns its status. A failed write changes nothing else.
+pub fn print_fault<E: Write>(fault: &Fault<'_>, err: &mut E) -> u8
+    ensures { result ≡ fault_status fault.now }
+{
+    let _ = writeln!(err, "{fault}");
+    fault.status()
 }
 
 // 1 where octets are refused, 3 where a device failed, 4 where memory ran out.
@@ -88,4 +111,11 @@ fn status_of(refusal: Refusal) -> u8
         Refusal::SourceFault | Refusal::SinkFault => 3,
         _ => 1,
     }
+}
+
+// 2 where a module is refused, 4 where memory ran out.
+fn status_of_module(number: u32) -> u8
+    ensures { result ≡ module_status number }
+{
+    if number == 33 { 4 } else { 2 }
 }

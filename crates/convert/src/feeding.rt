@@ -1,25 +1,13 @@
 //! Readers that are given octets piece by piece.
 
-ghost use Rattle.std.specs.Prelude.{ℕ, List, IfOk};
-ghost use Rattle.octets.specs.Rule.{Rule};
+ghost use Rattle.std.specs.Prelude.{ℕ, List, IfOk, length};
+ghost use Rattle.octets.specs.Rule.{Rule, ber};
 ghost use Rattle.types.specs.Shape.{Shape};
-ghost use Rattle.convert.specs.Feeding.{IsFed, IsFinished, UsesWithin};
+ghost use Rattle.berreader.specs.Feeding.{EndsStepWithin};
+ghost use Rattle.convert.specs.Feeding.{IsFed, IsFinished, StandsOpen};
 
-use types::{Refusal, Value};
-
-/// What a piece of octets led to.
-#[derive(Drop)]
-pub enum Step {
-    /// All of the piece was taken, and no value is complete.
-    More,
-    /// The first octets of the piece complete a value.
-    Done {
-        /// The value.
-        value: Value,
-        /// How many octets of the piece were taken.
-        used: usize,
-    },
-}
+use berreader::{Reader, Step};
+use types::Refusal;
 
 /// A reader of values of one type by one rule, which is given octets piece by piece.
 pub trait Feed {
@@ -31,11 +19,26 @@ pub trait Feed {
 
     /// Takes octets of a piece up to the end of a value, or all of them.
     fn feed(&mut self, piece: &[u8]) -> Result<Step, Refusal>
-        ensures used { IfOk result (λ step. UsesWithin step piece.now) }
+        requires { (shape : Shape) × (old : List ℕ) × stands_at shape self.old old }
+        ensures used { IfOk result (EndsStepWithin (length piece.now)) }
         ensures fed { (shape : Shape) (old : List ℕ) → stands_at shape self.old old →
             IsFed (stands_at shape self.new) rule shape result old piece.now };
 
     /// Tells whether no value is begun.
     fn finish(&self) -> Result<(), Refusal>
         ensures { (shape : Shape) (old : List ℕ) → stands_at shape self.now old → IsFinished result old };
+}
+
+impl Feed for Reader<'_> {
+    ghost rule = { ber };
+
+    ghost stands_at = { StandsOpen };
+
+    fn feed(&mut self, piece: &[u8]) -> Result<Step, Refusal> {
+        Reader::feed(self, piece)
+    }
+
+    fn finish(&self) -> Result<(), Refusal> {
+        Reader::finish(self)
+    }
 }

@@ -2,6 +2,7 @@
 
 ghost use Rattle.std.specs.Prelude.{◌≡◌, ◌≤◌, ◌+◌, ◌++◌, ℕ, List, [], length, IfOk, IfErr, MatchResult};
 ghost use Rattle.convert.specs.Feeding.{IsUnfinished};
+ghost use Rattle.convert.specs.Given.{HasGiven};
 ghost use Rattle.convert.specs.Passing.{Writes, PassesOn, StopsPassing};
 ghost use Rattle.convert.specs.Stream.{most_streamed, IsStopped, OfStream, source_failures, sink_failures};
 
@@ -78,6 +79,8 @@ pub fn pass_all<F: Feed, P: Put, S: Source, K: Sink>(
         × (length stream ≤ most_streamed))) }
     ensures stopped { IfErr result (λ stopped. OfStream (S.left source.old) (K.taken sink.old) (K.taken sink.new)
         (IsStopped (P.stands writer.now) F.rule (P.shape writer.now) stopped.done stopped.refusal)) }
+    ensures given { IfErr result (λ stopped. stopped.refusal ≡ Refusal.SourceFault →
+        HasGiven F.rule (P.shape writer.now) stopped.done (S.left source.old) (S.left source.new)) }
     ensures source { MatchResult result (λ _. S.failures source.new ≡ 0)
         (λ stopped. S.failures source.new ≡ source_failures stopped.refusal) }
     ensures sink { MatchResult result (λ _. K.failures sink.new ≡ 0)

@@ -1,20 +1,23 @@
 //! The program once its files are open.
 
-ghost use Rattle.std.specs.Prelude.{◌≡◌, ◌↔◌, IsSome, IfSome, IfNone, IfErr};
+ghost use Rattle.std.specs.Prelude.{◌≡◌, ◌↔◌, IsSome, IfSome, IfNone, IfOk, IfErr};
 ghost use Rattle.types.specs.Shape.{Shape};
 ghost use Rattle.types.specs.View.{ty_view};
 ghost use Rattle.convert.specs.Fault.{fault_status, IsFaultOfInput};
-ghost use Rattle.convert.specs.Line.{IsBuiltIn, IsOneForm, CanRun, IsStatus};
+ghost use Rattle.convert.specs.Line.{IsBuiltIn, CanRun, CanType, IsFaultOfType, IsModuleFile, IsStatus, IsStatusOfInput, IsTask, NamesFile};
 
-use crate::fault::Fault;
-use crate::{Canonical, Line, MAX_HEX_TEXT, transcode, unhex};
+use crate::fault::{Fault, print_fault};
+use crate::module_file::type_from;
+use crate::tasks::{Task, perform};
+use crate::{Line, MAX_HEX_TEXT, Verb, unhex};
+use devices::{FromReader, FromSlice};
 use octets::{Class, Tag};
 use std::alloc::Global;
 use std::io::{ErrorKind, Read, Write};
 use types::{Refusal, Ty, WellTyped};
 
 /// Runs a command line over its open files and returns the exit status: what is done goes to `out`,
-/// one line for a fault to `err`. `module` is the module file's octets, of which there are none.
+/// one line for a fault to `err`. `module` is the octets of the module's file; of `@builtin` it has none.
 pub fn run<R: Read, W: Write, E: Write>(
     alloc: Global,
     line: &Line,
@@ -25,15 +28,17 @@ pub fn run<R: Read, W: Write, E: Write>(
 ) -> u8
     ensures status { IsStatus result }
     ensures usage { (result ≡ 64) ↔ (¬ CanRun line.now) }
+    ensures file { (result ≡ 2) → NamesFile line.now }
+    ensures read { IsStatusOfInput result → NamesFile line.now → IsModuleFile «module».now }
 {
-    let _ = module;
-    let Some(to) = rule_of_form(line) else {
+    let Some(task) = task_of(line) else {
         return 64;
     };
-    let Some(ty) = built_in(line.name.as_str()) else {
-        return print_fault(&Fault::NoSuchType, err);
+    let ty = match type_of(alloc, line, module) {
+        Ok(ty) => ty,
+        Err(fault) => return print_fault(&fault, err),
     };
-    match convert_text(alloc, &ty, line, to, input, out) {
+    match run_over(alloc, &ty, line, task, input, out) {
         Ok(()) => 0,
         Err(fault) => print_fault(&fault, err),
     }
@@ -46,23 +51,33 @@ pub fn cannot_open<E: Write>(path: &str, err: &mut E) -> u8
     print_fault(&Fault::CannotRead(path), err)
 }
 
-// Prints a fault's line and returns its status. A failed write changes nothing else.
-fn print_fault<E: Write>(fault: &Fault<'_>, err: &mut E) -> u8
-    ensures { result ≡ fault_status fault.now }
+// What the line asks for, where a line to convert names the rule to write by.
+fn task_of(line: &Line) -> Option<Task>
+    ensures { IsSome result ↔ IsTask line.now }
 {
-    let _ = writeln!(err, "{fault}");
-    fault.status()
+    match line.verb {
+        Verb::Show => Some(Task::Show),
+        Verb::Check => Some(Task::Check),
+        Verb::Convert => line.to.map(Task::Convert),
+    }
 }
 
-// The rule to write by, where the line asks for what can be done.
-fn rule_of_form(line: &Line) -> Option<Canonical>
-    ensures some { IsSome result ↔ IsOneForm line.now }
-    ensures rule { IsSome result → line.now.to ≡ result }
+// The type that the line names.
+fn type_of<'a>(alloc: Global, line: &Line, module: &[u8]) -> Result<WellTyped, Fault<'a>>
+    ensures value { IfOk result (λ _. CanType line.now) }
+    ensures read { IfOk result (λ _. NamesFile line.now → IsModuleFile «module».now) }
+    ensures fault { IfErr result (λ fault. IsFaultOfType line.now (fault_status fault)) }
 {
-    if line.module.as_str() == "@builtin" && line.hex {
-        line.to
-    } else {
-        None
+    let name = line.name.as_str();
+    if line.module.as_str() == "@builtin" {
+        return match built_in(name) {
+            Some(ty) => Ok(ty),
+            None => Err(Fault::NoSuchType),
+        };
+    }
+    match type_from(alloc, module, name) {
+        Ok(ty) => Ok(ty),
+        Err(fault) => Err(Fault::Module(fault)),
     }
 }
 
@@ -86,21 +101,24 @@ fn built_in(name: &str) -> Option<WellTyped>
     WellTyped::new(ty).ok()
 }
 
-// Reads hexadecimal text, and prints the encoding of the one value in it by `to` as such text.
-fn convert_text<'a, R: Read, W: Write>(
+// Does what the line asks for over the values of its input.
+fn run_over<'a, R: Read, W: Write>(
     alloc: Global,
     ty: &WellTyped,
     line: &'a Line,
-    to: Canonical,
+    task: Task,
     input: &mut R,
     out: &mut W,
 ) -> Result<(), Fault<'a>>
     ensures { IfErr result IsFaultOfInput }
 {
+    if !line.hex {
+        return perform(alloc, ty, line, task, &mut FromReader::new(input), out);
+    }
     let text = read_text(alloc, line.input.as_str(), input)?;
     let octets = unhex(alloc, text.as_slice())?;
-    let written = transcode(alloc, ty, line.from, to, octets.as_slice())?;
-    print_hex(alloc, written.as_slice(), out)
+    let mut source = FromSlice::new(octets.as_slice());
+    perform(alloc, ty, line, task, &mut source, out)
 }
 
 // The whole of a file of text, or so much of it that it is seen to be too long.
@@ -114,20 +132,5 @@ fn read_text<'a, R: Read>(alloc: Global, path: &'a str, input: &mut R) -> Result
             Err(Fault::from(Refusal::NoMemory))
         }
         Err(_) => Err(Fault::CannotRead(path)),
-    }
-}
-
-// Prints octets as hexadecimal text and, if there are any, a line feed. The octets are those of the
-// one value, which is not done before all of them are written.
-fn print_hex<'a, W: Write>(alloc: Global, octets: &[u8], out: &mut W) -> Result<(), Fault<'a>>
-    ensures { IfErr result IsFaultOfInput }
-{
-    if octets.is_empty() {
-        return Ok(());
-    }
-    let text = hex::encode(alloc, octets)?;
-    match writeln!(out, "{text}") {
-        Ok(()) => Ok(()),
-        Err(_) => Err(Fault::from(Refusal::SinkFault)),
     }
 }

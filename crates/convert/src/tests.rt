@@ -5,9 +5,12 @@ use std::alloc::{AllocError, Global};
 use std::process::Abort;
 
 mod command_lines;
+mod dripping;
 mod failing_devices;
 mod hexadecimal;
+mod modules;
 mod runs;
+mod streams;
 
 /// A text of this many spaces.
 pub fn spaces(alloc: Global, count: usize) -> Result<Vec<u8>, AllocError> {
@@ -31,12 +34,24 @@ pub fn line_to_der(alloc: Global, name: &str) -> Result<Line, AllocError> {
     })
 }
 
-/// Runs a command line over devices that do not fail, and compares what it prints and returns.
+/// Runs a command line with a built-in type over devices that do not fail, and compares what it prints
+/// and returns.
 pub fn check_run<R: Abort + AllocGlobal>(rt: &R, line: &Line, text: &[u8], want: (&str, &str, u8)) {
+    check_run_of(rt, line, &[], text, want);
+}
+
+/// The same with a type of a module.
+pub fn check_run_of<R: Abort + AllocGlobal>(
+    rt: &R,
+    line: &Line,
+    module: &[u8],
+    text: &[u8],
+    want: (&str, &str, u8),
+) {
     let mut out = Vec::new(rt.alloc());
     let mut err = Vec::new(rt.alloc());
     let mut input = text;
-    let status = run(rt.alloc(), line, &[], &mut input, &mut out, &mut err);
+    let status = run(rt.alloc(), line, module, &mut input, &mut out, &mut err);
     let name = line.name.as_str();
     let (want_out, want_err, want_status) = want;
     assert_eq!(rt; out.as_slice(), want_out.as_bytes(), "for {name}");

@@ -1,90 +1,120 @@
 //! Judges the program's words.
 
-ghost use Rattle.std.specs.Prelude.{◌≡◌, ◌↔◌, IfOk, IfSome, IfNone};
-ghost use Rattle.convert.specs.CommandLine.{texts_of, Command, command_of, command_to_convert, IsCommandLine};
-ghost use Rattle.convert.specs.Line.{IsOneForm};
+ghost use Rattle.std.specs.Prelude.{◌≡◌, ◌≢◌, ◌↔◌, IfOk, IfSome, IfNone, Some, codes};
+ghost use Rattle.clap.specs.Words.{first_value, found_of};
+ghost use Rattle.convert.specs.CommandLine.{texts_of, word_of_canonical, word_of_rule};
+ghost use Rattle.convert.specs.Entries.{HasEntries, IsLineOf};
+ghost use Rattle.convert.specs.Line.{IsVerbWithRule};
 
-use crate::options::rules_of;
+use crate::program::program;
 use crate::{Canonical, Line, LineFault, Rule, Verb};
-use std::alloc::{AllocError, Global};
-use std::io;
-use std::io::ErrorKind;
+use clap::ArgMatches;
+use clap::error::ErrorKind;
+use std::alloc::Global;
 
-impl From<io::Error> for LineFault {
-    ghost use Rattle.std.specs.Prelude.{◌≡◌, ◌↔◌};
-    ghost use Rattle.std.specs.IoError.{error_kind};
-
-    // Why the system gives no words: out of memory, or one of them is not UTF-8.
-    fn from(error: io::Error) -> LineFault
-        ensures { (result ≡ LineFault.NoMemory) ↔ (error_kind error ≡ ErrorKind.OutOfMemory) }
-    {
-        match error.kind() {
-            ErrorKind::OutOfMemory => LineFault::NoMemory,
-            _ => LineFault::Words,
-        }
-    }
-}
-
-/// The command line that the program's words are, its own name first: `convert @builtin TYPE INPUT`
-/// and then, in any order and each once, `--hex`, `--to der` or `--to cer` and, if wanted, `--from ber`.
+/// The command line that the program's words are, its own name first. `clap` judges them: `--help` and
+/// `--version` are its faults too.
 pub fn line(alloc: Global, words: &[&str]) -> Result<Line, LineFault>
-    ensures value { IfOk result (λ line. IsCommandLine (command_of line) (texts_of words.now)) }
-    ensures only { IfOk result (λ line. (command : Command) →
-        IsCommandLine command (texts_of words.now) → command ≡ command_of line) }
-    ensures none { (result ≡ Err LineFault.Words) ↔
-        ((command : Command) → ¬ IsCommandLine command (texts_of words.now)) }
-    ensures form { IfOk result IsOneForm }
+    ensures value { IfOk result (IsLineOf (texts_of words.now)) }
+    ensures to { IfOk result IsVerbWithRule }
 {
-    match parts_of(words) {
-        Some(parts) => Ok(parts.line(alloc)?),
-        None => Err(LineFault::Words),
+    let matches = program(alloc)?.try_get_matches_from(words)?;
+    match matches.subcommand() {
+        Some(("show", matches)) => line_to(alloc, Verb::Show, None, matches),
+        Some(("check", matches)) => line_to(alloc, Verb::Check, None, matches),
+        Some(("convert", matches)) => {
+            let to = word(alloc, matches, "to")?;
+            match canonical_of(to) {
+                Some(rule) => line_to(alloc, Verb::Convert, Some(rule), matches),
+                None => Err(missing(alloc)),
+            }
+        }
+        _ => Err(missing(alloc)),
     }
 }
 
-// What the words say, in the words themselves.
-#[derive(Clone, Copy, Debug)]
-struct Parts<'a> {
-    name: &'a str,
-    input: &'a str,
-    from: Rule,
-    to: Canonical,
-}
-
-impl Parts<'_> {
-    // The command line that says the same.
-    fn line(self, alloc: Global) -> Result<Line, AllocError>
-        ensures { IfOk result (λ line. command_of line ≡ command_to_convert self.entry.name.now self.entry.input.now self.entry.from self.entry.to) }
-    {
-        Ok(Line {
-            verb: Verb::Convert,
-            module: String::from_str(alloc, "@builtin")?,
-            name: String::from_str(alloc, self.name)?,
-            input: String::from_str(alloc, self.input)?,
-            from: self.from,
-            to: Some(self.to),
-            hex: true,
-        })
-    }
-}
-
-// The parts of the command line that the words are.
-fn parts_of<'a>(words: &[&'a str]) -> Option<Parts<'a>>
-    ensures some { IfSome result (λ parts. IsCommandLine (command_to_convert parts.name.now parts.input.now parts.from parts.to) (texts_of words.now)) }
-    ensures only { IfSome result (λ parts. (other : Command) →
-        IsCommandLine other (texts_of words.now) → other ≡ command_to_convert parts.name.now parts.input.now parts.from parts.to) }
-    ensures none { IfNone result ((other : Command) → ¬ IsCommandLine other (texts_of words.now)) }
+// The command line to do this, with the rule to write by and the other words.
+fn line_to(
+    alloc: Global,
+    verb: Verb,
+    to: Option<Canonical>,
+    matches: &ArgMatches<'_>,
+) -> Result<Line, LineFault>
+    requires { (rule : Canonical) → to ≡ Some rule → first_value (found_of matches.now) (codes "to") ≡ Some (word_of_canonical rule) }
+    ensures entries { IfOk result (HasEntries matches.now) }
+    ensures verb { IfOk result (λ line. line.verb ≡ verb) }
+    ensures to { IfOk result (λ line. line.to ≡ to) }
 {
-    let [_, verb, module, name, input, options @ ..] = words else {
-        return None;
+    let Some(from) = rule_of(word(alloc, matches, "from")?) else {
+        return Err(missing(alloc));
     };
-    if *verb != "convert" || *module != "@builtin" {
-        return None;
-    }
-    let (from, to) = rules_of(options)?;
-    Some(Parts {
-        name,
-        input,
+    Ok(Line {
+        verb,
+        module: String::from_str(alloc, word(alloc, matches, "MODULE")?)?,
+        name: String::from_str(alloc, word(alloc, matches, "TYPE")?)?,
+        input: String::from_str(alloc, word(alloc, matches, "INPUT")?)?,
         from,
         to,
+        hex: matches.get_flag("hex"),
     })
+}
+
+// The word that an argument has.
+fn word<'a>(alloc: Global, matches: &ArgMatches<'a>, name: &str) -> Result<&'a str, LineFault>
+    ensures { IfOk result (λ text. first_value (found_of matches.now) name.now ≡ Some text.now) }
+{
+    match matches.get_str(name) {
+        Some(text) => Ok(text),
+        None => Err(missing(alloc)),
+    }
+}
+
+// An argument is missing, which `clap` lets none be.
+fn missing(alloc: Global) -> LineFault {
+    wrong(
+        alloc,
+        ErrorKind::MissingRequiredArgument,
+        "an argument is missing",
+    )
+}
+
+/// A word that is not UTF-8.
+pub fn not_text(alloc: Global) -> LineFault {
+    wrong(alloc, ErrorKind::Io, "a word is not UTF-8")
+}
+
+// A fault that `clap` did not find itself.
+fn wrong(alloc: Global, kind: ErrorKind, text: &str) -> LineFault {
+    match program(alloc) {
+        Ok(mut program) => match program.error(kind, text) {
+            Ok(error) => LineFault::from(error),
+            Err(_) => LineFault::NoMemory,
+        },
+        Err(_) => LineFault::NoMemory,
+    }
+}
+
+// The rule to write by that a word names.
+fn canonical_of(word: &str) -> Option<Canonical>
+    ensures some { IfSome result (λ rule. word.now ≡ word_of_canonical rule) }
+    ensures none { IfNone result ((rule : Canonical) → word.now ≢ word_of_canonical rule) }
+{
+    match word {
+        "cer" => Some(Canonical::Cer),
+        "der" => Some(Canonical::Der),
+        _ => None,
+    }
+}
+
+// The rule to read by that a word names.
+fn rule_of(word: &str) -> Option<Rule>
+    ensures some { IfSome result (λ rule. word.now ≡ word_of_rule rule) }
+    ensures none { IfNone result ((rule : Rule) → word.now ≢ word_of_rule rule) }
+{
+    match word {
+        "ber" => Some(Rule::Ber),
+        "cer" => Some(Rule::Cer),
+        "der" => Some(Rule::Der),
+        _ => None,
+    }
 }

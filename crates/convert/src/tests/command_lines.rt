@@ -1,6 +1,6 @@
 //! Which words are a command line, and what they say.
 
-use crate::{Canonical, Line, LineFault, Rule, Verb, line};
+use crate::{Canonical, Line, LineFault, Rule, Verb, line, no_words};
 use std::alloc::Global;
 use std::io;
 use std::io::ErrorKind;
@@ -12,83 +12,106 @@ fn line_of(alloc: Global, words: &str) -> Result<Line, LineFault> {
     line(alloc, words.as_slice())
 }
 
+// The exit status of words, or 1 where they are a command line.
+fn status_of(alloc: Global, words: &str) -> u8 {
+    match line_of(alloc, words) {
+        Ok(_) => 1,
+        Err(fault) => fault.status(),
+    }
+}
+
 #[test]
 fn command_lines(rt: HostRuntime) -> Result<(), Fail> {
-    // (options, the rule to read by, the rule to write by)
+    let der = Some(Canonical::Der);
+    let cer = Some(Canonical::Cer);
+    // (words, what is asked, the rules to read and to write by, whether the input is hexadecimal)
     let cases = [
-        ("--hex,--to,der", Rule::Ber, Canonical::Der),
-        ("--to,der,--hex", Rule::Ber, Canonical::Der),
-        ("--hex,--to,der,--from,ber", Rule::Ber, Canonical::Der),
-        ("--hex,--from,ber,--to,der", Rule::Ber, Canonical::Der),
-        ("--to,der,--hex,--from,ber", Rule::Ber, Canonical::Der),
-        ("--to,der,--from,ber,--hex", Rule::Ber, Canonical::Der),
-        ("--from,ber,--hex,--to,der", Rule::Ber, Canonical::Der),
-        ("--from,cer,--to,der,--hex", Rule::Cer, Canonical::Der),
-        ("--hex,--to,cer", Rule::Ber, Canonical::Cer),
-        ("--from,der,--to,cer,--hex", Rule::Der, Canonical::Cer),
+        ("show,m,T,in", Verb::Show, Rule::Ber, None, false),
+        ("show,m,T,in,--hex", Verb::Show, Rule::Ber, None, true),
+        (
+            "check,--from,cer,m,T,in",
+            Verb::Check,
+            Rule::Cer,
+            None,
+            false,
+        ),
+        (
+            "check,m,T,in,--from=der",
+            Verb::Check,
+            Rule::Der,
+            None,
+            false,
+        ),
+        (
+            "convert,m,T,in,--to,der",
+            Verb::Convert,
+            Rule::Ber,
+            der,
+            false,
+        ),
+        (
+            "convert,--to,cer,m,--hex,T,in",
+            Verb::Convert,
+            Rule::Ber,
+            cer,
+            true,
+        ),
+        (
+            "convert,m,T,--from,der,in,--to=cer",
+            Verb::Convert,
+            Rule::Der,
+            cer,
+            false,
+        ),
+        (
+            "convert,--hex,--to,der,--,m,T,in",
+            Verb::Convert,
+            Rule::Ber,
+            der,
+            true,
+        ),
     ];
-    for (options, from, to) in cases {
-        let words = format!(in rt.alloc(); "asn1x,convert,@builtin,OCTET STRING,in.hex,{options}")?;
-        let line = line_of(rt.alloc(), words.as_str())?;
-        assert_eq!(rt; line.verb, Verb::Convert, "with {options}");
-        assert_eq!(rt; line.module.as_str(), "@builtin", "with {options}");
-        assert_eq!(rt; line.name.as_str(), "OCTET STRING", "with {options}");
-        assert_eq!(rt; line.input.as_str(), "in.hex", "with {options}");
-        assert_eq!(rt; line.from, from, "with {options}");
-        assert_eq!(rt; line.to, Some(to), "with {options}");
-        assert!(rt; line.hex, "with {options}");
+    for (words, verb, from, to, hex) in cases {
+        let words = format!(in rt.alloc(); "asn1x,{words}")?;
+        let line = match line_of(rt.alloc(), words.as_str()) {
+            Ok(line) => line,
+            Err(_) => return Err(Fail::from("no command line")),
+        };
+        assert_eq!(rt; line.verb, verb, "of {words}");
+        assert_eq!(rt; line.module.as_str(), "m", "of {words}");
+        assert_eq!(rt; line.name.as_str(), "T", "of {words}");
+        assert_eq!(rt; line.input.as_str(), "in", "of {words}");
+        assert_eq!(rt; line.from, from, "of {words}");
+        assert_eq!(rt; line.to, to, "of {words}");
+        assert_eq!(rt; line.hex, hex, "of {words}");
     }
     Ok(())
 }
 
 #[test]
-fn words_of_another_form(rt: HostRuntime) {
+fn wrong_words(rt: HostRuntime) {
+    // (words, exit status)
     let cases = [
-        "",
-        "asn1x",
-        "asn1x,convert",
-        "asn1x,convert,@builtin,NULL",
-        "asn1x,convert,@builtin,NULL,--hex,--to,der",
-        "asn1x,show,@builtin,NULL,in.hex,--hex,--to,der",
-        "asn1x,convert,m.asn,NULL,in.hex,--hex,--to,der",
-        "asn1x,list,none,NULL,in.hex,--hex,--to,der",
-        "asn1x,--hex,--to,der,convert,@builtin,NULL,in.hex",
-        "convert,@builtin,NULL,in.hex,--hex,--to,der",
+        ("asn1x", 64),
+        ("asn1x,list,m,T,in", 64),
+        ("asn1x,show,m,T", 64),
+        ("asn1x,show,m,T,in,more", 64),
+        ("asn1x,show,m,T,in,--to,der", 64),
+        ("asn1x,convert,m,T,in", 64),
+        ("asn1x,convert,m,T,in,--to", 64),
+        ("asn1x,convert,m,T,in,--to,ber", 64),
+        ("asn1x,convert,m,T,in,--to,DER", 64),
+        ("asn1x,convert,m,T,in,--to,der,--to,der", 64),
+        ("asn1x,check,m,T,in,--from,xer", 64),
+        ("asn1x,check,m,T,in,--octets", 64),
+        ("asn1x,--help", 0),
+        ("asn1x,help,convert", 0),
+        ("asn1x,check,--help", 0),
+        ("asn1x,--version", 0),
     ];
-    for words in cases {
-        let fault = line_of(rt.alloc(), words).err();
-        assert_eq!(rt; fault, Some(LineFault::Words), "of {words}");
+    for (words, want) in cases {
+        assert_eq!(rt; status_of(rt.alloc(), words), want, "of {words}");
     }
-    assert_eq!(rt; line(rt.alloc(), &[]).err(), Some(LineFault::Words));
-}
-
-#[test]
-fn options_of_another_form(rt: HostRuntime) -> Result<(), Fail> {
-    let cases = [
-        "--to,der",
-        "--hex",
-        "--hex,--from,ber",
-        "--hex,--to,DER",
-        "--hex,--to,CER",
-        "--hex,--to,ber",
-        "--hex,--to",
-        "--to,--hex,der",
-        "--hex,--to,der,--from",
-        "--hex,--to,der,--from,DER",
-        "--hex,--hex,--to,der",
-        "--hex,--to,der,--to,der",
-        "--hex,--to,cer,--to,der",
-        "--from,ber,--from,ber,--hex,--to,der",
-        "--hex,--to=der",
-        "--hex,--to,der,in.hex",
-        "--hex,--to,der,",
-    ];
-    for options in cases {
-        let words = format!(in rt.alloc(); "asn1x,convert,@builtin,NULL,in.hex,{options}")?;
-        let fault = line_of(rt.alloc(), words.as_str()).err();
-        assert_eq!(rt; fault, Some(LineFault::Words), "with {options}");
-    }
-    Ok(())
 }
 
 #[test]
@@ -96,7 +119,7 @@ fn words_that_the_system_does_not_give(rt: HostRuntime) {
     // (why not, exit status)
     let cases = [(ErrorKind::OutOfMemory, 4), (ErrorKind::InvalidData, 64)];
     for (kind, want) in cases {
-        let fault = LineFault::from(io::Error::from(kind));
+        let fault = no_words(rt.alloc(), &io::Error::from(kind));
         assert_eq!(rt; fault.status(), want, "at {kind:?}");
     }
 }

@@ -1,7 +1,7 @@
 //! What a run prints and returns over devices that do not fail.
 
 use super::{check_run, line_to_der, spaces};
-use crate::{Canonical, Rule};
+use crate::{Canonical, Rule, Verb};
 use std::test::Fail;
 
 #[test]
@@ -20,18 +20,13 @@ fn runs(rt: HostRuntime) -> Result<(), Fail> {
         ("NULL", "05 0", "", "asn1x: not hexadecimal\n", 1),
         ("NULL", "05\n00\n", "0500\n", "", 0),
         ("OCTET STRING", "04 02 AB CD", "0402abcd\n", "", 0),
+        ("BOOLEAN", "", "", "", 0),
+        ("BOOLEAN", "0101ff0101ff", "0101ff0101ff\n", "", 0),
         (
             "BOOLEAN",
-            "",
-            "",
-            "asn1x: refused 1 Truncated after 0 values\n",
-            1,
-        ),
-        (
-            "BOOLEAN",
-            "0101ff0101ff",
-            "",
-            "asn1x: refused 2 Identifier after 0 values\n",
+            "01 01 01 01 01",
+            "0101ff\n",
+            "asn1x: refused 1 Truncated after 1 values\n",
             1,
         ),
         ("REAL", "05 0", "", "asn1x: no such built-in type\n", 64),
@@ -87,17 +82,60 @@ fn run_over_too_long_a_text(rt: HostRuntime) -> Result<(), Fail> {
 }
 
 #[test]
-fn run_of_a_line_not_of_the_one_form(rt: HostRuntime) -> Result<(), Fail> {
-    let mut lines = [
-        line_to_der(rt.alloc(), "module")?,
-        line_to_der(rt.alloc(), "to")?,
-        line_to_der(rt.alloc(), "hex")?,
+fn runs_of_each_command(rt: HostRuntime) -> Result<(), Fail> {
+    // (verb, rule to read by, standard output, standard error, status)
+    let cases = [
+        (Verb::Show, Rule::Ber, "TRUE\nFALSE\n", "", 0),
+        (Verb::Check, Rule::Ber, "ok 2\n", "", 0),
+        (Verb::Convert, Rule::Ber, "0101ff010100\n", "", 0),
+        (
+            Verb::Show,
+            Rule::Der,
+            "",
+            "asn1x: refused 12 NotCanonical after 0 values\n",
+            1,
+        ),
+        (
+            Verb::Check,
+            Rule::Cer,
+            "",
+            "asn1x: refused 12 NotCanonical after 0 values\n",
+            1,
+        ),
     ];
-    lines[0].module = String::from_str(rt.alloc(), "@builtins")?;
-    lines[1].to = None;
-    lines[2].hex = false;
-    for line in &lines {
-        check_run(&rt, line, b"0500", ("", "", 64));
+    for (verb, from, out, err, status) in cases {
+        let mut line = line_to_der(rt.alloc(), "BOOLEAN")?;
+        line.verb = verb;
+        line.from = from;
+        check_run(&rt, &line, b"01 01 2A 01 01 00", (out, err, status));
+        line.hex = false;
+        if verb != Verb::Convert {
+            check_run(&rt, &line, b"\x01\x01\x2A\x01\x01\x00", (out, err, status));
+        }
     }
+    Ok(())
+}
+
+#[test]
+fn runs_over_octets(rt: HostRuntime) -> Result<(), Fail> {
+    let mut line = line_to_der(rt.alloc(), "OCTET STRING")?;
+    line.hex = false;
+    check_run(&rt, &line, b"\x04\x81\x01A", ("\x04\x01A", "", 0));
+    let cut = "asn1x: refused 1 Truncated after 1 values\n";
+    check_run(&rt, &line, b"\x04\x01A\x04", ("\x04\x01A", cut, 1));
+    check_run(&rt, &line, b"", ("", "", 0));
+    Ok(())
+}
+
+#[test]
+fn runs_of_lines_of_which_nothing_is_done(rt: HostRuntime) -> Result<(), Fail> {
+    let mut line = line_to_der(rt.alloc(), "NULL")?;
+    line.to = None;
+    check_run(&rt, &line, b"0500", ("", "", 64));
+    line.verb = Verb::Check;
+    check_run(&rt, &line, b"0500", ("ok 1\n", "", 0));
+    line.module = String::from_str(rt.alloc(), "@builtins")?;
+    let refused = "asn1x: module refused 22 Syntax at 1:1\n";
+    check_run(&rt, &line, b"0500", ("", refused, 2));
     Ok(())
 }

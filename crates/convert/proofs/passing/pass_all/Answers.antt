@@ -2,7 +2,7 @@ use Rattle.std.proofs.Common.{rules, ◌≡◌, [], length, refl, sym, subst, ar
 use Rattle.std.specs.Io.KnownBytes.{Consumes}
 use Rattle.convert.specs.Stream.{IsStopped, OfStream}
 use Rattle.convert.proofs.FeedingLemmas.{none_begun, empty_is}
-use Rattle.convert.proofs.CallLemmas.{starts, goes_on, stops, source_fails, too_long, ends_early, ends}
+use Rattle.convert.proofs.CallLemmas.{starts, goes_on, stops, source_fails, has_given, too_long, ends_early, ends}
 use Rattle.convert.proofs.passing.pass_all.Goals as goal
 
 pub loop-piece-init : goal.loop-piece-init
@@ -19,6 +19,9 @@ loop-piece-init g c =
 
 pub returns-in-Err-clause-stopped : goal.returns-in-Err-clause-stopped
 returns-in-Err-clause-stopped g c = source_fails _ _ _ _ _ _ _ _ _ _ _ c.loop-piece.invariant.stands c.in-Err.ensures.unmoved
+
+pub returns-in-Err-clause-given : goal.returns-in-Err-clause-given
+returns-in-Err-clause-given g c = λ _. has_given _ _ _ _ _ _ _ _ _ _ _ c.loop-piece.invariant.stands c.in-Err.ensures.unmoved
 
 pub returns-in-Ok-finish-clause-done : goal.returns-in-Ok-finish-clause-done
 returns-in-Ok-finish-clause-done g c =

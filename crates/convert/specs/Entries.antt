@@ -1,0 +1,28 @@
+-- What a command line takes of the matches that `clap` finds in the program's words.
+use Rattle.std.specs.Prelude.{◌≡◌, ℕ, true, false, List, Some, codes, string_bytes}
+use Rattle.clap.specs.Words.{HasMatchesOf, app_of, first_value, found_of, one_text, rows_of, subcommand_rows_of}
+use Rattle.clap.specs.declared.builder.command.Command.{Command}
+use Rattle.clap.specs.declared.parser.matches.ArgMatches.{ArgMatches}
+use Rattle.convert.specs.declared.command_line.Line.{Line}
+use Rattle.convert.specs.declared.rule.Canonical.{Canonical}
+use Rattle.convert.specs.CommandLine.{word_of_canonical, word_of_rule, word_of_verb}
+
+-- the command line says what the entries say
+pub record HasEntries (matches : ArgMatches) (line : Line) : Type 0 where
+  pub «module» : first_value (found_of matches) (codes "MODULE") ≡ Some (string_bytes line.module)
+  pub name : first_value (found_of matches) (codes "TYPE") ≡ Some (string_bytes line.name)
+  pub input : first_value (found_of matches) (codes "INPUT") ≡ Some (string_bytes line.input)
+  pub from : first_value (found_of matches) (codes "from") ≡ Some (word_of_rule line.from)
+  pub to : (rule : Canonical) → line.to ≡ Some rule → first_value (found_of matches) (codes "to") ≡ Some (word_of_canonical rule)
+  pub hex : one_text (found_of matches) (codes "hex") ≡ Some (codes "true") → line.hex ≡ true
+  pub no_hex : one_text (found_of matches) (codes "hex") ≡ Some (codes "false") → line.hex ≡ false
+
+-- a command of `clap` has these matches on the words, and the command line says which subcommand was met and what
+-- its entries say
+pub record IsLineOf (words : List (List ℕ)) (line : Line) : Type 0 where
+  pub command : Command
+  pub matches : ArgMatches
+  pub inner : ArgMatches
+  pub parsed : HasMatchesOf (app_of command) words matches
+  pub met : subcommand_rows_of matches ≡ Some (word_of_verb line.verb, rows_of (found_of inner))
+  pub entries : HasEntries inner line

@@ -1,0 +1,88 @@
+//! A module's file, and the type that a name of the module means.
+
+ghost use Rattle.std.specs.Prelude.{◌≡◌, ◌⊎◌, IfOk, IfErr};
+ghost use Rattle.std.specs.Str.{IsUtf8};
+ghost use Rattle.types.specs.View.{ty_view};
+ghost use Rattle.types.specs.WellFormed.{IsWellFormed};
+ghost use Rattle.convert.specs.Line.{IsModuleFile};
+
+use crate::fault::{Fault, print_fault};
+use lexis::MAX_TEXT;
+use notation::{parse, resolve};
+use simdutf8::basic::from_utf8;
+use std::alloc::Global;
+use std::io::{self, ErrorKind, Read, Write};
+use types::WellTyped;
+
+/// The type that the module in these octets means by the name.
+pub fn type_from(alloc: Global, octets: &[u8], name: &str) -> Result<WellTyped, notation::Fault>
+    ensures value { IfOk result (λ _. IsModuleFile octets.now) }
+    ensures well_formed { IfOk result (λ ty. IsWellFormed (ty_view ty)) }
+{
+    let text = text_of(octets)?;
+    let module = parse(alloc, text)?;
+    resolve(alloc, &module, name)
+}
+
+// The octets as text. The limit is judged before the characters.
+fn text_of(octets: &[u8]) -> Result<&str, notation::Fault>
+    ensures text { IfOk result (λ text. text.now ≡ octets.now) }
+    ensures numbers { IfErr result (λ fault. (fault.number ≡ 21) ⊎ (fault.number ≡ 31)) }
+{
+    if octets.len() > MAX_TEXT {
+        return Err(at_front(31));
+    }
+    match from_utf8(octets) {
+        Ok(text) => Ok(text),
+        Err(_) => Err(at_front(21)),
+    }
+}
+
+// The fault of this number at 1:1.
+fn at_front(number: u32) -> notation::Fault
+    ensures { result.number ≡ number }
+{
+    notation::Fault {
+        number,
+        line: 1,
+        column: 1,
+    }
+}
+
+/// The octets of a module's file, or so many of them that it is seen to be too long.
+pub fn read_module<R: Read>(alloc: Global, file: &mut R) -> io::Result<Vec<u8>> {
+    let mut octets = Vec::new(alloc);
+    file.take(MAX_TEXT as u64 + 1).read_to_end(&mut octets)?;
+    Ok(octets)
+}
+
+/// Prints the line of a module's file that cannot be opened or read, and returns the exit status: 3, or 4
+/// where memory ran out.
+pub fn cannot_read_module<E: Write>(path: &str, error: &io::Error, err: &mut E) -> u8
+    ensures { (result ≡ 3) ⊎ (result ≡ 4) }
+{
+    let fault = match error.kind() {
+        ErrorKind::OutOfMemory => Fault::Module(at_front(33)),
+        _ => Fault::CannotRead(path),
+    };
+    print_fault(&fault, err)
+}
+
+/// The name of the fault of this number.
+pub fn fault_name(number: u32) -> &'static str {
+    match number {
+        21 => "Token",
+        22 => "Syntax",
+        23 => "Reserved",
+        24 => "UnknownType",
+        25 => "Cycle",
+        26 => "RepeatedName",
+        27 => "RepeatedNumber",
+        28 => "TagsNotDistinct",
+        29 => "ImplicitChoice",
+        30 => "BadDefault",
+        31 => "TooLarge",
+        32 => "NotInProfile",
+        _ => "NoMemory",
+    }
+}
