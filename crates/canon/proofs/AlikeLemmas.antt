@@ -1,8 +1,7 @@
 -- Lemmas on two facts that hold of the same octets.
-use Rattle.std.proofs.Common.{◌≡◌, ◌++◌, ℕ, List, Ok, Err, OnOk, OnErr, ap, ◌∙◌, append_assoc}
+use Rattle.std.proofs.Common.{ℕ, List, Ok, Err, OnOk}
 use Rattle.std.specs.declared.result.Result.{Result}
 use Rattle.octets.specs.Front.{Appends}
-use Rattle.canon.specs.Part.{Keeps}
 use Rattle.canon.specs.Size.{HasSize}
 
 pub record HoldAlike (P Q : List ℕ → Type 0) : Type 0 where
@@ -26,15 +25,3 @@ size_alike P Q n alike h = record {
   each = λ b q. h.each b (alike.from b q);
   there = λ within. let some = h.there within in (some.0, alike.to some.0 some.1);
 }
-
--- what a refused call leaves
-pub kept : {E : Type 0} (r : Result (Unit {0}) E) (P Q : Type 0) → (P → Q) → OnErr r P → OnErr r Q
-kept (Ok x) P Q f h = tt
-kept (Err e) P Q f h = f h
-
-pub always_kept : {E : Type 0} (r : Result (Unit {0}) E) (P : Type 0) → P → OnErr r P
-always_kept (Ok x) P h = tt
-always_kept (Err e) P h = h
-
-pub keeps_more : (old one two added : List ℕ) → Keeps old one → two ≡ one ++ added → Keeps old two
-keeps_more old one two added h e = (h.0 ++ added, e ∙ ap (λ s. s ++ added) h.1 ∙ append_assoc old h.0 added, tt)

@@ -5,6 +5,7 @@ pub mod StringSizeLemmas
 pub mod ContentsSizeLemmas
 pub mod LeafLemmas
 pub mod PartLemmas
+pub mod KeptLemmas
 pub mod SortLemmas
 pub mod SimpleLemmas
 pub mod LengthSizeLemmas

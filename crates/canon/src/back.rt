@@ -1,6 +1,6 @@
 //! Whole values, written from the last octet to the first, so that each length is known once it comes.
 
-ghost use Rattle.std.specs.Prelude.{IfOk, OnOk, map};
+ghost use Rattle.std.specs.Prelude.{IfOk, OnOk, OnErr, map};
 ghost use Rattle.std.specs.List.{AllByRecursion};
 ghost use Rattle.octets.specs.Front.{Appends};
 ghost use Rattle.types.specs.Conforms.{Conforms, SlotsConform};
@@ -8,7 +8,7 @@ ghost use Rattle.types.specs.Encoding.{IsEncoding};
 ghost use Rattle.types.specs.FirstTags.{tags_of_components, AreDistinct};
 ghost use Rattle.types.specs.View.{ty_view, value_view, components_view, slots_view};
 ghost use Rattle.canon.specs.Node.{HasGoodNodes, HaveGoodNodes, AreItems, AreItemsInOrder, AreComponents, AreComponentsByTag};
-ghost use Rattle.canon.specs.Part.{IsPut};
+ghost use Rattle.canon.specs.Part.{IsPut, Keeps};
 ghost use Rattle.canon.specs.Rule.{rule_of};
 ghost use Rattle.canon.specs.Turned.{Turned};
 
@@ -35,8 +35,9 @@ pub(crate) fn put_back(
 ) -> Result<(), NoMemory>
     requires nodes { HasGoodNodes (ty_view ty.now) }
     requires conforms { Conforms (ty_view ty.now) (value_view value.now) }
-    ensures { OnOk result (Appends
+    ensures appended { OnOk result (Appends
         (Turned (IsEncoding (rule_of rule) (ty_view ty.now) (value_view value.now))) out.old.items out.new.items) }
+    ensures kept { OnErr result (Keeps out.old.items out.new.items) }
 {
     let start = out.len();
     match ty {
@@ -95,8 +96,9 @@ fn put_items(
 ) -> Result<(), NoMemory>
     requires nodes { HasGoodNodes (ty_view ty.now) }
     requires conform { AllByRecursion (Conforms (ty_view ty.now)) (map value_view items.now) }
-    ensures { OnOk result (Appends
+    ensures appended { OnOk result (Appends
         (Turned (AreItems (IsEncoding (rule_of rule) (ty_view ty.now)) (map value_view items.now))) out.old.items out.new.items) }
+    ensures kept { OnErr result (Keeps out.old.items out.new.items) }
 {
     let count = items.len();
     for done in 0..count {
@@ -116,8 +118,9 @@ fn put_in_order(
 ) -> Result<(), NoMemory>
     requires nodes { HasGoodNodes (ty_view ty.now) }
     requires conform { AllByRecursion (Conforms (ty_view ty.now)) (map value_view items.now) }
-    ensures { OnOk result (Appends
+    ensures appended { OnOk result (Appends
         (Turned (AreItemsInOrder (IsEncoding (rule_of rule) (ty_view ty.now)) (map value_view items.now))) out.old.items out.new.items) }
+    ensures kept { OnErr result (Keeps out.old.items out.new.items) }
 {
     let from = out.len();
     let count = items.len();
@@ -142,8 +145,9 @@ pub(crate) fn put_span(
 ) -> Result<Span, NoMemory>
     requires nodes { HasGoodNodes (ty_view ty.now) }
     requires conforms { Conforms (ty_view ty.now) (value_view value.now) }
-    ensures { IfOk result (IsPut
+    ensures put { IfOk result (IsPut
         (IsEncoding (rule_of rule) (ty_view ty.now) (value_view value.now)) out.old.items out.new.items) }
+    ensures kept { OnErr result (Keeps out.old.items out.new.items) }
 {
     let start = out.len();
     put_back(alloc, rule, ty, value, out)?;
@@ -163,8 +167,9 @@ fn put_components(
 ) -> Result<(), NoMemory>
     requires nodes { HaveGoodNodes (components_view fields.now) }
     requires conform { SlotsConform (components_view fields.now) (slots_view slots.now) }
-    ensures { OnOk result (Appends
+    ensures appended { OnOk result (Appends
         (Turned (AreComponents (rule_of rule) (components_view fields.now) (slots_view slots.now))) out.old.items out.new.items) }
+    ensures kept { OnErr result (Keeps out.old.items out.new.items) }
 {
     let count = fields.len().min(slots.len());
     for done in 0..count {
@@ -189,8 +194,9 @@ fn put_by_tag(
     requires nodes { HaveGoodNodes (components_view fields.now) }
     requires distinct { AreDistinct (tags_of_components (components_view fields.now)) }
     requires conform { SlotsConform (components_view fields.now) (slots_view slots.now) }
-    ensures { OnOk result (Appends
+    ensures appended { OnOk result (Appends
         (Turned (AreComponentsByTag (rule_of rule) (components_view fields.now) (slots_view slots.now))) out.old.items out.new.items) }
+    ensures kept { OnErr result (Keeps out.old.items out.new.items) }
 {
     let from = out.len();
     let count = fields.len().min(slots.len());

@@ -54,9 +54,10 @@ pub(crate) fn put_head(
 ) -> Result<(), NoMemory>
     requires tag { tag.number ≤ MAX_TAG_NUMBER }
     requires start { start ≤ length out.old.items }
-    ensures { OnOk result ((old contents : List ℕ) → length old ≡ start →
+    ensures appended { OnOk result ((old contents : List ℕ) → length old ≡ start →
         out.old.items ≡ old ++ end_octets (rule_of rule) ++ reverse contents →
         Appends (Turned (IsConstructed (rule_of rule) tag contents)) old out.new.items) }
+    ensures kept { OnErr result (Keeps out.old.items out.new.items) }
 {
     let end = out.len();
     put_front(rule, tag, end - start, out)?;

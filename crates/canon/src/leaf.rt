@@ -68,8 +68,9 @@ pub(crate) fn put_leaf(
 ) -> Result<(), NoMemory>
     requires tag { tag.number ≤ MAX_TAG_NUMBER }
     requires leaf { IsLeaf (value_view value.now) }
-    ensures { OnOk result (Appends
+    ensures appended { OnOk result (Appends
         (Turned (IsLeafEncoding (rule_of rule) tag (value_view value.now))) out.old.items out.new.items) }
+    ensures kept { OnErr result (Keeps out.old.items out.new.items) }
 {
     let start = out.len();
     put_forwards(rule, tag, value, out)?;

@@ -1,10 +1,11 @@
 //! Parts of one buffer, put in order.
 
-ghost use Rattle.std.specs.Prelude.{◌≡◌, ◌≤◌, ◌++◌, length, take, drop, map, reverse, IfOk, OnOk, IsPermutation};
+ghost use Rattle.std.specs.Prelude.{◌≡◌, ◌≤◌, ◌++◌, length, take, drop, map, reverse, IfOk, OnOk, OnErr, IsPermutation};
 ghost use Rattle.std.specs.List.{concat};
 ghost use Rattle.std.specs.Ordering.{nat_cmp};
 ghost use Rattle.std.specs.Cmp.Lexicographic.{slice_cmp};
 ghost use Rattle.types.specs.Order.{Ascends};
+ghost use Rattle.canon.specs.Part.{Keeps};
 ghost use Rattle.canon.specs.Span.{part_of, turned_part, DescendsByTag};
 
 use octets::{NoMemory, Tag};
@@ -81,8 +82,9 @@ pub(crate) fn arrange_turned(
     spans: &[Span],
 ) -> Result<(), NoMemory>
     requires { from ≤ length out.old.items }
-    ensures { OnOk result
+    ensures arranged { OnOk result
         (out.new.items ≡ take from out.old.items ++ concat (map (turned_part out.old.items) spans.now)) }
+    ensures kept { OnErr result (Keeps (take from out.old.items) out.new.items) }
 {
     let mut moved = Vec::new(alloc);
     moved.reserve(out.len() - from)?;

@@ -1,5 +1,5 @@
 //! Whole values, of known sizes. Explicit tags and a value without parts are written from the first octet
-//! to the last, and a value with parts by way of a buffer in which it stands turned round.
+//! to the last, and a value with parts from the last to the first and then turned round where it stands.
 
 ghost use Rattle.std.specs.Prelude.{◌≡◌, ◌≤◌, OnOk, OnErr};
 ghost use Rattle.octets.specs.declared.TheConstants.{MAX_ENCODING};
@@ -12,7 +12,7 @@ ghost use Rattle.canon.specs.Part.{Keeps};
 ghost use Rattle.canon.specs.Rule.{rule_of};
 ghost use Rattle.canon.specs.Size.{HasSomeOf};
 
-use crate::back::put_back;
+use crate::back::put_span;
 use crate::heads::{put_end, put_front};
 use crate::leaf::put_forwards;
 use crate::parts::chosen_in;
@@ -78,9 +78,10 @@ fn put_straight(
         | Ty::Octets(tag)
         | Ty::Text(tag, _)
         | Ty::Time(tag, _) => put_forwards(rule, *tag, value, out),
-        Ty::Sequence(_, _) | Ty::Set(_, _) | Ty::SequenceOf(_, _) | Ty::SetOf(_, _) => put_turned(
-            alloc, rule, ty, value, size, out,
-        ),
+        Ty::Sequence(_, _) | Ty::Set(_, _) | Ty::SequenceOf(_, _) | Ty::SetOf(_, _) => {
+            put_span(alloc, rule, ty, value, out)?;
+            Ok(())
+        }
         Ty::Choice(alternatives) => {
             let Some((which, chosen)) = chosen_in(value) else {
                 unreachable!()
@@ -94,27 +95,4 @@ fn put_straight(
             put_end(rule, out)
         }
     }
-}
-
-// Appends the encoding of `value` by way of a buffer in which it stands turned round.
-fn put_turned(
-    alloc: Global,
-    rule: CanonicalRule,
-    ty: &Ty,
-    value: &Value,
-    size: usize,
-    out: &mut Vec<u8>,
-) -> Result<(), NoMemory>
-    requires nodes { HasGoodNodes (ty_view ty.now) }
-    requires conforms { Conforms (ty_view ty.now) (value_view value.now) }
-    ensures appended { OnOk result
-        (Appends (IsEncoding (rule_of rule) (ty_view ty.now) (value_view value.now)) out.old.items out.new.items) }
-    ensures kept { OnErr result (Keeps out.old.items out.new.items) }
-{
-    let mut turned = Vec::new(alloc);
-    turned.reserve(size)?;
-    put_back(alloc, rule, ty, value, &mut turned)?;
-    turned.reverse();
-    out.extend_from_slice(&turned)?;
-    Ok(())
 }

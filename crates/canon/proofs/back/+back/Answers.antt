@@ -20,10 +20,11 @@ use Rattle.types.specs.Encoding.{IsEncoding}
 use Rattle.types.proofs.ViewLemmas.{ty-Sequence, ty-Set, ty-SequenceOf, ty-SetOf, ty-Choice, ty-Explicit}
 use Rattle.canon.specs.Node.{HasGoodNodes, IsAround, AreItems, AreItemsInOrder, AreComponents, AreComponentsByTag}
 use Rattle.canon.specs.Leaf.{IsLeafEncoding}
-use Rattle.canon.specs.Part.{IsPut, AreLaid}
+use Rattle.canon.specs.Part.{IsPut, AreLaid, Keeps}
 use Rattle.canon.specs.Rule.{rule_of}
 use Rattle.canon.specs.Turned.{Turned, end_octets}
 use Rattle.canon.proofs.AlikeLemmas.{appended_by, alike-chain}
+use Rattle.canon.proofs.KeptLemmas.{kept, always_kept, keeps_more, keeps_chain, keeps_taken}
 use Rattle.canon.proofs.LeafLemmas.{leaf_alike}
 use Rattle.canon.proofs.NodeLemmas.{choice_parts, choice_alike, has_items, has_slots, explicit_alike, sequence_alike, set_alike, sequence_of_alike, set_of_alike}
 use Rattle.canon.proofs.PutLemmas.{PutFrom, item_put, no_components_put, present_put, absent_put, laid_more, order_made}
@@ -43,14 +44,14 @@ arm : {E : Type 0} (r : Result (Unit {0}) E) (rule : Rule) (tag : Tag) (P Q : Li
     → OnOk r ((before contents : List ℕ) → length before ≡ start → two ≡ before ++ end_octets rule ++ reverse contents → Appends (Turned (IsConstructed rule tag contents)) before new) → OnOk r (Appends (Turned Q) old new)
 arm r rule tag P Q start old one two new at end a f h = OnOk-map r _ _ (λ head. let w = around_made rule tag P start old one two new at end a head in (w.0, w.1, f (reverse w.0) w.2)) h
 
-pub put_back-returns-in-Boolean : goal.put_back-returns-in-Boolean
-put_back-returns-in-Boolean t c =
+pub put_back-returns-in-Boolean-clause-appended : goal.put_back-returns-in-Boolean-clause-appended
+put_back-returns-in-Boolean-clause-appended t c =
     let tag = c.in-Boolean.tag in
     let rule = rule_of c.args.rule in
     let shape = ty_view c.args.ty.now in
     let v = value_view c.args.value.now in
     let alike = leaf_alike rule tag shape v (leaf_view c.args.ty.now tag c.in-Boolean.is) c.requires.conforms in
-    appended_by c.put_leaf.result (Turned (IsLeafEncoding rule tag v)) (Turned (IsEncoding rule shape v)) c.args.out.now.items c.put_leaf.new.out.items (λ b h. alike.to (reverse b) h) c.put_leaf.ensures
+    appended_by c.put_leaf.result (Turned (IsLeafEncoding rule tag v)) (Turned (IsEncoding rule shape v)) c.args.out.now.items c.put_leaf.new.out.items (λ b h. alike.to (reverse b) h) c.put_leaf.ensures.appended
 
 pub put_back-index-requires : goal.put_back-index-requires
 put_back-index-requires t c =
@@ -70,8 +71,8 @@ put_back-put_back-requires t c =
     let at : a ≡ get_or alternatives.items parts.which a = c.index.ensures ∙ ap (λ k. get_or alternatives.items k a) told.0 in
     (search (rules, node.the_lemmas, alternative.the_lemmas), (parts.alternative.nodes a at, subst (Conforms (ty_view a.ty)) (sym told.1) (parts.alternative.conforms a at)))
 
-pub put_back-returns-in-Some : goal.put_back-returns-in-Some
-put_back-returns-in-Some t c =
+pub put_back-returns-in-Some-clause-appended : goal.put_back-returns-in-Some-clause-appended
+put_back-returns-in-Some-clause-appended t c =
     let rule = rule_of c.args.rule in
     let v = value_view c.args.value.now in
     let alternatives = c.in-Choice.alternatives in
@@ -85,10 +86,10 @@ put_back-returns-in-Some t c =
     (λ b h.
     let here : IsEncoding rule (ty_view a.ty) parts.value (reverse b) = subst (λ (w : Val). IsEncoding rule (ty_view a.ty) w (reverse b)) told.1 h in
     subst (λ (s : Shape). IsEncoding rule s v (reverse b)) (sym is) (subst (λ (w : Val). IsEncoding rule (Shape.choice (alternatives_view alternatives.items)) w (reverse b)) (sym parts.is) (alike.to (reverse b) here)))
-    c.put_back.ensures
+    c.put_back.ensures.appended
 
-pub put_back-returns-in_ok-put_components-in-Sequence : goal.put_back-returns-in_ok-put_components-in-Sequence
-put_back-returns-in_ok-put_components-in-Sequence t c =
+pub put_back-returns-in_ok-put_components-in-Sequence-clause-appended : goal.put_back-returns-in_ok-put_components-in-Sequence-clause-appended
+put_back-returns-in_ok-put_components-in-Sequence-clause-appended t c =
     let rule = rule_of c.args.rule in
     let tag = c.in-Sequence.tag in
     let v = value_view c.args.value.now in
@@ -98,14 +99,14 @@ put_back-returns-in_ok-put_components-in-Sequence t c =
     let one = c.put_end.new.out.items in
     let two = c.put_components.new.out.items in
     let here : Appends (Turned (AreComponents rule components parts.slots)) one two = subst (λ (s : Slots). Appends (Turned (AreComponents rule components s)) one two) (sym (c.slots_in.ensures parts.slots parts.is))
-    (subst (λ (fs : List Field). Appends (Turned (AreComponents rule (components_view fs) (slots_view c.slots_in.result.now))) one two) c.deref.ensures.value c.in_ok-put_components-in-Sequence.ensures) in
+    (subst (λ (fs : List Field). Appends (Turned (AreComponents rule (components_view fs) (slots_view c.slots_in.result.now))) one two) c.deref.ensures.value c.in_ok-put_components-in-Sequence.ensures.appended) in
     arm c.put_head.result rule tag (AreComponents rule components parts.slots) (IsEncoding rule (ty_view c.args.ty.now) v) c.len-start.result c.args.out.now.items one two c.put_head.new.out.items
     (omega (arith, c.len-start.ensures)) c.in_ok-put_end-in-Sequence.ensures.appended here
     (λ b h. subst (λ (s : Shape). IsEncoding rule s v b) (sym is) (subst (λ (w : Val). IsEncoding rule (Shape.sequence tag components) w b) (sym parts.is) ((sequence_alike rule tag components parts.slots).to b h)))
-    c.put_head.ensures
+    c.put_head.ensures.appended
 
-pub put_back-returns-in_ok-put_by_tag-in-Set : goal.put_back-returns-in_ok-put_by_tag-in-Set
-put_back-returns-in_ok-put_by_tag-in-Set t c =
+pub put_back-returns-in_ok-put_by_tag-in-Set-clause-appended : goal.put_back-returns-in_ok-put_by_tag-in-Set-clause-appended
+put_back-returns-in_ok-put_by_tag-in-Set-clause-appended t c =
     let rule = rule_of c.args.rule in
     let tag = c.in-Set.tag in
     let v = value_view c.args.value.now in
@@ -115,14 +116,14 @@ put_back-returns-in_ok-put_by_tag-in-Set t c =
     let one = c.put_end-in-Set.new.out.items in
     let two = c.put_by_tag.new.out.items in
     let here : Appends (Turned (AreComponentsByTag rule components parts.slots)) one two = subst (λ (s : Slots). Appends (Turned (AreComponentsByTag rule components s)) one two) (sym (c.slots_in-in-Set.ensures parts.slots parts.is))
-    (subst (λ (fs : List Field). Appends (Turned (AreComponentsByTag rule (components_view fs) (slots_view c.slots_in-in-Set.result.now))) one two) c.deref-in-Set.ensures.value c.in_ok-put_by_tag-in-Set.ensures) in
+    (subst (λ (fs : List Field). Appends (Turned (AreComponentsByTag rule (components_view fs) (slots_view c.slots_in-in-Set.result.now))) one two) c.deref-in-Set.ensures.value c.in_ok-put_by_tag-in-Set.ensures.appended) in
     arm c.put_head-in-Set.result rule tag (AreComponentsByTag rule components parts.slots) (IsEncoding rule (ty_view c.args.ty.now) v) c.len-start.result c.args.out.now.items one two c.put_head-in-Set.new.out.items
     (omega (arith, c.len-start.ensures)) c.in_ok-put_end-in-Set.ensures.appended here
     (λ b h. subst (λ (s : Shape). IsEncoding rule s v b) (sym is) (subst (λ (w : Val). IsEncoding rule (Shape.set tag components) w b) (sym parts.is) ((set_alike rule tag components parts.slots (rule_is_canonical c.args.rule)).to b h)))
-    c.put_head-in-Set.ensures
+    c.put_head-in-Set.ensures.appended
 
-pub put_back-returns-in_ok-put_items-in-SequenceOf : goal.put_back-returns-in_ok-put_items-in-SequenceOf
-put_back-returns-in_ok-put_items-in-SequenceOf t c =
+pub put_back-returns-in_ok-put_items-in-SequenceOf-clause-appended : goal.put_back-returns-in_ok-put_items-in-SequenceOf-clause-appended
+put_back-returns-in_ok-put_items-in-SequenceOf-clause-appended t c =
     let rule = rule_of c.args.rule in
     let tag = c.in-SequenceOf.tag in
     let inner = c.in-SequenceOf.inner in
@@ -134,14 +135,14 @@ put_back-returns-in_ok-put_items-in-SequenceOf t c =
     let one = c.put_end-in-SequenceOf.new.out.items in
     let two = c.put_items.new.out.items in
     let here : Appends (Turned (AreItems (IsEncoding rule type) (listed parts.items))) one two = subst (λ (vs : List Val). Appends (Turned (AreItems (IsEncoding rule type) vs)) one two) (sym (c.items_in.ensures parts.items parts.is))
-    (subst (λ (e : Ty). Appends (Turned (AreItems (IsEncoding rule (ty_view e)) (map value_view c.items_in.result.now))) one two) c.deref-in-SequenceOf.ensures c.in_ok-put_items-in-SequenceOf.ensures) in
+    (subst (λ (e : Ty). Appends (Turned (AreItems (IsEncoding rule (ty_view e)) (map value_view c.items_in.result.now))) one two) c.deref-in-SequenceOf.ensures c.in_ok-put_items-in-SequenceOf.ensures.appended) in
     arm c.put_head-in-SequenceOf.result rule tag (AreItems (IsEncoding rule type) (listed parts.items)) (IsEncoding rule (ty_view c.args.ty.now) v) c.len-start.result c.args.out.now.items one two c.put_head-in-SequenceOf.new.out.items
     (omega (arith, c.len-start.ensures)) c.in_ok-put_end-in-SequenceOf.ensures.appended here
     (λ b h. subst (λ (s : Shape). IsEncoding rule s v b) (sym is) (subst (λ (w : Val). IsEncoding rule (Shape.sequence_of tag type) w b) (sym parts.is) ((sequence_of_alike rule tag type parts.items).to b h)))
-    c.put_head-in-SequenceOf.ensures
+    c.put_head-in-SequenceOf.ensures.appended
 
-pub put_back-returns-in_ok-put_in_order-in-SetOf : goal.put_back-returns-in_ok-put_in_order-in-SetOf
-put_back-returns-in_ok-put_in_order-in-SetOf t c =
+pub put_back-returns-in_ok-put_in_order-in-SetOf-clause-appended : goal.put_back-returns-in_ok-put_in_order-in-SetOf-clause-appended
+put_back-returns-in_ok-put_in_order-in-SetOf-clause-appended t c =
     let rule = rule_of c.args.rule in
     let tag = c.in-SetOf.tag in
     let inner = c.in-SetOf.inner in
@@ -153,14 +154,14 @@ put_back-returns-in_ok-put_in_order-in-SetOf t c =
     let one = c.put_end-in-SetOf.new.out.items in
     let two = c.put_in_order.new.out.items in
     let here : Appends (Turned (AreItemsInOrder (IsEncoding rule type) (listed parts.items))) one two = subst (λ (vs : List Val). Appends (Turned (AreItemsInOrder (IsEncoding rule type) vs)) one two) (sym (c.items_in-in-SetOf.ensures parts.items parts.is))
-    (subst (λ (e : Ty). Appends (Turned (AreItemsInOrder (IsEncoding rule (ty_view e)) (map value_view c.items_in-in-SetOf.result.now))) one two) c.deref-in-SetOf.ensures c.in_ok-put_in_order-in-SetOf.ensures) in
+    (subst (λ (e : Ty). Appends (Turned (AreItemsInOrder (IsEncoding rule (ty_view e)) (map value_view c.items_in-in-SetOf.result.now))) one two) c.deref-in-SetOf.ensures c.in_ok-put_in_order-in-SetOf.ensures.appended) in
     arm c.put_head-in-SetOf.result rule tag (AreItemsInOrder (IsEncoding rule type) (listed parts.items)) (IsEncoding rule (ty_view c.args.ty.now) v) c.len-start.result c.args.out.now.items one two c.put_head-in-SetOf.new.out.items
     (omega (arith, c.len-start.ensures)) c.in_ok-put_end-in-SetOf.ensures.appended here
     (λ b h. subst (λ (s : Shape). IsEncoding rule s v b) (sym is) (subst (λ (w : Val). IsEncoding rule (Shape.set_of tag type) w b) (sym parts.is) ((set_of_alike rule tag type parts.items (rule_is_canonical c.args.rule)).to b h)))
-    c.put_head-in-SetOf.ensures
+    c.put_head-in-SetOf.ensures.appended
 
-pub put_back-returns-in_ok-put_back-in-Explicit : goal.put_back-returns-in_ok-put_back-in-Explicit
-put_back-returns-in_ok-put_back-in-Explicit t c =
+pub put_back-returns-in_ok-put_back-in-Explicit-clause-appended : goal.put_back-returns-in_ok-put_back-in-Explicit-clause-appended
+put_back-returns-in_ok-put_back-in-Explicit-clause-appended t c =
     let rule = rule_of c.args.rule in
     let tag = c.in-Explicit.tag in
     let type = ty_view c.in-Explicit.inner.value in
@@ -168,9 +169,9 @@ put_back-returns-in_ok-put_back-in-Explicit t c =
     let is : ty_view c.args.ty.now ≡ Shape.explicit tag type = ap ty_view c.in-Explicit.is ∙ ty-Explicit tag c.in-Explicit.inner in
     let one = c.put_end-in-Explicit.new.out.items in
     let two = c.put_back-in-Explicit.new.out.items in
-    let here : Appends (Turned (IsEncoding rule type v)) one two = subst (λ (e : Ty). Appends (Turned (IsEncoding rule (ty_view e) v)) one two) c.deref-in-Explicit.ensures c.in_ok-put_back-in-Explicit.ensures in
+    let here : Appends (Turned (IsEncoding rule type v)) one two = subst (λ (e : Ty). Appends (Turned (IsEncoding rule (ty_view e) v)) one two) c.deref-in-Explicit.ensures c.in_ok-put_back-in-Explicit.ensures.appended in
     arm c.put_head-in-Explicit.result rule tag (IsEncoding rule type v) (IsEncoding rule (ty_view c.args.ty.now) v) c.len-start.result c.args.out.now.items one two c.put_head-in-Explicit.new.out.items
-    (omega (arith, c.len-start.ensures)) c.in_ok-put_end-in-Explicit.ensures.appended here (λ b h. subst (λ (s : Shape). IsEncoding rule s v b) (sym is) ((explicit_alike rule tag type v).to b h)) c.put_head-in-Explicit.ensures
+    (omega (arith, c.len-start.ensures)) c.in_ok-put_end-in-Explicit.ensures.appended here (λ b h. subst (λ (s : Shape). IsEncoding rule s v b) (sym is) ((explicit_alike rule tag type v).to b h)) c.put_head-in-Explicit.ensures.appended
 
 pub put_items-put_back-requires : goal.put_items-put_back-requires
 put_items-put_back-requires t c =
@@ -182,7 +183,7 @@ put_items-loop-done-preserved t c =
     let i = length items - (c.loop-done.done + 1) in
     let place : length items - 1 - c.loop-done.done ≡ i = omega arith in
     let at : c.index-items-count.result ≡ get_or items i c.index-items-count.result = c.index-items-count.is ∙ ap (λ k. get_or items k c.index-items-count.result) place in
-    item_put (IsEncoding (rule_of c.args.rule) (ty_view c.args.ty.now)) items i (length items - c.loop-done.done) c.index-items-count.result c.args.out.now.items c.loop-done.out.items c.put_back.new.out.items (omega arith) (omega arith) at c.loop-done.invariant c.in_ok-put_back.ensures
+    item_put (IsEncoding (rule_of c.args.rule) (ty_view c.args.ty.now)) items i (length items - c.loop-done.done) c.index-items-count.result c.args.out.now.items c.loop-done.out.items c.put_back.new.out.items (omega arith) (omega arith) at c.loop-done.invariant c.in_ok-put_back.ensures.appended
 
 pub put_in_order-put_span-requires : goal.put_in_order-put_span-requires
 put_in_order-put_span-requires t c =
@@ -195,11 +196,11 @@ put_in_order-loop-done-preserved t c =
     let i = length items - (c.loop-done.done + 1) in
     let place : length items - 1 - c.loop-done.done ≡ i = omega arith in
     let at : c.index-items-count.result ≡ get_or items i c.index-items-count.result = c.index-items-count.is ∙ ap (λ k. get_or items k c.index-items-count.result) place in
-    let laid = laid_more IsItem items i (length items - c.loop-done.done) c.index-items-count.result c.loop-done.spans.items c.in_ok-span.span c.args.out.now.items c.loop-done.out.items c.put_span.new.out.items (omega arith) (omega arith) at c.loop-done.invariant c.in_ok-span.ensures in
+    let laid = laid_more IsItem items i (length items - c.loop-done.done) c.index-items-count.result c.loop-done.spans.items c.in_ok-span.span c.args.out.now.items c.loop-done.out.items c.put_span.new.out.items (omega arith) (omega arith) at c.loop-done.invariant c.in_ok-span.ensures.put in
     subst (λ (ss : List Span). AreLaid IsItem (map value_view (drop i items)) ss c.args.out.now.items c.put_span.new.out.items) (sym c.in_ok-push.ensures.items) laid
 
-pub put_in_order-returns : goal.put_in_order-returns
-put_in_order-returns t c =
+pub put_in_order-returns-clause-appended : goal.put_in_order-returns-clause-appended
+put_in_order-returns-clause-appended t c =
     let items = c.args.items.now in
     let IsItem = IsEncoding (rule_of c.args.rule) (ty_view c.args.ty.now) in
     let old = c.args.out.now.items in
@@ -210,7 +211,7 @@ put_in_order-returns t c =
     OnOk-map c.arrange_turned.result _ _
     (λ moved. order_made IsItem (map value_view items) c.loop-done.spans.items c.sort_down.new.spans.items old mid c.arrange_turned.new.out.items c.len-from.result (omega (arith, c.len-from.ensures)) laid c.sort_down.ensures.permutation up
     (moved ∙ ap (λ (ss : List Span). take c.len-from.result mid ++ concat (map (turned_part mid) ss)) c.deref-2.ensures.value))
-    c.arrange_turned.ensures
+    c.arrange_turned.ensures.arranged
 
 pub put_components-loop-done-init : goal.put_components-loop-done-init
 put_components-loop-done-init t c =
@@ -262,15 +263,15 @@ put_components-loop-done-preserved t c =
           let at : f ≡ get_or fields i f = w.index-fields-place.is ∙ ap (λ k. get_or fields k f) place in
           let is = present_at fields slots i f v here at stands c.requires.conform c.requires.nodes in
           let new = w.put_back.new.out.items in
-          let put : Appends (Turned (IsEncoding rule (ty_view f.ty) (value_view v))) c.loop-done.out.items new = subst (λ (g : Field). Appends (Turned (IsEncoding rule (ty_view g.ty) (value_view v))) c.loop-done.out.items new) (sym w.index-fields-place.is) w.in_ok-put_back-in-Some.ensures in
+          let put : Appends (Turned (IsEncoding rule (ty_view f.ty) (value_view v))) c.loop-done.out.items new = subst (λ (g : Field). Appends (Turned (IsEncoding rule (ty_view g.ty) (value_view v))) c.loop-done.out.items new) (sym w.index-fields-place.is) w.in_ok-put_back-in-Some.ensures.appended in
           subst (λ (o : Vec ℕ Global). PutFrom rule fields slots i old o.items) (sym w.out-is) (present_put rule fields slots i j f v old c.loop-done.out.items new there here (omega arith) at stands is c.loop-done.invariant put)
       | put_components-in-None w ↦
           let stands : None ≡ get_or slots i None = sym w.in-None.is ∙ c.index-slots-place.is ∙ ap (λ k. get_or slots k c.index-slots-place.result) place ∙ ap (λ (d : Option Value). get_or slots i d) w.in-None.is in
           subst (λ (o : Vec ℕ Global). PutFrom rule fields slots i old o.items) (sym w.out-is) (absent_put rule fields slots i j old c.loop-done.out.items there here (omega arith) stands (rule_is_canonical c.args.rule) c.requires.conform c.loop-done.invariant)
     ]
 
-pub put_components-returns : goal.put_components-returns
-put_components-returns t c =
+pub put_components-returns-clause-appended : goal.put_components-returns-clause-appended
+put_components-returns-clause-appended t c =
     let none_left : c.min-count.result - c.loop-done.done ≡ 0 = omega arith in
     subst (λ k. PutFrom (rule_of c.args.rule) c.args.fields.now c.args.slots.now k c.args.out.now.items c.loop-done.out.items) none_left c.loop-done.invariant
 
@@ -316,7 +317,7 @@ put_by_tag-loop-done-preserved t c =
           let mid = c.loop-done.out.items in
           let new = w.put_span.new.out.items in
           let span = w.in_ok-span-in-Some.span in
-          let put : IsPut (IsEncoding rule (ty_view f.ty) (value_view v)) mid new span = subst (λ (g : Field). IsPut (IsEncoding rule (ty_view g.ty) (value_view v)) mid new span) (sym w.index-fields-place.is) w.in_ok-span-in-Some.ensures in
+          let put : IsPut (IsEncoding rule (ty_view f.ty) (value_view v)) mid new span = subst (λ (g : Field). IsPut (IsEncoding rule (ty_view g.ty) (value_view v)) mid new span) (sym w.index-fields-place.is) w.in_ok-span-in-Some.ensures.put in
           let stood : w.part.result.now ≡ put.octets = w.part.ensures ∙ ap (λ (b : List ℕ). part_of b span) w.deref.ensures.value ∙ part_put (IsEncoding rule (ty_view f.ty) (value_view v)) mid new span put in
           let encodes = subst (λ (g : Field). IsEncoding rule (ty_view g.ty) (value_view v) w.part.result.now) w.index-fields-place.is (subst (IsEncoding rule (ty_view f.ty) (value_view v)) (sym stood) put.holds) in
           let tag = w.order_tag-tag.result in
@@ -333,8 +334,8 @@ put_by_tag-loop-done-preserved t c =
           (subst (λ (x : Vec Tagged Global). LaidFrom rule fields slots i x.items old c.loop-done.out.items) (sym w.parts-is) laid)
     ]
 
-pub put_by_tag-returns : goal.put_by_tag-returns
-put_by_tag-returns t c =
+pub put_by_tag-returns-clause-appended : goal.put_by_tag-returns-clause-appended
+put_by_tag-returns-clause-appended t c =
     let rule = rule_of c.args.rule in
     let old = c.args.out.now.items in
     let mid = c.loop-done.out.items in
@@ -345,4 +346,56 @@ put_by_tag-returns t c =
     OnOk-map c.arrange_turned.result _ _
     (λ moved. by_tag_made rule (components_view c.args.fields.now) (slots_view c.args.slots.now) c.loop-done.parts.items sorted c.in_ok-spans.spans.items old mid c.arrange_turned.new.out.items c.len-from.result (omega (arith, c.len-from.ensures)) laid
     c.sort_down_by_tag.ensures.permutation c.sort_down_by_tag.ensures.descends spanned (moved ∙ ap (λ (ss : List Span). take c.len-from.result mid ++ concat (map (turned_part mid) ss)) c.deref-3.ensures.value))
-    c.arrange_turned.ensures
+    c.arrange_turned.ensures.arranged
+
+pub put_items-returns-in_err-put_back-clause-kept : goal.put_items-returns-in_err-put_back-clause-kept
+put_items-returns-in_err-put_back-clause-kept t c =
+    let so_far = c.loop-done.invariant in
+    always_kept c.from_residual.result (Keeps c.args.out.now.items c.put_back.new.out.items)
+    (keeps_chain c.args.out.now.items c.loop-done.out.items c.put_back.new.out.items (so_far.0, so_far.1, tt) c.in_err-put_back.ensures.kept)
+
+pub put_components-returns-in_err-put_back-in-Some-clause-kept : goal.put_components-returns-in_err-put_back-in-Some-clause-kept
+put_components-returns-in_err-put_back-in-Some-clause-kept t c =
+    let so_far = c.loop-done.invariant in
+    always_kept c.from_residual.result (Keeps c.args.out.now.items c.put_back.new.out.items)
+    (keeps_chain c.args.out.now.items c.loop-done.out.items c.put_back.new.out.items (so_far.0, so_far.1, tt) c.in_err-put_back-in-Some.ensures.kept)
+
+pub put_in_order-returns-in_err-span-clause-kept : goal.put_in_order-returns-in_err-span-clause-kept
+put_in_order-returns-in_err-span-clause-kept t c =
+    always_kept c.from_residual-in_err-span.result (Keeps c.args.out.now.items c.put_span.new.out.items)
+    (keeps_chain c.args.out.now.items c.loop-done.out.items c.put_span.new.out.items (_, c.loop-done.invariant.is, tt) c.in_err-span.ensures.kept)
+
+pub put_in_order-returns-in_err-push-clause-kept : goal.put_in_order-returns-in_err-push-clause-kept
+put_in_order-returns-in_err-push-clause-kept t c =
+    let put = c.in_ok-span.ensures.put in
+    always_kept c.from_residual-in_err-push.result (Keeps c.args.out.now.items c.put_span.new.out.items)
+    (keeps_more c.args.out.now.items c.loop-done.out.items c.put_span.new.out.items put.octets (_, c.loop-done.invariant.is, tt) put.is)
+
+pub put_in_order-returns-clause-kept : goal.put_in_order-returns-clause-kept
+put_in_order-returns-clause-kept t c =
+    let old = c.args.out.now.items in
+    let mid = c.loop-done.out.items in
+    let new = c.arrange_turned.new.out.items in
+    kept c.arrange_turned.result (Keeps (take c.len-from.result mid) new) (Keeps old new) (keeps_taken old _ mid new c.len-from.result (omega (arith, c.len-from.ensures)) c.loop-done.invariant.is) c.arrange_turned.ensures.kept
+
+pub put_by_tag-returns-in_err-span-in-Some-clause-kept : goal.put_by_tag-returns-in_err-span-in-Some-clause-kept
+put_by_tag-returns-in_err-span-in-Some-clause-kept t c =
+    always_kept c.from_residual-in_err-span-in-Some.result (Keeps c.args.out.now.items c.put_span.new.out.items)
+    (keeps_chain c.args.out.now.items c.loop-done.out.items c.put_span.new.out.items (_, c.loop-done.invariant.is, tt) c.in_err-span-in-Some.ensures.kept)
+
+pub put_by_tag-returns-in_err-push-in-Some-clause-kept : goal.put_by_tag-returns-in_err-push-in-Some-clause-kept
+put_by_tag-returns-in_err-push-in-Some-clause-kept t c =
+    let put = c.in_ok-span-in-Some.ensures.put in
+    always_kept c.from_residual-in_err-push-in-Some.result (Keeps c.args.out.now.items c.put_span.new.out.items)
+    (keeps_more c.args.out.now.items c.loop-done.out.items c.put_span.new.out.items put.octets (_, c.loop-done.invariant.is, tt) put.is)
+
+pub put_by_tag-returns-in_err-spans-clause-kept : goal.put_by_tag-returns-in_err-spans-clause-kept
+put_by_tag-returns-in_err-spans-clause-kept t c =
+    always_kept c.from_residual-in_err-spans.result (Keeps c.args.out.now.items c.loop-done.out.items) (_, c.loop-done.invariant.is, tt)
+
+pub put_by_tag-returns-clause-kept : goal.put_by_tag-returns-clause-kept
+put_by_tag-returns-clause-kept t c =
+    let old = c.args.out.now.items in
+    let mid = c.loop-done.out.items in
+    let new = c.arrange_turned.new.out.items in
+    kept c.arrange_turned.result (Keeps (take c.len-from.result mid) new) (Keeps old new) (keeps_taken old _ mid new c.len-from.result (omega (arith, c.len-from.ensures)) c.loop-done.invariant.is) c.arrange_turned.ensures.kept

@@ -8,8 +8,8 @@ use Rattle.canon.specs.declared.rule.CanonicalRule.TheVariants.{Der}
 use Rattle.canon.proofs.TurnLemmas.{turned_head}
 use Rattle.canon.proofs.heads.put_head.Goals as goal
 
-pub returns : goal.returns
-returns c = λ old contents begins is.
+pub returns-clause-appended : goal.returns-clause-appended
+returns-clause-appended c = λ old contents begins is.
     let before = c.args.out.now.items in
     let count : c.args.rule ≡ Der → length contents ≡ c.len-end.result - c.args.start = λ e.
     let here : before ≡ old ++ end_octets (rule_of Der) ++ reverse contents = is ∙ ap (λ (r : CanonicalRule). old ++ end_octets (rule_of r) ++ reverse contents) e in

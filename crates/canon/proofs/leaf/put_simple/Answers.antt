@@ -5,7 +5,7 @@ use Rattle.types.specs.View.{value_view}
 use Rattle.canon.specs.Part.{Keeps}
 use Rattle.canon.specs.Rule.{rule_of}
 use Rattle.canon.specs.Leaf.{IsContentsOf, IsSimplyEncoded}
-use Rattle.canon.proofs.AlikeLemmas.{kept, keeps_more}
+use Rattle.canon.proofs.KeptLemmas.{kept, keeps_more}
 use Rattle.canon.proofs.SimpleLemmas.{simple_made}
 use Rattle.canon.proofs.leaf.put_simple.Goals as goal
 

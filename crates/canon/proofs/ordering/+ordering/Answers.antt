@@ -186,7 +186,7 @@ sort_items-loop-item-preserved t c =
     let i = c.loop-item.item-index in
     let type = ty_view c.args.ty.now in
     let new = c.put_span.new.out.items in
-    let more = item_placed type xs c.loop-item.placed.items i c.item-item.result c.in_ok-value.value c.in_ok-span.span c.loop-item.octets.items new (omega arith) c.item-item.is c.loop-item.invariant c.in_ok-value.ensures c.in_ok-span.ensures in
+    let more = item_placed type xs c.loop-item.placed.items i c.item-item.result c.in_ok-value.value c.in_ok-span.span c.loop-item.octets.items new (omega arith) c.item-item.is c.loop-item.invariant c.in_ok-value.ensures c.in_ok-span.ensures.put in
     subst (λ (done : List Placed). AllZip (IsPlaced type new) (map value_view (take (i + 1) xs)) done) (sym c.in_ok-push.ensures.items) more
 
 pub sort_items-returns : goal.sort_items-returns

@@ -1,6 +1,6 @@
 use Rattle.std.proofs.Common.{◌≡◌, ◌∙◌}
 use Rattle.canon.specs.Part.{Keeps}
-use Rattle.canon.proofs.AlikeLemmas.{always_kept, keeps_more}
+use Rattle.canon.proofs.KeptLemmas.{always_kept, keeps_more}
 use Rattle.canon.proofs.segments.put_primitive.Goals as goal
 
 pub returns-in_err-extend_from_slice-clause-kept : goal.returns-in_err-extend_from_slice-clause-kept

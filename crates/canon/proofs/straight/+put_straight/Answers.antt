@@ -14,7 +14,8 @@ use Rattle.canon.specs.Node.{HasGoodNodes}
 use Rattle.canon.specs.Part.{Keeps}
 use Rattle.canon.specs.Rule.{rule_of}
 use Rattle.canon.specs.Turned.{end_octets}
-use Rattle.canon.proofs.AlikeLemmas.{appended_by, kept, keeps_more}
+use Rattle.canon.proofs.AlikeLemmas.{appended_by}
+use Rattle.canon.proofs.KeptLemmas.{kept, keeps_more}
 use Rattle.canon.proofs.LeafLemmas.{leaf_alike}
 use Rattle.canon.proofs.NodeLemmas.{choice_parts, has_inner}
 use Rattle.canon.proofs.StraightLemmas.{chosen_in_choice, explicit_straight, inner_some, some_alike}
