@@ -1,5 +1,5 @@
 -- The items of an ENUMERATED one by one, the written numbers in any order.
-use Rattle.std.proofs.Common.{◌≡◌, ℕ, suc, ℤ, pos, List, [], ◌∷◌, ◌++◌, Some, None, refl, sym, subst, FitsSigned}
+use Rattle.std.proofs.Common.{◌≡◌, ℕ, suc, ℤ, pos, List, [], ◌∷◌, ◌++◌, Option, Some, None, refl, sym, subst, FitsSigned}
 use Rattle.std.specs.Prelude.{IsPermutation}
 use Rattle.std.specs.Int.{w128}
 use Rattle.std.proofs.lemmas.List.Sorted.{Contains-permutation, IsPermutation-sym}
@@ -56,3 +56,18 @@ free-permuted written sorted from number same h = record {
   free = λ c. h.free (Contains-permutation written sorted (pos number) same c);
   first = λ other low less. Contains-permutation sorted written (pos other) (IsPermutation-sym written sorted same) (h.first other low less);
 }
+
+-- one more item, where the code has the entry
+pub item-written : (written : List ℤ) (from : ℕ) (entries : List Entry) (items after : List EnumerationItem) (next : ℕ) (name : List ℕ) (value : Option SignedNumber) (number : SignedNumber) (item : EnumerationItem)
+    → value ≡ Some number → after ≡ items ++ item ∷ [] → item.name ≡ name → item.number ≡ number_of number → FitsSigned w128 (number_of number)
+    → NumberedTo written from entries items next → NumberedTo written from (entries ++ (name, value) ∷ []) after next
+item-written written from entries items after next name value number item some pushed named numbered fits h =
+    subst (λ (v : Option SignedNumber). NumberedTo written from (entries ++ (name, v) ∷ []) after next) (sym some)
+    (subst (λ (l : List EnumerationItem). NumberedTo written from (entries ++ (name, Some number) ∷ []) l next) (sym pushed) (push-written written from entries items next name number item h named numbered fits))
+
+pub item-free : (written : List ℤ) (from : ℕ) (entries : List Entry) (items after : List EnumerationItem) (next : ℕ) (name : List ℕ) (value : Option SignedNumber) (number : ℕ) (item : EnumerationItem)
+    → value ≡ None → after ≡ items ++ item ∷ [] → item.name ≡ name → item.number ≡ pos number → IsNextFree written next number
+    → NumberedTo written from entries items next → NumberedTo written from (entries ++ (name, value) ∷ []) after (suc number)
+item-free written from entries items after next name value number item none pushed named numbered free h =
+    subst (λ (v : Option SignedNumber). NumberedTo written from (entries ++ (name, v) ∷ []) after (suc number)) (sym none)
+    (subst (λ (l : List EnumerationItem). NumberedTo written from (entries ++ (name, None) ∷ []) l (suc number)) (sym pushed) (push-free written from entries items next name number item h named free numbered))

@@ -29,3 +29,5 @@ pub mod WaitingLemmas
 pub mod SizeInstances
 pub mod WrittenLemmas
 pub mod ItemLemmas
+pub mod FreeLemmas
+pub mod EntryLemmas

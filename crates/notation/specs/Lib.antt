@@ -11,3 +11,4 @@ pub mod Size
 pub mod Refused
 pub mod Known
 pub mod Waiting
+pub mod Written

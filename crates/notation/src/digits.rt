@@ -1,7 +1,8 @@
 //! What the strings behind DEFAULT spell, quotes included (X.680 12.10, 12.12 and 12.14).
 
-ghost use Rattle.std.specs.Prelude.{◌≡◌, ◌≢◌, ◌<◌, ℕ, IfSome, IsNone};
-ghost use Rattle.notation.specs.Defaults.{digit_string, hex_digit};
+ghost use Rattle.std.specs.Prelude.{◌≡◌, ◌≢◌, ◌<◌, ℕ, IfOk, IfSome, IsNone};
+ghost use Rattle.lexis.specs.Spelling.{doubled};
+ghost use Rattle.notation.specs.Defaults.{character_string, digit_string, hex_digit};
 
 use primitives::Bits;
 use std::alloc::{AllocError, Global};
@@ -50,7 +51,9 @@ pub fn hex_octets(alloc: Global, spelled: &str) -> Result<Option<Vec<u8>>, Alloc
 }
 
 /// The octets of a character string, each doubled quote standing for one.
-pub fn quoted_octets(alloc: Global, spelled: &str) -> Result<Option<Vec<u8>>, AllocError> {
+pub fn quoted_octets(alloc: Global, spelled: &str) -> Result<Option<Vec<u8>>, AllocError>
+    ensures { IfOk result (λ found. IfSome found (λ octets. spelled.now ≡ character_string octets.items)) }
+{
     match spelled.as_bytes() {
         [b'"', quoted @ .., b'"'] => undoubled(alloc, quoted),
         _ => Ok(None),
@@ -58,7 +61,9 @@ pub fn quoted_octets(alloc: Global, spelled: &str) -> Result<Option<Vec<u8>>, Al
 }
 
 /// The octets, one quote for each two; None where a quote stands alone.
-fn undoubled(alloc: Global, quoted: &[u8]) -> Result<Option<Vec<u8>>, AllocError> {
+fn undoubled(alloc: Global, quoted: &[u8]) -> Result<Option<Vec<u8>>, AllocError>
+    ensures { IfOk result (λ found. IfSome found (λ octets. quoted.now ≡ doubled octets.items)) }
+{
     let mut octets = Vec::new(alloc);
     let mut is_first = false;
     for octet in quoted {

@@ -1,11 +1,23 @@
 //! The numbers of the items of an ENUMERATED (X.680 clause 20).
 
+ghost use Rattle.std.specs.Prelude.{◌≡◌, IfOk, IfSome, IsNone, FitsSigned, map, ◌↔◌, ℤ, pos, ◌+ℤ◌};
+ghost use Rattle.std.specs.Int.{w128};
+ghost use Rattle.std.specs.List.Sorted.{IsSorted};
+ghost use Rattle.std.specs.Ordering.{int_cmp};
+ghost use Rattle.syntax.specs.View.{entry};
+ghost use Rattle.types.specs.View.{item_view};
+ghost use Rattle.notation.specs.Numbering.{number_of, AreItems};
+ghost use Rattle.notation.specs.Written.{HasWritten, IsFree, IsPassed};
+
 use crate::stop::{Cause, Stop};
 use std::alloc::{AllocError, Global};
 use syntax::{Item, SignedNumber};
 
 /// The number, where it is within -2^127 to 2^127-1.
-pub fn number_of(signed: SignedNumber) -> Option<i128> {
+pub fn number_of(signed: SignedNumber) -> Option<i128>
+    ensures some { IfSome result (λ number. (number ≡ number_of signed) × FitsSigned w128 (number_of signed)) }
+    ensures none { IsNone result → FitsSigned w128 (number_of signed) → ⊥ }
+{
     if !signed.negative {
         return i128::try_from(signed.magnitude).ok();
     }
@@ -44,13 +56,18 @@ pub fn numbers_differ(alloc: Global, items: &[Item]) -> Result<bool, AllocError>
 }
 
 /// The numbers that are written, ascending.
-fn written_numbers(alloc: Global, items: &[Item]) -> Result<Vec<i128>, AllocError> {
+fn written_numbers(alloc: Global, items: &[Item]) -> Result<Vec<i128>, AllocError>
+    ensures written { IfOk result (λ written. HasWritten (map entry items.now) written.items) }
+    ensures ascending { IfOk result (λ written. IsSorted int_cmp written.items) }
+{
     let mut written = Vec::new(alloc);
     for item in items {
-        if let Some(signed) = item.number {
-            if let Some(number) = number_of(signed) {
-                written.push(number)?;
-            }
+        match item.number {
+            Some(signed) => match number_of(signed) {
+                Some(number) => written.push(number)?,
+                None => {}
+            },
+            None => {}
         }
     }
     written.sort_unstable();
@@ -59,7 +76,9 @@ fn written_numbers(alloc: Global, items: &[Item]) -> Result<Vec<i128>, AllocErro
 
 /// The items with their numbers: those that are written, and for the others in order of text the
 /// successive numbers from 0, but for those that are written.
-pub fn numbered(alloc: Global, items: &[Item]) -> Result<Vec<types::Item>, Stop> {
+pub fn numbered(alloc: Global, items: &[Item]) -> Result<Vec<types::Item>, Stop>
+    ensures { IfOk result (λ numbered. AreItems (map entry items.now) (map item_view numbered.items)) }
+{
     let written = written_numbers(alloc, items)?;
     let mut free = FreeNumbers {
         written: &written,
@@ -93,7 +112,13 @@ struct FreeNumbers<'a> {
 
 impl FreeNumbers<'_> {
     /// The least number that is left.
-    fn take(&mut self) -> Option<i128> {
+    fn take(&mut self) -> Option<i128>
+        ensures kept { self.new.written.now ≡ self.old.written.now }
+        ensures free { IsSorted int_cmp self.old.written.now → IsPassed self.old.written.now self.old.passed self.old.next →
+            IfSome result (λ number. IsFree self.old.written.now self.old.next number) }
+        ensures passed { IsSorted int_cmp self.old.written.now → IsPassed self.old.written.now self.old.passed self.old.next →
+            IfSome result (λ number. (self.new.next ≡ number +ℤ pos 1) × IsPassed self.new.written.now self.new.passed self.new.next) }
+    {
         while self.passed < self.written.len() && self.written[self.passed] <= self.next {
             if self.written[self.passed] == self.next {
                 self.next = self.next.checked_add(1)?;
