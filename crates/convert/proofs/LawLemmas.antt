@@ -43,9 +43,9 @@ pub they_stay : (from : encoding.Rule) (to : Canonical) (shape : Shape) (v : Val
 they_stay from to shape v octets well ber h g = record {
   stay = record { value = v; read = h; put = g };
   only = λ others t.
-    let same = one_value shape v t.value octets well (ber v h) (ber t.value t.read) in
-    let again = accepted_as (canonical_rule_of to) shape v t.value others well same t.put in
-    one_canonical (canonical_rule_of to) shape v others octets well (to_is_canonical to) again.encoding g.encoding;
+      let same = one_value shape v t.value octets well (ber v h) (ber t.value t.read) in
+      let again = accepted_as (canonical_rule_of to) shape v t.value others well same t.put in
+      one_canonical (canonical_rule_of to) shape v others octets well (to_is_canonical to) again.encoding g.encoding;
 }
 
 pub written_octets_stay : WrittenOctetsStay

@@ -2,6 +2,7 @@ pub mod TranscodingLemmas
 pub mod LawLemmas
 pub mod HexLemmas
 pub mod WordLemmas
+pub mod ProgramLemmas
 pub mod StreamLemmas
 pub mod PassingLemmas
 pub mod CallLemmas

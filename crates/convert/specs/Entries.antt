@@ -1,11 +1,11 @@
 -- What a command line takes of the matches that `clap` finds in the program's words.
 use Rattle.std.specs.Prelude.{◌≡◌, ℕ, true, false, List, Some, codes, string_bytes}
-use Rattle.clap.specs.Words.{HasMatchesOf, app_of, first_value, found_of, one_text, rows_of, subcommand_rows_of}
-use Rattle.clap.specs.declared.builder.command.Command.{Command}
+use Rattle.clap.specs.Words.{App, first_value, found_of, one_text, rows_of, subcommand_of}
 use Rattle.clap.specs.declared.parser.matches.ArgMatches.{ArgMatches}
 use Rattle.convert.specs.declared.command_line.Line.{Line}
 use Rattle.convert.specs.declared.rule.Canonical.{Canonical}
 use Rattle.convert.specs.CommandLine.{word_of_canonical, word_of_rule, word_of_verb}
+use Rattle.convert.specs.Program.{IsProgram}
 
 -- the command line says what the entries say
 pub record HasEntries (matches : ArgMatches) (line : Line) : Type 0 where
@@ -17,12 +17,10 @@ pub record HasEntries (matches : ArgMatches) (line : Line) : Type 0 where
   pub hex : one_text (found_of matches) (codes "hex") ≡ Some (codes "true") → line.hex ≡ true
   pub no_hex : one_text (found_of matches) (codes "hex") ≡ Some (codes "false") → line.hex ≡ false
 
--- a command of `clap` has these matches on the words, and the command line says which subcommand was met and what
--- its entries say
+-- the program's command names a subcommand with these entries by the words, and the command line says what they say
 pub record IsLineOf (words : List (List ℕ)) (line : Line) : Type 0 where
-  pub command : Command
-  pub matches : ArgMatches
+  pub app : App
   pub inner : ArgMatches
-  pub parsed : HasMatchesOf (app_of command) words matches
-  pub met : subcommand_rows_of matches ≡ Some (word_of_verb line.verb, rows_of (found_of inner))
+  pub program : IsProgram app
+  pub met : subcommand_of app words ≡ Some (word_of_verb line.verb, rows_of (found_of inner))
   pub entries : HasEntries inner line

@@ -9,6 +9,7 @@ pub mod Stream
 pub mod Passing
 pub mod Feeding
 pub mod Given
+pub mod Program
 pub mod Entries
 pub mod StrictReader
 pub use Rattle.devices.specs.Failures

@@ -17,7 +17,8 @@ END
 ";
 
 // Two calls: one of 7 seconds with its number in segments and its parts in long lengths, and one of none.
-const TWO_CALLS: &str = "30 80 62 80 04 01 35 04 01 36 00 00 80 81 01 07 81 01 05 00 00 30 07 42 02 35 36 80 01 00";
+const TWO_CALLS: &str =
+    "30 80 62 80 04 01 35 04 01 36 00 00 80 81 01 07 81 01 05 00 00 30 07 42 02 35 36 80 01 00";
 
 // The line `asn1x convert calls.asn NAME in.hex --hex --to der`.
 fn line_of_module(alloc: Global, name: &str) -> Result<Line, AllocError> {
@@ -50,7 +51,13 @@ fn runs_of_a_module_over_wrong_octets(rt: HostRuntime) -> Result<(), Fail> {
     let line = line_of_module(rt.alloc(), "Number")?;
     let module = CALLS.as_bytes();
     let refused = "asn1x: refused 7 Alphabet after 1 values\n";
-    check_run_of(&rt, &line, module, b"42 01 35 42 01 41", ("420135\n", refused, 1));
+    check_run_of(
+        &rt,
+        &line,
+        module,
+        b"42 01 35 42 01 41",
+        ("420135\n", refused, 1),
+    );
     Ok(())
 }
 
@@ -62,21 +69,57 @@ fn modules_that_are_refused(rt: HostRuntime) -> Result<(), Fail> {
         ("M DEFINITIONS ::= BEGIN\n # END", "21 Token at 2:2"),
         ("", "22 Syntax at 1:1"),
         ("M DEFINITIONS ::= BEGIN T ::= ::= END", "22 Syntax at 1:31"),
-        ("M DEFINITIONS ::= BEGIN BOOLEAN ::= NULL END", "23 Reserved at 1:25"),
+        (
+            "M DEFINITIONS ::= BEGIN BOOLEAN ::= NULL END",
+            "23 Reserved at 1:25",
+        ),
         ("M DEFINITIONS ::= BEGIN END", "24 UnknownType at 1:1"),
-        ("M DEFINITIONS ::= BEGIN\nT ::= U END", "24 UnknownType at 2:1"),
-        ("M DEFINITIONS ::= BEGIN\n  T ::= SET OF T END", "25 Cycle at 2:3"),
-        ("M DEFINITIONS ::= BEGIN\nT ::= NULL\nT ::= NULL END", "26 RepeatedName at 3:1"),
-        ("M DEFINITIONS ::= BEGIN\nT ::= ENUMERATED { a(1), b(1) } END", "27 RepeatedNumber at 2:1"),
-        ("M DEFINITIONS ::= BEGIN\nT ::= SET { a NULL, b NULL } END", "28 TagsNotDistinct at 2:1"),
-        ("M DEFINITIONS ::= BEGIN\nT ::= [0] IMPLICIT CHOICE { a NULL } END", "29 ImplicitChoice at 2:1"),
-        ("M DEFINITIONS ::= BEGIN\nT ::= SEQUENCE { a BOOLEAN DEFAULT 3 } END", "30 BadDefault at 2:1"),
-        ("M DEFINITIONS ::= BEGIN T ::= [268435456] NULL END", "31 TooLarge at 1:32"),
-        ("M DEFINITIONS ::= BEGIN T ::= INTEGER (5) END", "32 NotInProfile at 1:39"),
+        (
+            "M DEFINITIONS ::= BEGIN\nT ::= U END",
+            "24 UnknownType at 2:1",
+        ),
+        (
+            "M DEFINITIONS ::= BEGIN\n  T ::= SET OF T END",
+            "25 Cycle at 2:3",
+        ),
+        (
+            "M DEFINITIONS ::= BEGIN\nT ::= NULL\nT ::= NULL END",
+            "26 RepeatedName at 3:1",
+        ),
+        (
+            "M DEFINITIONS ::= BEGIN\nT ::= ENUMERATED { a(1), b(1) } END",
+            "27 RepeatedNumber at 2:1",
+        ),
+        (
+            "M DEFINITIONS ::= BEGIN\nT ::= SET { a NULL, b NULL } END",
+            "28 TagsNotDistinct at 2:1",
+        ),
+        (
+            "M DEFINITIONS ::= BEGIN\nT ::= [0] IMPLICIT CHOICE { a NULL } END",
+            "29 ImplicitChoice at 2:1",
+        ),
+        (
+            "M DEFINITIONS ::= BEGIN\nT ::= SEQUENCE { a BOOLEAN DEFAULT 3 } END",
+            "30 BadDefault at 2:1",
+        ),
+        (
+            "M DEFINITIONS ::= BEGIN T ::= [268435456] NULL END",
+            "31 TooLarge at 1:32",
+        ),
+        (
+            "M DEFINITIONS ::= BEGIN T ::= INTEGER (5) END",
+            "32 NotInProfile at 1:39",
+        ),
     ];
     for (module, fault) in cases {
         let fault = format!(in rt.alloc(); "asn1x: module refused {fault}\n")?;
-        check_run_of(&rt, &line, module.as_bytes(), b"05 0", ("", fault.as_str(), 2));
+        check_run_of(
+            &rt,
+            &line,
+            module.as_bytes(),
+            b"05 0",
+            ("", fault.as_str(), 2),
+        );
     }
     Ok(())
 }
