@@ -8,8 +8,8 @@ demo: rt
 	@for file in crates/asn1x/data/in.hex examples/calls.asn examples/calls.hex; do \
 	    echo "$$ cat $${file##*/}" && cat $$file && echo; \
 	done
-	@printed=$$($(call quietly,$(in_program) rt try --cases ../../examples/demo --data in.hex=data/in.hex \
-	    --data calls.asn=../../examples/calls.asn --data calls.hex=../../examples/calls.hex)) && \
+	@printed=$$( $(call quietly,$(in_program) rt try --cases ../../examples/demo --data in.hex=data/in.hex \
+	    --data calls.asn=../../examples/calls.asn --data calls.hex=../../examples/calls.hex) ) && \
 	echo "$$printed" | while read -r line; do \
 	    case $$line in \
 	    '== '*) echo "$$ asn1x $$(paste -sd ' ' examples/demo/$${line#== }.args)" ;; \

@@ -2,10 +2,9 @@
 #![tactic(auto)]
 
 use convert::{Line, LineFault, cannot_open, cannot_read_module, line, no_words, read_module, run};
-use std::env;
 use std::fs::File;
-use std::io;
 use std::process::ExitCode;
+use std::{env, io};
 
 fn main(rt: HostRuntime) -> ExitCode {
     ExitCode::from(status(&rt))
