@@ -1,12 +1,3 @@
-pub mod TranscodingLemmas
-pub mod LawLemmas
 pub mod HexLemmas
 pub mod WordLemmas
 pub mod ProgramLemmas
-pub mod StreamLemmas
-pub mod PassingLemmas
-pub mod CallLemmas
-pub mod StreamInstances
-pub mod FeedingLemmas
-pub mod ReaderLemmas
-pub mod StrictReaderLemmas

@@ -3,10 +3,10 @@ use Rattle.std.specs.Prelude.{ℕ, List, codes, map}
 use denote.Bor.{Bor}
 use Rattle.convert.specs.declared.command_line.Verb.{Verb}
 use Rattle.convert.specs.declared.command_line.Verb.TheVariants.{Show, Check, Convert}
-use Rattle.convert.specs.declared.rule.Rule.{Rule}
-use Rattle.convert.specs.declared.rule.Rule.TheVariants.{Ber, Cer as ReadCer, Der as ReadDer}
-use Rattle.convert.specs.declared.rule.Canonical.{Canonical}
-use Rattle.convert.specs.declared.rule.Canonical.TheVariants.{Cer, Der}
+use Rattle.engine.specs.declared.rule.Rule.{Rule}
+use Rattle.engine.specs.declared.rule.Rule.TheVariants.{Ber, Cer as ReadCer, Der as ReadDer}
+use Rattle.engine.specs.declared.rule.Canonical.{Canonical}
+use Rattle.engine.specs.declared.rule.Canonical.TheVariants.{Cer, Der}
 
 -- the octets of each word
 abbrev pub texts_of : List (Bor (List ℕ)) → List (List ℕ)

@@ -3,7 +3,7 @@ use Rattle.std.specs.Prelude.{◌≡◌, ℕ, true, false, List, Some, codes, st
 use Rattle.clap.specs.Words.{App, first_value, found_of, one_text, rows_of, subcommand_of}
 use Rattle.clap.specs.declared.parser.matches.ArgMatches.{ArgMatches}
 use Rattle.convert.specs.declared.command_line.Line.{Line}
-use Rattle.convert.specs.declared.rule.Canonical.{Canonical}
+use Rattle.engine.specs.declared.rule.Canonical.{Canonical}
 use Rattle.convert.specs.CommandLine.{word_of_canonical, word_of_rule, word_of_verb}
 use Rattle.convert.specs.Program.{IsProgram}
 

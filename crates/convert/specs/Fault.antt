@@ -9,7 +9,7 @@ use Rattle.clap.specs.declared.error.kind.ErrorKind.TheVariants.{DisplayHelp, Di
 use Rattle.hex.specs.declared.error.FromHexError.{FromHexError}
 use Rattle.hex.specs.declared.error.FromHexError.TheVariants.{OutOfMemory}
 use Rattle.convert.specs.declared.hex_text.HexFault as hex
-use Rattle.convert.specs.declared.stopped.Stopped.{Stopped}
+use Rattle.engine.specs.declared.stopped.Stopped.{Stopped}
 use Rattle.convert.specs.declared.fault.Fault as fault
 use Rattle.convert.specs.declared.command_line.LineFault.{LineFault}
 use Rattle.convert.specs.declared.command_line.LineFault.TheVariants.{Words, NoMemory as NoMemoryForWords}

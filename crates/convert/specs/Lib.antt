@@ -1,17 +1,13 @@
-pub mod Rule
-pub mod Transcoding
-pub mod Laws
 pub mod HexText
 pub mod Line
 pub mod CommandLine
 pub mod Fault
-pub mod Stream
-pub mod Passing
-pub mod Feeding
-pub mod Given
 pub mod Program
 pub mod Entries
-pub mod StrictReader
+pub use Rattle.engine.specs.Rule
+pub use Rattle.engine.specs.Transcoding
+pub use Rattle.engine.specs.Stream
+pub use Rattle.engine.specs.Laws
 pub use Rattle.devices.specs.Failures
 pub use Rattle.octets.specs.Rule as EncodingRule
 pub use Rattle.octets.specs.Front

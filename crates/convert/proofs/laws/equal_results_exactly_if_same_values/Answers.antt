@@ -1,5 +1,0 @@
-use Rattle.convert.proofs.LawLemmas.{equal_exactly_if_same}
-use Rattle.convert.proofs.laws.equal_results_exactly_if_same_values.Goals as goal
-
-pub returns : goal.returns
-returns c = equal_exactly_if_same

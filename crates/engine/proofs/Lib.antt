@@ -1,0 +1,9 @@
+pub mod TranscodingLemmas
+pub mod LawLemmas
+pub mod StreamLemmas
+pub mod PassingLemmas
+pub mod CallLemmas
+pub mod StreamInstances
+pub mod FeedingLemmas
+pub mod ReaderLemmas
+pub mod StrictReaderLemmas

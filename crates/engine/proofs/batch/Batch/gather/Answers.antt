@@ -1,0 +1,87 @@
+use Rattle.std.proofs.Common.{rules, ◌≡◌, ◌++◌, [], length, take, drop, refl, ap, Err, arith, length-drop}
+use Rattle.std.proofs.lemmas.List.{length_push}
+use Rattle.types.specs.View.{value_view}
+use Rattle.types.proofs.EncodedLemmas.{encoded_conforms}
+use Rattle.engine.proofs.PassingLemmas.{gathers_none, gathers_more}
+use Rattle.engine.proofs.FeedingLemmas.{none_begun, cut_piece, gathered_all, feed_refused, add_refused}
+use Rattle.engine.proofs.batch.Batch.gather.Goals as goal
+
+pub loop-rest-init : goal.loop-rest-init
+loop-rest-init g c = record {
+  gathers = λ old unfinished. (old, unfinished, gathers_none g.F.Feed.rule (g.P.Put.shape c.args.writer.now) (g.P.Put.stands c.args.writer.now) (old ++ c.args.piece.now) _ _ c.clear.ensures.items c.clear-2.ensures.items);
+  few = omega (arith, ap length c.clear-2.ensures.items);
+}
+
+pub add_last-requires : goal.add_last-requires
+add_last-requires g c =
+    let shape = g.P.Put.shape c.args.writer.now in
+    let fed = rw c.in-Ok-Done.field-0-is at c.in-Ok-Done.ensures.fed in
+    let i = c.loop-rest.invariant.gathers c.requires.0 c.requires.1 in
+    let f = fed shape i.0 i.1.stands in
+    encoded_conforms g.F.Feed.rule shape (value_view c.in-Ok-Done.value) _ f.0.accepted.encoding
+
+pub loop-rest-preserved : goal.loop-rest-preserved
+loop-rest-preserved g c =
+    let rule = g.F.Feed.rule in
+    let shape = g.P.Put.shape c.args.writer.now in
+    let Stands = g.P.Put.stands c.args.writer.now in
+    let v = value_view c.in-Ok-Done.value in
+    let left = c.loop-rest.rest.now in
+    let used = c.in-Ok-Done.used in
+    let fed = rw c.in-Ok-Done.field-0-is at c.in-Ok-Done.ensures.fed in
+    let here = c.loop-rest.invariant.gathers c.requires.0 c.requires.1 in
+    let done = (fed shape here.0 here.1.stands).0 in
+    let added = c.in-Ok.ensures.added in
+    record {
+      gathers = λ old unfinished.
+          let i = c.loop-rest.invariant.gathers old unfinished in
+          let f = fed shape i.0 i.1.stands in (
+            [],
+            record { stands = f.1; none = none_begun rule shape },
+            gathers_more rule shape Stands v _ (i.0 ++ left) _ _ (i.0 ++ take used left) c.split_at.result.1.now added.part _ _ i.2
+                (cut_piece i.0 left c.split_at.result.1.now used c.split_at.ensures.back) f.0.accepted added.stands added.octets_are added.lengths_are,
+          );
+      few = omega (arith, ap length added.lengths_are, length_push c.loop-rest.self.lengths.items (length added.part), c.loop-rest.invariant.few, done.some, done.there, ap length c.split_at.ensures.back, length-drop used left);
+    }
+
+pub returns-in-Err-add_last-clause-refused : goal.returns-in-Err-add_last-clause-refused
+returns-in-Err-add_last-clause-refused g c = λ old unfinished.
+    let rule = g.F.Feed.rule in
+    let shape = g.P.Put.shape c.args.writer.now in
+    let Stands = g.P.Put.stands c.args.writer.now in
+    let left = c.loop-rest.rest.now in
+    let used = c.in-Ok-Done.used in
+    let fed = rw c.in-Ok-Done.field-0-is at c.in-Ok-Done.ensures.fed in
+    let i = c.loop-rest.invariant.gathers old unfinished in
+    let f = fed shape i.0 i.1.stands in
+    add_refused rule shape Stands c.in-Err-add_last.refusal (value_view c.in-Ok-Done.value) _ _ _ _ _ (i.0 ++ left) (i.0 ++ take used left) (drop used left)
+    c.in-Err-add_last.ensures.octets c.in-Err-add_last.ensures.lengths (cut_piece i.0 left (drop used left) used refl) f.0.accepted c.in-Err-add_last.ensures.numbers
+    (λ too_long. c.in-Err-add_last.ensures.too_long (ap Err too_long)) i.2
+
+pub returns-in-Err-clause-refused : goal.returns-in-Err-clause-refused
+returns-in-Err-clause-refused g c = λ old unfinished.
+    let rule = g.F.Feed.rule in
+    let shape = g.P.Put.shape c.args.writer.now in
+    let Stands = g.P.Put.stands c.args.writer.now in
+    let i = c.loop-rest.invariant.gathers old unfinished in
+    let f = c.in-Err.ensures.fed shape i.0 i.1.stands in
+    feed_refused rule shape Stands c.in-Err.refusal _ _ _ i.0 c.loop-rest.rest.now (search rules) f.0 f.1 i.2
+
+pub returns-clause-gathered : goal.returns-clause-gathered
+returns-clause-gathered g c = λ old unfinished.
+    let i = c.loop-rest.invariant.gathers old unfinished in
+    let none : length c.loop-rest.rest.now ≡ 0 = search rules in
+    gathered_all _ g.F.Feed.rule (g.P.Put.shape c.args.writer.now) (g.P.Put.stands c.args.writer.now) _ _ _ i.0 c.loop-rest.rest.now none i.1 i.2
+
+pub feed-requires : goal.feed-requires
+feed-requires g c =
+    let i = c.loop-rest.invariant.gathers c.requires.0 c.requires.1 in
+    (g.P.Put.shape c.args.writer.now, i.0, i.1.stands)
+
+pub loop-rest-smaller : goal.loop-rest-smaller
+loop-rest-smaller g c =
+    let shape = g.P.Put.shape c.args.writer.now in
+    let fed = rw c.in-Ok-Done.field-0-is at c.in-Ok-Done.ensures.fed in
+    let here = c.loop-rest.invariant.gathers c.requires.0 c.requires.1 in
+    let done = (fed shape here.0 here.1.stands).0 in
+    omega (arith, done.some, done.there, ap length c.split_at.ensures.back, length-drop c.in-Ok-Done.used c.loop-rest.rest.now)

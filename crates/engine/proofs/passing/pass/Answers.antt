@@ -1,0 +1,62 @@
+use Rattle.std.proofs.Common.{◌<◌, ◌++◌, ℕ, List, [], length, take, refl, sym, ap, subst}
+use Rattle.std.specs.Io.KnownBytes.{Appends}
+use Rattle.devices.specs.Parts.{IsWholeCount}
+use Rattle.engine.specs.Passing.{Gathers}
+use Rattle.engine.proofs.PassingLemmas.{writes_all, writes_cut}
+use Rattle.engine.proofs.FeedingLemmas.{either_way}
+use Rattle.engine.proofs.passing.pass.Goals as goal
+
+pub returns-in-Err-clause-stopped : goal.returns-in-Err-clause-stopped
+returns-in-Err-clause-stopped g c = λ old unfinished.
+    let rule = g.F.Feed.rule in
+    let shape = g.P.Put.shape c.args.writer.now in
+    let Stands = g.P.Put.stands c.args.writer.now in
+    let octets = c.gather-gathered.new.self.octets.items in
+    let lengths = c.gather-gathered.new.self.lengths.items in
+    let at = c.in-Err.at in
+    let count = c.whole_parts-count.result in
+    let h : (rest : List ℕ) × Gathers rule shape Stands (old ++ c.args.piece.now) rest octets lengths =
+    either_way c.gather-gathered.result _ _ _ c.gather-gathered.ensures.gathered c.gather-gathered.ensures.refused
+    (λ f. let x = f old unfinished in (x.rest, x.gathers)) (λ e f. let x = f old unfinished in (x.rest, x.gathers)) in
+    let whole : IsWholeCount lengths at count = subst (λ l. IsWholeCount l at count) c.as_slice-lengths.ensures.value c.whole_parts-count.ensures in
+    let part : at < length octets = subst (λ l. at < length l) c.as_slice.ensures.value c.in-Err.ensures.some_left in
+    let w = writes_cut rule shape Stands (old ++ c.args.piece.now) h.0 octets lengths at count h.1 whole part in
+    record {
+      rest = w.rest;
+      written = take at octets;
+      part = w.part;
+      count = count;
+      counted = refl;
+      takes = subst (λ l. Appends (g.K.Sink.taken c.args.sink.now) (g.K.Sink.taken c.write_all.new.sink) (take at l)) c.as_slice.ensures.value c.in-Err.ensures.part;
+      writes = w.writes;
+      stops = w.stops;
+    }
+
+pub returns-in-Ok-gathered-clause-passed : goal.returns-in-Ok-gathered-clause-passed
+returns-in-Ok-gathered-clause-passed g c = λ old unfinished.
+    let octets = c.gather-gathered.new.self.octets.items in
+    let n = c.in-Ok-gathered.ensures.gathered old unfinished in
+    record {
+      rest = n.rest;
+      written = octets;
+      count = length c.as_slice-lengths.result.now;
+      counted = refl;
+      takes = subst (Appends (g.K.Sink.taken c.args.sink.now) (g.K.Sink.taken c.write_all.new.sink)) c.as_slice.ensures.value c.in-Ok.ensures.written;
+      writes = writes_all g.F.Feed.rule (g.P.Put.shape c.args.writer.now) (g.P.Put.stands c.args.writer.now) _ n.rest octets _ _ n.gathers (ap length (sym c.as_slice-lengths.ensures.value));
+      stands = n.stands;
+    }
+
+pub returns-in-Err-gathered-clause-stopped : goal.returns-in-Err-gathered-clause-stopped
+returns-in-Err-gathered-clause-stopped g c = λ old unfinished.
+    let octets = c.gather-gathered.new.self.octets.items in
+    let n = c.in-Err-gathered.ensures.refused old unfinished in
+    record {
+      rest = n.rest;
+      written = octets;
+      part = [];
+      count = length c.as_slice-lengths.result.now;
+      counted = refl;
+      takes = subst (Appends (g.K.Sink.taken c.args.sink.now) (g.K.Sink.taken c.write_all.new.sink)) c.as_slice.ensures.value c.in-Ok.ensures.written;
+      writes = writes_all g.F.Feed.rule (g.P.Put.shape c.args.writer.now) (g.P.Put.stands c.args.writer.now) _ n.rest octets _ _ n.gathers (ap length (sym c.as_slice-lengths.ensures.value));
+      stops = n.stops;
+    }

@@ -1,0 +1,18 @@
+use Rattle.std.proofs.Common.{◌≡◌, ◌≤◌, ◌-◌}
+use Rattle.engine.specs.Feeding.{IsUnfinished}
+use Rattle.engine.specs.Passing.{StandsAfter}
+use Rattle.engine.specs.Stream.{most_streamed}
+use Rattle.engine.proofs.passing.pass_all.Given as goal
+
+abbrev pub invariant-loop-piece : goal.invariant-loop-piece
+invariant-loop-piece g l = record {
+  stands : StandsAfter (IsUnfinished (g.F.Feed.stands_at (g.P.Put.shape l.writer) l.reader) g.F.Feed.rule (g.P.Put.shape l.writer)) g.F.Feed.rule (g.P.Put.shape l.writer) (g.P.Put.stands l.writer)
+      l.done l.total (g.S.Source.left l.initial.source) (g.S.Source.left l.source) (g.K.Sink.taken l.initial.sink) (g.K.Sink.taken l.sink);
+  source : g.S.Source.failures l.source ≡ 0;
+  sink : g.K.Sink.failures l.sink ≡ 0;
+  few : l.done ≤ l.total;
+  within : l.total ≤ most_streamed;
+}
+
+abbrev pub decreases-loop-piece : goal.decreases-loop-piece
+decreases-loop-piece g l = most_streamed - l.total

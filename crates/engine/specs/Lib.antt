@@ -1,0 +1,8 @@
+pub mod Rule
+pub mod Transcoding
+pub mod Laws
+pub mod Stream
+pub mod Passing
+pub mod Feeding
+pub mod Given
+pub mod StrictReader

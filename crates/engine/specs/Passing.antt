@@ -1,0 +1,86 @@
+-- A stream passed on piece by piece: what stands between two reads, and behind each piece. `StandsAt` is what is
+-- said of a reader and the octets that it took since it was fresh.
+use Rattle.std.specs.Prelude.{◌≡◌, ◌+◌, ℕ, List, [], ◌∷◌, ◌++◌, length, map, Option}
+use Rattle.std.specs.Io.KnownBytes.{Appends, Consumes}
+use Rattle.std.specs.List.{AllZip, concat}
+use Rattle.octets.specs.Rule.{Rule}
+use Rattle.types.specs.declared.refusal.Refusal.{Refusal}
+use Rattle.types.specs.Encoding.{Meaning, IsAccepted}
+use Rattle.types.specs.Shape.{Shape, Val}
+use Rattle.engine.specs.Stream.{BeginsWith, BeginsWritten, Refuses, RefusesToWrite}
+
+-- the octets are encodings of values and then a rest; the batch is what stands for each of these values, and the
+-- lengths are those of its parts
+pub record Gathers (rule : Rule) (shape : Shape) (Stands : Meaning) (octets rest batch lengths : List ℕ) : Type 0 where
+  pub values : List Val
+  pub encodings : List (List ℕ)
+  pub parts : List (List ℕ)
+  pub read : AllZip (IsAccepted rule shape) values encodings
+  pub put : AllZip Stands values parts
+  pub octets_are : octets ≡ concat encodings ++ rest
+  pub batch_is : batch ≡ concat parts
+  pub lengths_are : lengths ≡ map length parts
+
+-- some part that stands for a value is added to what is gathered, and its length to the lengths
+pub record IsAdded (Stands : List ℕ → Type 0) (octets octets_new lengths lengths_new : List ℕ) : Type 0 where
+  pub part : List ℕ
+  pub stands : Stands part
+  pub octets_are : octets_new ≡ octets ++ part
+  pub lengths_are : lengths_new ≡ lengths ++ length part ∷ []
+
+-- the refusal is right, whatever came before the rest and whatever follows it
+pub record StopsAnyway (rule : Rule) (shape : Shape) (Stands : Meaning) (refusal : Refusal) (rest part : List ℕ) : Type 0 where
+  pub refused : (stream more : List ℕ) → Refuses rule shape refusal stream (rest ++ more)
+  pub unwritten : (more : List ℕ) → RefusesToWrite rule shape Stands refusal (rest ++ more) part
+
+-- a piece was taken whole: the reader stands at the rest
+pub record HasGathered (StandsAt : List ℕ → Type 0) (rule : Rule) (shape : Shape) (Stands : Meaning) (octets batch lengths : List ℕ) : Type 0 where
+  pub rest : List ℕ
+  pub gathers : Gathers rule shape Stands octets rest batch lengths
+  pub stands : StandsAt rest
+
+-- a piece was refused, in whole or behind some values
+pub record StopsGathering (rule : Rule) (shape : Shape) (Stands : Meaning) (refusal : Refusal) (octets batch lengths : List ℕ) : Type 0 where
+  pub rest : List ℕ
+  pub gathers : Gathers rule shape Stands octets rest batch lengths
+  pub stops : StopsAnyway rule shape Stands refusal rest []
+
+-- the octets are encodings of so many values and then a rest, and what was written is what stands for these values
+-- and then a part
+pub record Writes (rule : Rule) (shape : Shape) (Stands : Meaning) (count : ℕ) (octets rest written part : List ℕ) : Type 0 where
+  pub values : List Val
+  pub counted : length values ≡ count
+  pub read : BeginsWith rule shape values octets rest
+  pub put : BeginsWritten Stands values written part
+
+-- a piece was passed on, and what it completes was written; `now` values are done, of which `before` were
+pub record PassesOn (StandsAt : List ℕ → Type 0) (rule : Rule) (shape : Shape) (Stands : Meaning) (before now : ℕ) (octets : List ℕ) (taken_old taken_new : Option (List ℕ)) : Type 0 where
+  pub rest : List ℕ
+  pub written : List ℕ
+  pub count : ℕ
+  pub counted : now ≡ before + count
+  pub takes : Appends taken_old taken_new written
+  pub writes : Writes rule shape Stands count octets rest written []
+  pub stands : StandsAt rest
+
+-- a piece was not passed on whole
+pub record StopsPassing (rule : Rule) (shape : Shape) (Stands : Meaning) (before done : ℕ) (refusal : Refusal) (octets : List ℕ) (taken_old taken_new : Option (List ℕ)) : Type 0 where
+  pub rest : List ℕ
+  pub written : List ℕ
+  pub part : List ℕ
+  pub count : ℕ
+  pub counted : done ≡ before + count
+  pub takes : Appends taken_old taken_new written
+  pub writes : Writes rule shape Stands count octets rest written part
+  pub stops : StopsAnyway rule shape Stands refusal rest part
+
+-- between two reads: what was given is encodings of the values done and what the reader stands at
+pub record StandsAfter (StandsAt : List ℕ → Type 0) (rule : Rule) (shape : Shape) (Stands : Meaning) (done total : ℕ) (left_old left_new taken_old taken_new : Option (List ℕ)) : Type 0 where
+  pub given : List ℕ
+  pub written : List ℕ
+  pub rest : List ℕ
+  pub gives : Consumes left_old left_new given
+  pub takes : Appends taken_old taken_new written
+  pub writes : Writes rule shape Stands done given rest written []
+  pub stands : StandsAt rest
+  pub size : length given ≡ total

@@ -1,0 +1,24 @@
+//! Conversion, checking and listing of whole inputs and of streams: octets of one encoding rule in, octets
+//! of a canonical one, or text, out. The source is read piece by piece, and is never held.
+#![tactic(auto)]
+
+mod batch;
+mod checking;
+mod converting;
+mod feeding;
+mod laws;
+mod lines;
+mod listing;
+mod passing;
+mod putting;
+mod rule;
+mod stopped;
+mod streams;
+mod strict_reader;
+mod transcoding;
+
+pub use laws::{equal_results_exactly_if_same_values, written_octets_stay};
+pub use rule::{Canonical, Rule};
+pub use stopped::Stopped;
+pub use streams::{check, convert, list};
+pub use transcoding::transcode;

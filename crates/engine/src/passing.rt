@@ -1,0 +1,122 @@
+//! A stream passed on piece by piece, from a source through a reader and a writer to a sink.
+
+ghost use Rattle.std.specs.Prelude.{◌≡◌, ◌≤◌, ◌+◌, ◌++◌, ℕ, List, [], length, IfOk, IfErr, MatchResult};
+ghost use Rattle.engine.specs.Feeding.{IsUnfinished};
+ghost use Rattle.engine.specs.Given.{HasGiven};
+ghost use Rattle.engine.specs.Passing.{Writes, PassesOn, StopsPassing};
+ghost use Rattle.engine.specs.Stream.{most_streamed, IsStopped, OfStream, source_failures, sink_failures};
+
+use crate::Stopped;
+use crate::batch::Batch;
+use crate::feeding::Feed;
+use crate::putting::Put;
+use devices::{Piece, Sink, Source, whole_parts, write_all};
+use types::Refusal;
+
+/// The most octets of a stream.
+const MAX_STREAM: u64 = 4_294_967_295;
+
+// Passes a piece on: writes what stands for the values that it completes, and returns how many values
+// are done, of which `done` were before.
+fn pass<F: Feed, P: Put, K: Sink>(
+    reader: &mut F,
+    writer: &P,
+    batch: &mut Batch,
+    sink: &mut K,
+    piece: &[u8],
+    done: u64,
+) -> Result<u64, Stopped>
+    requires stands { (old : List ℕ) × IsUnfinished (F.stands_at (P.shape writer.now) reader.old) F.rule (P.shape writer.now) old }
+    requires sink { K.failures sink.old ≡ 0 }
+    requires room { done + length piece.now ≤ most_streamed }
+    ensures passed { IfOk result (λ now. (old : List ℕ) →
+        IsUnfinished (F.stands_at (P.shape writer.now) reader.old) F.rule (P.shape writer.now) old →
+        PassesOn (IsUnfinished (F.stands_at (P.shape writer.now) reader.new) F.rule (P.shape writer.now))
+        F.rule (P.shape writer.now) (P.stands writer.now) done now
+        (old ++ piece.now) (K.taken sink.old) (K.taken sink.new)) }
+    ensures stopped { IfErr result (λ stopped. (old : List ℕ) →
+        IsUnfinished (F.stands_at (P.shape writer.now) reader.old) F.rule (P.shape writer.now) old →
+        StopsPassing F.rule (P.shape writer.now) (P.stands writer.now) done stopped.done stopped.refusal
+        (old ++ piece.now) (K.taken sink.old) (K.taken sink.new)) }
+    ensures few { IfOk result (λ now. now ≤ done + length piece.now) }
+    ensures sink { MatchResult result (λ _. K.failures sink.new ≡ 0)
+        (λ stopped. K.failures sink.new ≡ sink_failures stopped.refusal) }
+    ensures source { IfErr result (λ stopped. source_failures stopped.refusal ≡ 0) }
+    ensures long { IfErr result (λ stopped. stopped.refusal ≡ Refusal.OutputTooLong → P.can_be_too_long) }
+{
+    let gathered = batch.gather(reader, writer, piece);
+    let lengths = batch.lengths.as_slice();
+    match write_all(sink, batch.octets.as_slice()) {
+        Ok(()) => {}
+        Err(at) => {
+            let count = whole_parts(lengths, at);
+            return Err(Stopped {
+                done: done + count as u64,
+                refusal: Refusal::SinkFault,
+            });
+        }
+    }
+    let done = done + lengths.len() as u64;
+    match gathered {
+        Ok(()) => Ok(done),
+        Err(refusal) => Err(Stopped { done, refusal }),
+    }
+}
+
+/// Passes a source on to its end by a fresh reader, and returns how many values are done.
+pub fn pass_all<F: Feed, P: Put, S: Source, K: Sink>(
+    reader: &mut F,
+    writer: &P,
+    batch: &mut Batch,
+    source: &mut S,
+    sink: &mut K,
+) -> Result<u64, Stopped>
+    requires fresh { F.stands_at (P.shape writer.now) reader.old [] }
+    requires source { S.failures source.old ≡ 0 }
+    requires sink { K.failures sink.old ≡ 0 }
+    ensures done { IfOk result (λ done. OfStream (S.left source.old) (K.taken sink.old) (K.taken sink.new)
+        (λ stream written. Writes F.rule (P.shape writer.now) (P.stands writer.now) done stream [] written []
+        × (length stream ≤ most_streamed))) }
+    ensures stopped { IfErr result (λ stopped. OfStream (S.left source.old) (K.taken sink.old) (K.taken sink.new)
+        (IsStopped (P.stands writer.now) F.rule (P.shape writer.now) stopped.done stopped.refusal)) }
+    ensures given { IfErr result (λ stopped. stopped.refusal ≡ Refusal.SourceFault →
+        HasGiven F.rule (P.shape writer.now) stopped.done (S.left source.old) (S.left source.new)) }
+    ensures source { MatchResult result (λ _. S.failures source.new ≡ 0)
+        (λ stopped. S.failures source.new ≡ source_failures stopped.refusal) }
+    ensures sink { MatchResult result (λ _. K.failures sink.new ≡ 0)
+        (λ stopped. K.failures sink.new ≡ sink_failures stopped.refusal) }
+    ensures long { IfErr result (λ stopped. stopped.refusal ≡ Refusal.OutputTooLong → P.can_be_too_long) }
+{
+    let mut piece = Piece::new();
+    let mut done = 0;
+    let mut total = 0;
+    loop {
+        match piece.read_from(source) {
+            Ok(()) => {}
+            Err(_) => {
+                return Err(Stopped {
+                    done,
+                    refusal: Refusal::SourceFault,
+                });
+            }
+        }
+        let octets = piece.octets();
+        if octets.is_empty() {
+            match reader.finish() {
+                Ok(()) => return Ok(done),
+                Err(refusal) => return Err(Stopped { done, refusal }),
+            }
+        }
+        if octets.len() as u64 > MAX_STREAM - total {
+            return Err(Stopped {
+                done,
+                refusal: Refusal::StreamTooLong,
+            });
+        }
+        total += octets.len() as u64;
+        match pass(reader, writer, batch, sink, octets, done) {
+            Ok(now) => done = now,
+            Err(stopped) => return Err(stopped),
+        }
+    }
+}

@@ -1,0 +1,79 @@
+//! What is written for values.
+
+ghost use Rattle.std.specs.Prelude.{◌≡◌, ⊤, ℕ, List, [], OnOk, OnErr, IfErr};
+ghost use Rattle.octets.specs.Front.{Appends};
+ghost use Rattle.types.specs.Conforms.{Conforms};
+ghost use Rattle.types.specs.Refusal.{IsOfWriting};
+ghost use Rattle.types.specs.Shape.{Shape, Val};
+ghost use Rattle.types.specs.View.{ty_view, value_view};
+ghost use Rattle.types.specs.Encoding.{IsAccepted};
+ghost use Rattle.engine.specs.Rule.{canonical_rule_of};
+
+use crate::Canonical;
+use canon::{Canon, Cer, Der};
+use std::alloc::Global;
+use types::{Refusal, Value, WellTyped};
+
+/// A writer of values of one type.
+pub trait Put {
+    // The type.
+    ghost shape: { Self → Shape };
+
+    // The octets stand for the value.
+    ghost stands: { Self → Val → List ℕ → Type 0 };
+
+    // There may be a value for which nothing stands.
+    ghost can_be_too_long: { Type 0 };
+
+    /// Appends what stands for a value.
+    fn put(&self, value: &Value, out: &mut Vec<u8>) -> Result<(), Refusal>
+        requires { Conforms (shape self.now) (value_view value.now) }
+        ensures appended { OnOk result
+            (Appends (stands self.now (value_view value.now)) out.old.items out.new.items) }
+        ensures unchanged { OnErr result (out.new.items ≡ out.old.items) }
+        ensures too_long { result ≡ Err Refusal.OutputTooLong →
+            (octets : List ℕ) → ¬ stands self.now (value_view value.now) octets }
+        ensures long { result ≡ Err Refusal.OutputTooLong → can_be_too_long }
+        ensures numbers { IfErr result IsOfWriting };
+}
+
+/// Writes a value's one encoding by a canonical rule.
+#[derive(Drop)]
+pub struct Encodings<'a> {
+    pub alloc: Global,
+    pub ty: &'a WellTyped,
+    pub to: Canonical,
+}
+
+impl Put for Encodings<'_> {
+    ghost shape = { λ writer. ty_view writer.ty.now };
+
+    ghost stands = { λ writer. IsAccepted (canonical_rule_of writer.to) (ty_view writer.ty.now) };
+
+    ghost can_be_too_long = { ⊤ };
+
+    fn put(&self, value: &Value, out: &mut Vec<u8>) -> Result<(), Refusal> {
+        match self.to {
+            Canonical::Cer => Cer.put(self.alloc, self.ty, value, out),
+            Canonical::Der => Der.put(self.alloc, self.ty, value, out),
+        }
+    }
+}
+
+/// Writes nothing for a value.
+#[derive(Drop)]
+pub struct Nothing<'a> {
+    pub ty: &'a WellTyped,
+}
+
+impl Put for Nothing<'_> {
+    ghost shape = { λ writer. ty_view writer.ty.now };
+
+    ghost stands = { λ _ _ octets. octets ≡ [] };
+
+    ghost can_be_too_long = { ⊥ };
+
+    fn put(&self, _value: &Value, _out: &mut Vec<u8>) -> Result<(), Refusal> {
+        Ok(())
+    }
+}

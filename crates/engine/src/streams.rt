@@ -1,0 +1,130 @@
+//! The calls over streams of values: `convert`, `check` and `list`.
+//!
+//! Each reads a piece, does all values that it completes, and writes what stands for them before it reads
+//! the next one. It asks for devices that have not failed.
+
+ghost use Rattle.std.specs.Prelude.{◌≡◌, IfOk, IfErr, IfSome, MatchResult};
+ghost use Rattle.texts.specs.Shown.{IsShown};
+ghost use Rattle.types.specs.Encoding.{IsAccepted};
+ghost use Rattle.types.specs.View.{ty_view};
+ghost use Rattle.engine.specs.Given.{HasGiven};
+ghost use Rattle.engine.specs.Rule.{rule_of, canonical_rule_of};
+ghost use Rattle.engine.specs.Stream.{IsChecked, IsCheckStopped, IsConverted, IsLine, IsListed, IsOfChecking, IsOfListing, IsStopped, OfStream, source_failures, sink_failures};
+
+use crate::checking::check_by;
+use crate::converting::convert_by;
+use crate::listing::list_by;
+use crate::strict_reader::StrictReader;
+use crate::{Canonical, Rule, Stopped};
+use berreader::Reader;
+use canon::{Cer, Der};
+use devices::{Sink, Source};
+use std::alloc::Global;
+use types::{Refusal, WellTyped};
+
+/// Reads values of `ty` by the rule `from`, one after another up to the end of the source, writes the one
+/// encoding of each by the rule `to`, and returns how many there were.
+///
+/// Where it stops before, what was written is the encodings of the values done, and after `SinkFault`
+/// perhaps a beginning of the next one. A failure of a device ends it with `SourceFault` or `SinkFault`.
+pub fn convert<S: Source, K: Sink>(
+    alloc: Global,
+    ty: &WellTyped,
+    from: Rule,
+    to: Canonical,
+    source: &mut S,
+    sink: &mut K,
+) -> Result<u64, Stopped>
+    requires source { S.failures source.old ≡ 0 }
+    requires sink { K.failures sink.old ≡ 0 }
+    ensures converted { IfOk result (λ done. OfStream (S.left source.old) (K.taken sink.old) (K.taken sink.new)
+        (IsConverted (rule_of from) (canonical_rule_of to) (ty_view ty.now) done)) }
+    ensures stopped { IfErr result (λ stopped. OfStream (S.left source.old) (K.taken sink.old) (K.taken sink.new)
+        (IsStopped (IsAccepted (canonical_rule_of to) (ty_view ty.now)) (rule_of from) (ty_view ty.now)
+        stopped.done stopped.refusal)) }
+    ensures given { IfErr result (λ stopped. stopped.refusal ≡ Refusal.SourceFault →
+        HasGiven (rule_of from) (ty_view ty.now) stopped.done (S.left source.old) (S.left source.new)) }
+    ensures source { MatchResult result (λ _. S.failures source.new ≡ 0)
+        (λ stopped. S.failures source.new ≡ source_failures stopped.refusal) }
+    ensures sink { MatchResult result (λ _. K.failures sink.new ≡ 0)
+        (λ stopped. K.failures sink.new ≡ sink_failures stopped.refusal) }
+{
+    match from {
+        Rule::Ber => convert_by(alloc, &mut Reader::new(alloc, ty), ty, to, source, sink),
+        Rule::Cer => {
+            let mut reader = StrictReader::new(alloc, Cer, ty);
+            convert_by(alloc, &mut reader, ty, to, source, sink)
+        }
+        Rule::Der => {
+            let mut reader = StrictReader::new(alloc, Der, ty);
+            convert_by(alloc, &mut reader, ty, to, source, sink)
+        }
+    }
+}
+
+/// Reads values as `convert` does, writes nothing, and returns how many there were.
+pub fn check<S: Source>(
+    alloc: Global,
+    ty: &WellTyped,
+    from: Rule,
+    source: &mut S,
+) -> Result<u64, Stopped>
+    requires source { S.failures source.old ≡ 0 }
+    ensures checked { IfOk result (λ done. IfSome (S.left source.old)
+        (IsChecked (rule_of from) (ty_view ty.now) done)) }
+    ensures stopped { IfErr result (λ stopped. IfSome (S.left source.old)
+        (IsCheckStopped (rule_of from) (ty_view ty.now) stopped.done stopped.refusal)) }
+    ensures given { IfErr result (λ stopped. stopped.refusal ≡ Refusal.SourceFault →
+        HasGiven (rule_of from) (ty_view ty.now) stopped.done (S.left source.old) (S.left source.new)) }
+    ensures source { MatchResult result (λ _. S.failures source.new ≡ 0)
+        (λ stopped. S.failures source.new ≡ source_failures stopped.refusal) }
+    ensures numbers { IfErr result (λ stopped. IsOfChecking stopped.refusal) }
+{
+    match from {
+        Rule::Ber => check_by(alloc, &mut Reader::new(alloc, ty), ty, source),
+        Rule::Cer => {
+            let mut reader = StrictReader::new(alloc, Cer, ty);
+            check_by(alloc, &mut reader, ty, source)
+        }
+        Rule::Der => {
+            let mut reader = StrictReader::new(alloc, Der, ty);
+            check_by(alloc, &mut reader, ty, source)
+        }
+    }
+}
+
+/// Reads values as `convert` does, writes the text of each and a line feed, and returns how many there
+/// were.
+pub fn list<S: Source, K: Sink>(
+    alloc: Global,
+    ty: &WellTyped,
+    from: Rule,
+    source: &mut S,
+    sink: &mut K,
+) -> Result<u64, Stopped>
+    requires source { S.failures source.old ≡ 0 }
+    requires sink { K.failures sink.old ≡ 0 }
+    ensures listed { IfOk result (λ done. OfStream (S.left source.old) (K.taken sink.old) (K.taken sink.new)
+        (IsListed (IsShown (ty_view ty.now)) (rule_of from) (ty_view ty.now) done)) }
+    ensures stopped { IfErr result (λ stopped. OfStream (S.left source.old) (K.taken sink.old) (K.taken sink.new)
+        (IsStopped (IsLine (IsShown (ty_view ty.now))) (rule_of from) (ty_view ty.now) stopped.done stopped.refusal)) }
+    ensures given { IfErr result (λ stopped. stopped.refusal ≡ Refusal.SourceFault →
+        HasGiven (rule_of from) (ty_view ty.now) stopped.done (S.left source.old) (S.left source.new)) }
+    ensures source { MatchResult result (λ _. S.failures source.new ≡ 0)
+        (λ stopped. S.failures source.new ≡ source_failures stopped.refusal) }
+    ensures sink { MatchResult result (λ _. K.failures sink.new ≡ 0)
+        (λ stopped. K.failures sink.new ≡ sink_failures stopped.refusal) }
+    ensures numbers { IfErr result (λ stopped. IsOfListing stopped.refusal) }
+{
+    match from {
+        Rule::Ber => list_by(alloc, &mut Reader::new(alloc, ty), ty, source, sink),
+        Rule::Cer => {
+            let mut reader = StrictReader::new(alloc, Cer, ty);
+            list_by(alloc, &mut reader, ty, source, sink)
+        }
+        Rule::Der => {
+            let mut reader = StrictReader::new(alloc, Der, ty);
+            list_by(alloc, &mut reader, ty, source, sink)
+        }
+    }
+}
