@@ -6,6 +6,7 @@ use std::process::Abort;
 
 mod command_lines;
 mod dripping;
+mod each_call;
 mod failing_devices;
 mod hexadecimal;
 mod modules;

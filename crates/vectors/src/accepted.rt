@@ -4,6 +4,7 @@ use crate::answers::{convert_by, number_of, read_by, write_by};
 use crate::checks::{RULES, expect, expect_number, name_of, refused};
 use crate::pieces::{check_end_fed, check_front_fed, check_pieces};
 use crate::rows::{Becomes, Row};
+use crate::streamed;
 use convert::{Canonical, Rule, Value};
 use std::alloc::Global;
 use std::test::Fail;
@@ -18,6 +19,7 @@ pub fn check_accepted(alloc: Global, row: &Row) -> Result<(), Fail> {
             expect(used == octets.len(), "not all octets taken", row)?;
             check_written(alloc, row, Canonical::Der, &row.der, &value)?;
             check_written(alloc, row, Canonical::Cer, &row.cer, &value)?;
+            streamed::check_listed_twice(alloc, row, &value)?;
         }
         Err(refusal) => refused(refusal, "no value", row)?,
     }
@@ -42,6 +44,7 @@ fn check_written(
             let written = written.as_slice();
             expect(is_what(becomes, written), written_by(to), row)?;
             check_conversion(alloc, row, to, written)?;
+            streamed::check_converted_twice(alloc, row, to, written)?;
             check_strict(alloc, row, to, written)
         }
         Err(refusal) => {
@@ -129,6 +132,7 @@ fn check_unwritten(alloc: Global, row: &Row, to: Canonical, number: u8) -> Resul
     let octets = row.octets.as_slice();
     let answer = convert_by(alloc, (Rule::Ber, to), row.ty, octets);
     expect_number(number_of(answer), number, "converted from BER", row)?;
+    streamed::check_unwritten(alloc, row, to, number)?;
     if row.is_long() {
         return Ok(());
     }

@@ -4,7 +4,10 @@ ghost use Rattle.std.specs.Prelude.{◌≤◌};
 
 use berreader::{Reader, Step, read};
 use canon::{Canon, Cer, Der};
-use convert::{Canonical, Refusal, Rule, Value, WellTyped, conforms, transcode};
+use convert::{
+    Canonical, FromSlice, Line, LineFault, Refusal, Rule, Stopped, ToVec, Value, WellTyped, check,
+    conforms, convert, line, list, run, show, transcode,
+};
 use std::alloc::Global;
 use std::test::Fail;
 use strict::{read_cer, read_der};
@@ -46,6 +49,64 @@ pub fn convert_by(
     octets: &[u8],
 ) -> Result<Vec<u8>, Refusal> {
     transcode(alloc, ty, from, to, octets)
+}
+
+/// The text of a value that conforms.
+pub fn text_of(alloc: Global, ty: &WellTyped, value: &Value) -> Result<String, Fail> {
+    if !conforms(ty.as_type(), value) {
+        return Err(Fail::new("no value of the type"));
+    }
+    Ok(show(alloc, ty, value)?)
+}
+
+/// What a call over a stream writes, and what it answers.
+pub type Streamed = (Vec<u8>, Result<u64, Stopped>);
+
+/// What becomes of a stream that is converted.
+pub fn convert_stream(
+    alloc: Global,
+    (from, to): (Rule, Canonical),
+    ty: &WellTyped,
+    octets: &[u8],
+) -> Streamed {
+    let mut sink = ToVec::new(Vec::new(alloc));
+    let result = convert(alloc, ty, from, to, &mut FromSlice::new(octets), &mut sink);
+    (sink.into_vec(), result)
+}
+
+/// The lines of a stream that is listed.
+pub fn list_stream(alloc: Global, ty: &WellTyped, octets: &[u8]) -> Streamed {
+    let mut sink = ToVec::new(Vec::new(alloc));
+    let mut source = FromSlice::new(octets);
+    let result = list(alloc, ty, Rule::Ber, &mut source, &mut sink);
+    (sink.into_vec(), result)
+}
+
+/// What the check of a stream answers.
+pub fn check_stream(alloc: Global, ty: &WellTyped, octets: &[u8]) -> Result<u64, Stopped> {
+    check(alloc, ty, Rule::Ber, &mut FromSlice::new(octets))
+}
+
+/// The command line of words with commas between them.
+pub fn line_of(alloc: Global, words: &str) -> Result<Line, LineFault> {
+    let words: Vec<&str> = words.split(',').collect(alloc)?;
+    line(alloc, words.as_slice())
+}
+
+/// What a command line prints, on the standard output and on the standard error, and its status.
+pub fn run_over(alloc: Global, line: &Line, module: &str, input: &[u8]) -> (Vec<u8>, Vec<u8>, u8) {
+    let mut out = Vec::new(alloc);
+    let mut err = Vec::new(alloc);
+    let mut input = input;
+    let status = run(
+        alloc,
+        line,
+        module.as_bytes(),
+        &mut input,
+        &mut out,
+        &mut err,
+    );
+    (out, err, status)
 }
 
 /// The number of a refusal.

@@ -4,6 +4,7 @@ use crate::accepted::check_accepted;
 use crate::answers::{convert_by, number_of, read_by};
 use crate::pieces::check_pieces;
 use crate::rows::{Becomes, Row, row_of};
+use crate::streamed::check_stopped;
 use crate::types_by_name::type_of;
 use convert::{Canonical, Refusal, Rule, WellTyped};
 use std::alloc::Global;
@@ -73,6 +74,7 @@ fn check_refused(alloc: Global, row: &Row, number: u8) -> Result<(), Fail> {
     let read = read_by(alloc, Rule::Ber, row.ty, octets);
     check_pieces(alloc, row, octets, &read)?;
     expect_number(number_of(read), number, "read by BER", row)?;
+    check_stopped(alloc, row, number)?;
     if row.is_long() {
         return Ok(());
     }

@@ -1,17 +1,19 @@
 //! ENUMERATED (X.690 8.4), whose contents octets are those of an item's number.
 
-use crate::checks::check_line;
+use crate::checks::check_table;
 use convert::{Item, Tag, Ty, TypeFault, Value, WellTyped, conforms};
 use std::alloc::Global;
 use std::test::Fail;
 
-// octets of an ENUMERATED with items 1, 2, 0, 3 and 300 | under DER | under CER
+// octets | under DER | under CER | text
 const ROWS: &str = "
-0A 01 02                 | kept      | kept
-0A 81 01 03              | 0A 01 03  | 0A 01 03
-0A 01 00                 | kept      | kept
-0A 02 01 2C              | kept      | kept
-0A 81 02 01 2C           | 0A 02 01 2C| 0A 02 01 2C
+ENUMERATED { a, b(300) }:
+0A 02 01 2C              | kept        | kept | b
+0A 81 02 01 2C           | 0A 02 01 2C | 0A 02 01 2C
+ENUMERATED { a(1), b, c(0), d }:
+0A 01 02                 | kept        | kept | b
+0A 81 01 03              | 0A 01 03    | 0A 01 03 | d
+0A 01 00                 | kept        | kept | c
                          | refused 1
 02 01 02                 | refused 2
 2A 03 0A 01 02           | refused 3
@@ -34,11 +36,7 @@ fn enumerated(alloc: Global, numbers: &[i128]) -> Result<Ty, Fail> {
 
 #[test]
 fn encodings(rt: HostRuntime) -> Result<(), Fail> {
-    let ty = WellTyped::new(enumerated(rt.alloc(), &[1, 2, 0, 3, 300])?)?;
-    for line in ROWS.lines() {
-        check_line(rt.alloc(), &ty, line)?;
-    }
-    Ok(())
+    check_table(rt.alloc(), ROWS)
 }
 
 #[test]

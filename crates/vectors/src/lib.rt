@@ -29,6 +29,8 @@ mod primitive;
 #[cfg(test)]
 mod rows;
 #[cfg(test)]
+mod runs;
+#[cfg(test)]
 mod same_values;
 #[cfg(test)]
 mod segments;
@@ -36,6 +38,8 @@ mod segments;
 mod sequences;
 #[cfg(test)]
 mod sets;
+#[cfg(test)]
+mod streamed;
 #[cfg(test)]
 mod tags;
 #[cfg(test)]

@@ -3,12 +3,12 @@
 use crate::checks::check_table;
 use std::test::Fail;
 
-// octets | under DER
+// octets | under DER | under CER | text
 const SIMPLE_TYPES: &str = "
 BOOLEAN:
-01 01 2A                 | 01 01 FF
+01 01 2A                 | 01 01 FF || TRUE
 01 01 01                 | 01 01 FF
-01 01 00                 | kept
+01 01 00                 | kept || FALSE
 01 01 FF                 | kept
 01 81 01 2A              | 01 01 FF
 01 82 00 01 00           | 01 01 00
@@ -23,12 +23,12 @@ BOOLEAN:
 INTEGER:
 02 01 00                 | kept
 02 01 7F                 | kept
-02 02 00 80              | kept
+02 02 00 80              | kept || 128
 02 01 80                 | kept
 02 02 FF 7F              | kept
 02 81 01 FF              | 02 01 FF
 # the least number, the greatest, and the first beyond it
-02 10 80, 00 x15         | kept
+02 10 80, 00 x15         | kept || -170141183460469231731687303715884105728
 02 10 7F, FF x15         | kept
 02 11 00 80, 00 x15      | refused 6
 # cut, before anything whole shows a fault and behind it
@@ -41,7 +41,7 @@ INTEGER:
 02 02 00 7F              | refused 6
 02 02 FF 80              | refused 6
 NULL:
-05 00                    | kept
+05 00                    | kept || NULL
 05 81 00                 | 05 00
 05 84 00 00 00 00        | 05 00
 05 80                    | refused 3
@@ -49,7 +49,7 @@ NULL:
 05 01                    | refused 6
 05 01 00                 | refused 6
 OBJECT IDENTIFIER:
-06 03 81 34 03           | kept
+06 03 81 34 03           | kept || 2.100.3
 06 81 01 2A              | 06 01 2A
 06 01 50                 | kept
 06 01 78                 | kept
@@ -65,7 +65,7 @@ OBJECT IDENTIFIER:
 06 82 09 80              | refused 1
 06 82 09 81              | refused 6
 RELATIVE-OID:
-0D 03 81 00 05           | kept
+0D 03 81 00 05           | kept || 128.5
 0D 03 81 34 03           | kept
 0D 01 00                 | kept
 06 03 81 34 03           | refused 2
@@ -78,14 +78,14 @@ RELATIVE-OID:
 0D 81 81, 01 x129        | refused 6
 ";
 
-// octets | under DER
+// octets | under DER | under CER | text
 const STRINGS: &str = "
 BIT STRING:
-03 02 07 FF              | 03 02 07 80
+03 02 07 FF              | 03 02 07 80 || '1'B
 03 02 04 FF              | 03 02 04 F0
 03 03 07 FF FF           | 03 03 07 FF 80
 03 03 00 F0 0F           | kept
-03 01 00                 | kept
+03 01 00                 | kept || ''B
 03 81 01 00              | 03 01 00
 04 02 07 80              | refused 2
 03 01 01                 | refused 6
@@ -95,7 +95,7 @@ BIT STRING:
 OCTET STRING:
 04 00                    | kept
 04 02 00 FF              | kept
-04 84 00 00 00 01 41     | 04 01 41
+04 84 00 00 00 01 41     | 04 01 41 || '41'H
 04 02 41                 | refused 1
 05 00                    | refused 2
 04 01 41 41              | left over
@@ -104,7 +104,7 @@ OCTET STRING:
 04 84 00 10 00 01        | refused 4
 04 83 10 00 00           | refused 11
 VisibleString:
-1A 05, 'Jones'           | kept
+1A 05, 'Jones'           | kept || \"Jones\"
 1A 00                    | kept
 1A 01 7F                 | refused 7
 IA5String:
@@ -120,16 +120,16 @@ UTF8String:
 0C 02 C3 A9              | kept
 0C 01 C3                 | refused 7
 BMPString:
-1E 02 00 41              | kept
+1E 02 00 41              | kept || '0041'H
 1E 04 00 41 00 42        | kept
 1E 02 D8 00              | refused 7
 1E 03 00 41 00           | refused 7
 ";
 
-// octets | under DER
+// octets | under DER | under CER | text
 const TIMES: &str = "
 GeneralizedTime:
-18 0F, '20240229120000Z'    | kept
+18 0F, '20240229120000Z'    | kept || \"20240229120000Z\"
 18 0F, '20000229000000Z'    | kept
 18 12, '20240101235959.05Z' | kept
 18 12, '20240229120000.50Z' | refused 7

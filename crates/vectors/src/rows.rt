@@ -1,10 +1,10 @@
 //! How the tables of octets are read.
 //!
 //! A line that ends with a colon is the type of the rows below it, a remark begins with `#`. A row has octets,
-//! what they become under DER, and what under CER, with bars between. The second or the third column may be empty
-//! or missing. What they become is octets, `kept` for the same ones, `refused` and a number, or `left over` where a
-//! value ends before the octets do. What a reader refuses stands in the second column alone, and `refused 14` means
-//! one writer.
+//! what they become under DER, what under CER, and the text of their value, with bars between. All columns but the
+//! first may be empty, and the last ones missing. What octets become is octets, `kept` for the same ones, `refused`
+//! and a number, or `left over` where a value ends before the octets do. What a reader refuses stands in the second
+//! column alone, and `refused 14` means one writer.
 //!
 //! Octets are parts with commas between them: hexadecimal digits, or characters between `'`. A part that
 //! ends with `x` and a number stands there as many times.
@@ -21,6 +21,7 @@ pub struct Row<'a> {
     pub octets: Vec<u8>,
     pub der: Becomes,
     pub cer: Becomes,
+    pub text: &'a str,
 }
 
 impl<'a> Row<'a> {
@@ -52,7 +53,8 @@ pub fn row_of<'a>(
         return Ok(None);
     };
     let octets = octets_of(alloc, octets)?;
-    let (der, cer) = columns.split_once('|').unwrap_or((columns, ""));
+    let (der, columns) = columns.split_once('|').unwrap_or((columns, ""));
+    let (cer, text) = columns.split_once('|').unwrap_or((columns, ""));
     let der = outcome_of(alloc, octets.as_slice(), der.trim())?;
     let cer = outcome_of(alloc, octets.as_slice(), cer.trim())?;
     Ok(Some(Row {
@@ -61,6 +63,7 @@ pub fn row_of<'a>(
         octets,
         der,
         cer,
+        text: text.trim(),
     }))
 }
 

@@ -4,10 +4,10 @@
 use crate::checks::check_table;
 use std::test::Fail;
 
-// octets | under DER | under CER
+// octets | under DER | under CER | text
 const COMPONENTS: &str = "
 SEQUENCE { }:
-30 00                          | kept                       | 30 80 00 00
+30 00                          | kept                       | 30 80 00 00 | { }
 30 80 00 00                    | 30 00                      | kept
 30 82 00 00                    | 30 00                      | 30 80 00 00
 SEQUENCE { a INTEGER OPTIONAL, b BOOLEAN }:
@@ -35,13 +35,13 @@ SEQUENCE { a INTEGER OPTIONAL, b BOOLEAN OPTIONAL, c NULL OPTIONAL }:
 30 04 A1 02 05 00              | refused 2
 ";
 
-// octets | under DER | under CER
+// octets | under DER | under CER | text
 const DEFAULTS: &str = "
-SEQUENCE { a [0] INTEGER DEFAULT 1, b [1] BOOLEAN }:
+AUTOMATIC TAGS SEQUENCE { a INTEGER DEFAULT 1, b BOOLEAN }:
 30 03 81 01 FF                 | kept                       | 30 80 81 01 FF 00 00
-30 06 80 01 01 81 01 FF        | 30 03 81 01 FF             | 30 80 81 01 FF 00 00
+30 06 80 01 01 81 01 FF        | 30 03 81 01 FF             | 30 80 81 01 FF 00 00 | { b TRUE }
 30 07 80 81 01 01 81 01 2A     | 30 03 81 01 FF             | 30 80 81 01 FF 00 00
-30 06 80 01 02 81 01 00        | kept                       | 30 80 80 01 02 81 01 00 00 00
+30 06 80 01 02 81 01 00        | kept                       | 30 80 80 01 02 81 01 00 00 00 | { a 2, b FALSE }
 30 06 80 01 01 80 01 01        | refused 2
 30 03 80 01 01                 | refused 8
 30 07 80 02 00 01 81 01 FF     | refused 6
@@ -89,7 +89,7 @@ SEQUENCE OF SEQUENCE { a INTEGER OPTIONAL, b CHOICE { c NULL, d SEQUENCE OF BOOL
 30 05 30 03 02 01 07           | refused 8
 ";
 
-// octets | under DER | under CER
+// octets | under DER | under CER | text
 const CHOICES_AND_TAGS: &str = "
 CHOICE { x [0] NULL, y [1] BOOLEAN }:
 80 00                          | kept                       | 80 00
@@ -101,8 +101,8 @@ CHOICE { a INTEGER, b CHOICE { c BOOLEAN, d SEQUENCE OF INTEGER } }:
 01 01 2A                       | 01 01 FF                   | 01 01 FF
 30 80 02 01 04 00 00           | 30 03 02 01 04             | kept
 31 00                          | refused 2
-SEQUENCE { a [0] EXPLICIT CHOICE { x [0] NULL, y [1] BOOLEAN }, b [1] INTEGER }:
-30 07 A0 02 80 00 81 01 05     | kept                       | 30 80 A0 80 80 00 00 00 81 01 05 00 00
+AUTOMATIC TAGS SEQUENCE { a CHOICE { x NULL, y BOOLEAN }, b INTEGER }:
+30 07 A0 02 80 00 81 01 05     | kept                       | 30 80 A0 80 80 00 00 00 81 01 05 00 00 | { a x : NULL, b 5 }
 30 80 A0 80 80 00 00 00 81 01 05 00 00 | 30 07 A0 02 80 00 81 01 05 | kept
 30 08 A0 03 81 01 2A 81 01 05  | 30 08 A0 03 81 01 FF 81 01 05 | 30 80 A0 80 81 01 FF 00 00 81 01 05 00 00
 30 05 A0 00 81 01 05           | refused 4

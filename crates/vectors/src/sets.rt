@@ -3,7 +3,7 @@
 use crate::checks::check_table;
 use std::test::Fail;
 
-// octets | under DER | under CER
+// octets | under DER | under CER | text
 const COMPONENTS: &str = "
 SET { a INTEGER, b BOOLEAN }:
 31 06 01 01 FF 02 01 05        | kept                       | 31 80 01 01 FF 02 01 05 00 00
@@ -21,10 +21,10 @@ SET { a INTEGER DEFAULT 1, b BOOLEAN OPTIONAL }:
 31 06 02 01 01 02 01 01        | refused 9
 31 06 02 01 01 02 01 02        | refused 9
 31 06 02 01 02 02 01 01        | refused 9
-SET { a INTEGER, b CHOICE { x [5] NULL, y BOOLEAN } }:
-31 05 02 01 07 85 00           | kept                       | 31 80 85 00 02 01 07 00 00
+EXPLICIT TAGS SET { a INTEGER, b CHOICE { x [5] IMPLICIT NULL, y BOOLEAN } }:
+31 05 02 01 07 85 00           | kept                       | 31 80 85 00 02 01 07 00 00 | { a 7, b x : NULL }
 31 80 85 00 02 01 07 00 00     | 31 05 02 01 07 85 00       | kept
-31 06 02 01 07 01 01 01        | 31 06 01 01 FF 02 01 07    | 31 80 01 01 FF 02 01 07 00 00
+31 06 02 01 07 01 01 01        | 31 06 01 01 FF 02 01 07    | 31 80 01 01 FF 02 01 07 00 00 | { a 7, b y : TRUE }
 31 07 85 00 02 01 07 85 00     | refused 9
 31 07 85 00 01 01 FF 85 00     | refused 9
 31 02 85 00                    | refused 8
@@ -45,10 +45,10 @@ SET { }:
 31 02 05 00                    | refused 2
 ";
 
-// octets | under DER | under CER
+// octets | under DER | under CER | text
 const ITEMS: &str = "
 SET OF INTEGER:
-31 09 02 01 05 02 01 03 02 01 05 | 31 09 02 01 03 02 01 05 02 01 05 | 31 80 02 01 03 02 01 05 02 01 05 00 00
+31 09 02 01 05 02 01 03 02 01 05 | 31 09 02 01 03 02 01 05 02 01 05 | 31 80 02 01 03 02 01 05 02 01 05 00 00 | { 3, 5, 5 }
 31 80 02 01 05 02 01 03 02 01 05 00 00 | 31 09 02 01 03 02 01 05 02 01 05 | 31 80 02 01 03 02 01 05 02 01 05 00 00
 31 00                          | kept                       | 31 80 00 00
 31 06 02 01 01 02 01 01        | kept                       | 31 80 02 01 01 02 01 01 00 00
@@ -56,7 +56,7 @@ SET OF INTEGER:
 31 0A 02 02 01 00 02 01 FF 02 01 01 | 31 0A 02 01 01 02 01 FF 02 02 01 00 | 31 80 02 01 01 02 01 FF 02 02 01 00 00 00
 31 06 02 01 01 04 01 01        | refused 2
 SET OF OCTET STRING:
-31 07 04 02 00 00 04 01 FF     | 31 07 04 01 FF 04 02 00 00 | 31 80 04 01 FF 04 02 00 00 00 00
+31 07 04 02 00 00 04 01 FF     | 31 07 04 01 FF 04 02 00 00 | 31 80 04 01 FF 04 02 00 00 00 00 | { 'FF'H, '0000'H }
 31 09 04 02 00 00 24 03 04 01 FF | 31 07 04 01 FF 04 02 00 00 | 31 80 04 01 FF 04 02 00 00 00 00
 31 0B 04 02 00 00 04 00 04 01 00 04 00 | 31 0B 04 00 04 00 04 01 00 04 02 00 00 | 31 80 04 00 04 00 04 01 00 04 02 00 00 00 00
 SET OF CHOICE { a OCTET STRING, b NULL }:

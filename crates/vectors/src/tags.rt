@@ -28,7 +28,7 @@ C0 00                    | kept
 45 01 80                 | kept
 [PRIVATE 0] OCTET STRING:
 C0 81 01 41              | C0 01 41
-[APPLICATION 31] NULL:
+EXPLICIT TAGS [APPLICATION 31] IMPLICIT NULL:
 5F 1F 00                 | kept
 5F 80 1F 00              | refused 2
 5F 20 00                 | refused 2
@@ -41,6 +41,30 @@ C0 81 01 41              | C0 01 41
 [PRIVATE 268435455] NULL:
 DF FF FF FF 7F 81 00     | DF FF FF FF 7F 00
 ";
+
+// octets | under DER | under CER | text
+const WRITTEN_AND_AUTOMATIC: &str = "
+EXPLICIT TAGS [1] NULL:
+A1 02 05 00              | kept | A1 80 05 00 00 00 | NULL
+IMPLICIT TAGS [1] NULL:
+81 00                    | kept | kept | NULL
+AUTOMATIC TAGS SEQUENCE { a [5] NULL, b NULL }:
+30 04 85 00 05 00        | kept | 30 80 85 00 05 00 00 00 | { a NULL, b NULL }
+AUTOMATIC TAGS SEQUENCE { a U, b NULL } U ::= [5] NULL:
+30 04 80 00 81 00        | kept | 30 80 80 00 81 00 00 00
+30 04 85 00 81 00        | refused 2
+AUTOMATIC TAGS SEQUENCE { a U, b NULL } U ::= [5] EXPLICIT NULL:
+30 06 A0 02 05 00 81 00  | kept | 30 80 A0 80 05 00 00 00 81 00 00 00
+# a CHOICE has no tag that an implicit one could stand for
+IMPLICIT TAGS [1] U U ::= CHOICE { a NULL }:
+A1 02 05 00              | kept | A1 80 05 00 00 00 | a : NULL
+81 00                    | refused 3
+";
+
+#[test]
+fn written_and_automatic_tags(rt: HostRuntime) -> Result<(), Fail> {
+    check_table(rt.alloc(), WRITTEN_AND_AUTOMATIC)
+}
 
 #[test]
 fn other_tags(rt: HostRuntime) -> Result<(), Fail> {

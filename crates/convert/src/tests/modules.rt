@@ -1,8 +1,11 @@
 //! Runs over the types of modules.
 
+use super::dripping::Dripping;
 use super::{check_run_of, line_to_der, spaces};
-use crate::{Canonical, Line, Verb};
+use crate::{Canonical, Line, Verb, cannot_read_module, read_module};
 use std::alloc::{AllocError, Global};
+use std::io;
+use std::io::ErrorKind;
 use std::test::Fail;
 
 // A call between two numbers.
@@ -137,4 +140,42 @@ fn modules_that_are_no_text(rt: HostRuntime) -> Result<(), Fail> {
     let too_long = "asn1x: module refused 31 TooLarge at 1:1\n";
     check_run_of(&rt, &line, module.as_slice(), b"", ("", too_long, 2));
     Ok(())
+}
+
+#[test]
+fn files_of_modules(rt: HostRuntime) -> Result<(), Fail> {
+    let octets = read_module(rt.alloc(), &mut CALLS.as_bytes());
+    let octets = octets.ok().ok_or("not read")?;
+    assert_eq!(rt; octets.as_slice(), CALLS.as_bytes());
+    // one octet more than a text may have is enough to refuse it
+    let long = spaces(rt.alloc(), 262_150)?;
+    let octets = read_module(rt.alloc(), &mut long.as_slice());
+    assert_eq!(rt; octets.ok().ok_or("not read")?.len(), 262_145);
+    let cut = read_module(rt.alloc(), &mut Dripping::new(b"M DEFINITIONS", 5));
+    assert!(rt; cut.is_err());
+    Ok(())
+}
+
+#[test]
+fn files_of_modules_that_cannot_be_read(rt: HostRuntime) {
+    // (why not, line, status)
+    let cases = [
+        (ErrorKind::NotFound, "asn1x: cannot read no/such.asn\n", 3),
+        (
+            ErrorKind::IsADirectory,
+            "asn1x: cannot read no/such.asn\n",
+            3,
+        ),
+        (
+            ErrorKind::OutOfMemory,
+            "asn1x: module refused 33 NoMemory at 1:1\n",
+            4,
+        ),
+    ];
+    for (kind, want, want_status) in cases {
+        let mut err = Vec::new(rt.alloc());
+        let status = cannot_read_module("no/such.asn", &io::Error::from(kind), &mut err);
+        assert_eq!(rt; err.as_slice(), want.as_bytes(), "at {kind:?}");
+        assert_eq!(rt; status, want_status, "at {kind:?}");
+    }
 }

@@ -211,6 +211,23 @@ fn sink_that_fails_at_each_call(rt: HostRuntime) -> Result<(), Fail> {
 }
 
 #[test]
+fn sink_with_room_for_four_octets(rt: HostRuntime) -> Result<(), Fail> {
+    let mut room = [0; 4];
+    let mut sink = ToWriter::new(room.as_mut_slice());
+    let result = convert(
+        rt.alloc(),
+        &boolean()?,
+        Rule::Ber,
+        Canonical::Der,
+        &mut FromSlice::new(&[0x01, 0x01, 0x01, 0x01, 0x01, 0x00]),
+        &mut sink,
+    );
+    assert_eq!(rt; counted(result), (1, 16));
+    assert_eq!(rt; room, [0x01, 0x01, 0xFF, 0x01]);
+    Ok(())
+}
+
+#[test]
 fn too_long_an_encoding_is_only_checked(rt: HostRuntime) -> Result<(), Fail> {
     let alloc = rt.alloc();
     // 30 80, 04 83 0F FF F7 and as many octets 00, 00 00: 1,048,576 octets in all.
