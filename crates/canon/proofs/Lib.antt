@@ -24,3 +24,4 @@ pub mod CopyLemmas
 pub mod SameValueLemmas
 pub mod OrderedLemmas
 pub mod OrderedOnceLemmas
+pub mod LeavesLemmas

@@ -142,13 +142,13 @@ module _ (fields : List Field) (slots : List (Option Value)) where
       subst (λ (ss : List (Option Value)). AreOrderedFrom (components_view fields) (slots_view slots) (slots_view ss)) (append-nil done) (g [] both)
 
 -- items, one after another
-zip_push : {X Y : Type 0} (R : X → Y → Type 0) (xs : List X) (ys : List Y) (x : X) (y : Y) → AllZip R xs ys → R x y → AllZip R (xs ++ x ∷ []) (ys ++ y ∷ [])
+pub zip_push : {X Y : Type 0} (R : X → Y → Type 0) (xs : List X) (ys : List Y) (x : X) (y : Y) → AllZip R xs ys → R x y → AllZip R (xs ++ x ∷ []) (ys ++ y ∷ [])
 zip_push R [] [] x y h r = (r, tt)
 zip_push R [] (z ∷ ys) x y h r = elim h [ ]
 zip_push R (z ∷ xs) [] x y h r = elim h [ ]
 zip_push R (w ∷ xs) (z ∷ ys) x y h r = (h.0, zip_push R xs ys x y h.1 r)
 
-taken : (xs : List Value) (i : ℕ) (x : Value) → i < length xs → x ≡ get_or xs i x → map value_view (take (i + 1) xs) ≡ map value_view (take i xs) ++ value_view x ∷ []
+pub taken : (xs : List Value) (i : ℕ) (x : Value) → i < length xs → x ≡ get_or xs i x → map value_view (take (i + 1) xs) ≡ map value_view (take i xs) ++ value_view x ∷ []
 taken xs i x l at = ap (map value_view) (take_more xs i x l ∙ ap (λ y. take i xs ++ y ∷ []) (sym at)) ∙ map-append value_view (take i xs) (x ∷ [])
 
 pub item_ordered : (type : Shape) (xs done : List Value) (i : ℕ) (x y : Value) → i < length xs → x ≡ get_or xs i x → AllZip (IsOrderedFrom type) (map value_view (take i xs)) (map value_view done) → IsOrderedFrom type (value_view x) (value_view y)

@@ -1,9 +1,8 @@
 -- Lemmas on values whose encodings are primitive.
-use Rattle.std.proofs.Common.{◌≡◌, ◌≤◌, ◌∙◌, ◌^◌, ℕ, List, ◌++◌, false, length, refl, sym, ap, subst, arith, append_assoc}
+use Rattle.std.proofs.Common.{◌≡◌, ◌≤◌, ◌∙◌, ◌^◌, ℕ, List, ◌++◌, length, refl, sym, ap, subst, arith, append_assoc}
 use Rattle.octets.specs.declared.TheConstants.{MAX_TAG_NUMBER}
 use Rattle.octets.specs.declared.tag.Tag.{Tag}
 use Rattle.octets.specs.Front.{Appends}
-use Rattle.octets.specs.Identifier.{IsIdentifier}
 use Rattle.octets.specs.Length.{IsShortestLength}
 use Rattle.octets.specs.Rule.{Rule, der, IsCanonical}
 use Rattle.octets.proofs.RuleLemmas.{cer_is_canonical, der_is_canonical}
@@ -15,7 +14,7 @@ use Rattle.types.proofs.ContentsExistenceLemmas.{simple_contents}
 use Rattle.canon.specs.declared.rule.CanonicalRule.{CanonicalRule}
 use Rattle.canon.specs.declared.rule.CanonicalRule.TheVariants.{Cer, Der}
 use Rattle.canon.specs.Rule.{rule_of}
-use Rattle.canon.specs.Leaf.{IsContentsOf, IsSimple, IsWithin, IsSimplyEncoded}
+use Rattle.canon.specs.Leaf.{IsContentsOf, IsSimple, IsWithin, IsPrimitiveHead, IsSimplyEncoded}
 use Rattle.canon.specs.Size.{HasSize}
 use Rattle.canon.proofs.PrimitiveLemmas.{primitive_exists}
 use Rattle.canon.proofs.StringSizeLemmas.{SizesPrimitive}
@@ -33,15 +32,17 @@ primitive_from_der : (rule : CanonicalRule) (tag : Tag) (contents octets : List 
 primitive_from_der Cer tag contents octets h = primitive_by_cer tag contents octets h
 primitive_from_der Der tag contents octets h = h
 
--- identifier octets, length octets and contents octets that were appended
-pub simple_made : (rule : CanonicalRule) (tag : Tag) (v : Val) (n : ℕ) (old one two new : List ℕ) → Appends (IsIdentifier tag false) old one → Appends (IsShortestLength n) one two → Appends (IsContentsOf (rule_of rule) v) two new
+-- what stands before contents octets, and they behind it
+pub simple_made : (rule : CanonicalRule) (tag : Tag) (v : Val) (n : ℕ) (old mid new : List ℕ) → Appends (IsPrimitiveHead tag n) old mid → Appends (IsContentsOf (rule_of rule) v) mid new
     → ((contents : List ℕ) → IsContentsOf (rule_of rule) v contents → length contents ≡ n) → Appends (IsSimplyEncoded (rule_of rule) tag v) old new
-simple_made rule tag v n old one two new front size contents count =
-    let whole = front.0 ++ (size.0 ++ contents.0) in
-    let sized : IsShortestLength (length contents.0) size.0 = subst (λ k. IsShortestLength k size.0) (sym (count contents.0 contents.2)) size.2 in (
+simple_made rule tag v n old mid new head contents count =
+    let h = head.2 in
+    let whole = head.0 ++ contents.0 in
+    let sized : IsShortestLength (length contents.0) h.size = subst (λ k. IsShortestLength k h.size) (sym (count contents.0 contents.2)) h.sized in
+    let joined = ap (λ x. x ++ contents.0) h.joined ∙ append_assoc h.identifier h.size contents.0 in (
       whole,
-      contents.1 ∙ ap (λ x. x ++ contents.0) (size.1 ∙ ap (λ x. x ++ size.0) front.1) ∙ append_assoc (old ++ front.0) size.0 contents.0 ∙ append_assoc old front.0 (size.0 ++ contents.0),
-      record { contents = contents.0; spelt = contents.2; primitive = primitive_from_der rule tag contents.0 whole record { identifier = front.0; size = size.0; tagged = front.2; sized = sized; joined = refl } },
+      contents.1 ∙ ap (λ x. x ++ contents.0) head.1 ∙ append_assoc old head.0 contents.0,
+      record { contents = contents.0; spelt = contents.2; primitive = primitive_from_der rule tag contents.0 whole record { identifier = h.identifier; size = h.size; tagged = h.tagged; sized = sized; joined = joined } },
     )
 
 -- some contents octets

@@ -1,7 +1,9 @@
 -- Encodings of values without parts, by the tag of the type alone.
-use Rattle.std.specs.Prelude.{◌≡◌, ◌⊎◌, ⊤, ℕ, ◌<◌, All, List, FitsSigned}
+use Rattle.std.specs.Prelude.{◌≡◌, ◌⊎◌, ⊤, ℕ, ◌<◌, false, All, List, ◌++◌, FitsSigned}
 use Rattle.std.specs.Int.{w128}
 use Rattle.octets.specs.declared.tag.Tag.{Tag}
+use Rattle.octets.specs.Identifier.{IsIdentifier}
+use Rattle.octets.specs.Length.{IsShortestLength}
 use Rattle.octets.specs.Rule.{Rule}
 use Rattle.primitives.specs.Bits.{IsBits}
 use Rattle.primitives.specs.Oid.{IsOidValue, IsRelativeOidValue}
@@ -40,6 +42,14 @@ IsSimple _ = ⊥
 abbrev pub IsContentsOf : Rule → Val → List ℕ → Type 0
 IsContentsOf rule (Val.simple value) contents = IsContents rule value contents
 IsContentsOf rule _ contents = ⊥
+
+-- identifier octets and the shortest length of so many contents octets
+pub record IsPrimitiveHead (tag : Tag) (contents : ℕ) (octets : List ℕ) : Type 0 where
+  pub identifier : List ℕ
+  pub size : List ℕ
+  pub tagged : IsIdentifier tag false identifier
+  pub sized : IsShortestLength contents size
+  pub joined : octets ≡ identifier ++ size
 
 -- a primitive encoding of them
 pub record IsSimplyEncoded (rule : Rule) (tag : Tag) (v : Val) (octets : List ℕ) : Type 0 where

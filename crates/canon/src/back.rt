@@ -14,6 +14,7 @@ ghost use Rattle.canon.specs.Turned.{Turned};
 
 use crate::heads::{put_end, put_head};
 use crate::leaf::put_leaf;
+use crate::leaves::{leaf_tag, put_leaves};
 use crate::parts::{chosen_in, items_in, slots_in};
 use crate::rule::CanonicalRule;
 use crate::spans::{
@@ -100,6 +101,9 @@ fn put_items(
         (Turned (AreItems (IsEncoding (rule_of rule) (ty_view ty.now)) (map value_view items.now))) out.old.items out.new.items) }
     ensures kept { OnErr result (Keeps out.old.items out.new.items) }
 {
+    if let Some(tag) = leaf_tag(ty) {
+        return put_leaves(rule, tag, items, out);
+    }
     let count = items.len();
     for done in 0..count {
         put_back(alloc, rule, ty, &items[count - 1 - done], out)?;

@@ -1,19 +1,52 @@
-//! What stands around the contents octets of a constructed encoding (X.690 9.1 and 10.1).
+//! What stands around contents octets (X.690 9.1 and 10.1).
 
-ghost use Rattle.std.specs.Prelude.{◌≡◌, ◌≤◌, ◌++◌, ℕ, List, length, reverse, OnOk, OnErr};
+ghost use Rattle.std.specs.Prelude.{◌≡◌, ◌≤◌, ◌+◌, ◌++◌, ℕ, List, length, reverse, OnOk, OnErr};
 ghost use Rattle.octets.specs.declared.TheConstants.{MAX_TAG_NUMBER};
 ghost use Rattle.octets.specs.Front.{Appends};
+ghost use Rattle.octets.specs.Identifier.{class_bits};
 ghost use Rattle.types.specs.Form.{IsConstructed};
 ghost use Rattle.canon.specs.declared.rule.CanonicalRule.TheVariants.{Der};
+ghost use Rattle.canon.specs.Leaf.{IsPrimitiveHead};
 ghost use Rattle.canon.specs.Part.{Keeps};
 ghost use Rattle.canon.specs.Rule.{rule_of};
 ghost use Rattle.canon.specs.Turned.{Turned, end_octets};
 
 use crate::rule::CanonicalRule;
 use crate::spans::turn;
-use octets::{NoMemory, Tag, put_identifier, put_shortest_length};
+use octets::{Class, NoMemory, Tag, put_identifier, put_shortest_length};
 
-// Appends what follows the contents octets, which reads the same turned round.
+// Appends what stands before so many contents octets of a primitive encoding: mostly two octets.
+pub(crate) fn put_primitive_head(
+    tag: Tag,
+    contents: usize,
+    out: &mut Vec<u8>,
+) -> Result<(), NoMemory>
+    ensures appended { OnOk result (Appends (IsPrimitiveHead tag contents) out.old.items out.new.items) }
+    ensures kept { OnErr result (Keeps out.old.items out.new.items) }
+{
+    if tag.number < 31 && contents < 0x80 {
+        out.extend_from_slice(&[leading_octet(tag), contents as u8])?;
+        return Ok(());
+    }
+    put_identifier(out, tag, false)?;
+    put_shortest_length(out, contents)
+}
+
+// The one identifier octet of a primitive encoding (X.690 8.1.2.2).
+fn leading_octet(tag: Tag) -> u8
+    requires { tag.number ≤ 30 }
+    ensures { result ≡ class_bits tag.class + tag.number }
+{
+    let class = match tag.class {
+        Class::Universal => 0x00,
+        Class::Application => 0x40,
+        Class::Context => 0x80,
+        Class::Private => 0xC0,
+    };
+    class + tag.number as u8
+}
+
+// Appends what follows the contents octets of a constructed encoding, which reads the same turned round.
 pub(crate) fn put_end(rule: CanonicalRule, out: &mut Vec<u8>) -> Result<(), NoMemory>
     ensures appended { OnOk result (out.new.items ≡ out.old.items ++ end_octets (rule_of rule)) }
     ensures unchanged { OnErr result (out.new.items ≡ out.old.items) }
@@ -24,7 +57,7 @@ pub(crate) fn put_end(rule: CanonicalRule, out: &mut Vec<u8>) -> Result<(), NoMe
     }
 }
 
-// Appends what stands before so many contents octets.
+// Appends what stands before so many contents octets of a constructed encoding.
 pub(crate) fn put_front(
     rule: CanonicalRule,
     tag: Tag,

@@ -11,11 +11,12 @@ ghost use Rattle.canon.specs.Size.{HasSize};
 ghost use Rattle.canon.specs.Turned.{Turned};
 
 use crate::contents::{put_contents, size_of_contents};
+use crate::heads::put_primitive_head;
 use crate::rule::CanonicalRule;
 use crate::segments::{put_string, size_of_string};
 use crate::sizes::size_of_definite;
 use crate::spans::turn;
-use octets::{Class, NoMemory, Tag, put_identifier, put_shortest_length};
+use octets::{Class, NoMemory, Tag};
 use types::Value;
 
 // The tags of segments, whatever the tag of the string (X.690 8.6.4 and 8.7.3).
@@ -129,7 +130,6 @@ fn put_simple(
         (IsSimplyEncoded (rule_of rule) tag (value_view value.now)) out.old.items out.new.items) }
     ensures kept { OnErr result (Keeps out.old.items out.new.items) }
 {
-    put_identifier(out, tag, false)?;
-    put_shortest_length(out, size_of_contents(rule, value))?;
+    put_primitive_head(tag, size_of_contents(rule, value), out)?;
     put_contents(rule, value, out)
 }

@@ -15,6 +15,7 @@ mod der;
 mod heads;
 mod laws;
 mod leaf;
+mod leaves;
 mod ordering;
 mod parts;
 mod put;

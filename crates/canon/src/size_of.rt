@@ -11,6 +11,7 @@ ghost use Rattle.canon.specs.Rule.{rule_of};
 ghost use Rattle.canon.specs.Size.{HasSize};
 
 use crate::leaf::size_of_leaf;
+use crate::leaves::{leaf_tag, size_of_leaves};
 use crate::parts::{chosen_in, items_in, slots_in};
 use crate::rule::CanonicalRule;
 use crate::sizes::size_of_constructed;
@@ -70,6 +71,9 @@ fn size_of_items(rule: CanonicalRule, ty: &Ty, items: &[Value]) -> usize
     ensures size { HasSize
         (AreItems (IsEncoding (rule_of rule) (ty_view ty.now)) (map value_view items.now)) result }
 {
+    if let Some(tag) = leaf_tag(ty) {
+        return size_of_leaves(rule, tag, items);
+    }
     let count = items.len();
     let mut total = 0usize;
     for done in 0..count {

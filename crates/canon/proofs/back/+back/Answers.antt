@@ -26,6 +26,7 @@ use Rattle.canon.specs.Turned.{Turned, end_octets}
 use Rattle.canon.proofs.AlikeLemmas.{appended_by, alike-chain}
 use Rattle.canon.proofs.KeptLemmas.{kept, always_kept, keeps_more, keeps_chain, keeps_taken}
 use Rattle.canon.proofs.LeafLemmas.{leaf_alike}
+use Rattle.canon.proofs.LeavesLemmas.{leaves_conform, leaves_alike}
 use Rattle.canon.proofs.NodeLemmas.{choice_parts, choice_alike, has_items, has_slots, explicit_alike, sequence_alike, set_alike, sequence_of_alike, set_of_alike}
 use Rattle.canon.proofs.PutLemmas.{PutFrom, item_put, no_components_put, present_put, absent_put, laid_more, order_made}
 use Rattle.canon.proofs.SimpleLemmas.{rule_is_canonical}
@@ -172,6 +173,18 @@ put_back-returns-in_ok-put_back-in-Explicit-clause-appended t c =
     let here : Appends (Turned (IsEncoding rule type v)) one two = subst (λ (e : Ty). Appends (Turned (IsEncoding rule (ty_view e) v)) one two) c.deref-in-Explicit.ensures c.in_ok-put_back-in-Explicit.ensures.appended in
     arm c.put_head-in-Explicit.result rule tag (IsEncoding rule type v) (IsEncoding rule (ty_view c.args.ty.now) v) c.len-start.result c.args.out.now.items one two c.put_head-in-Explicit.new.out.items
     (omega (arith, c.len-start.ensures)) c.in_ok-put_end-in-Explicit.ensures.appended here (λ b h. subst (λ (s : Shape). IsEncoding rule s v b) (sym is) ((explicit_alike rule tag type v).to b h)) c.put_head-in-Explicit.ensures.appended
+
+pub put_items-put_leaves-requires-clause-leaves : goal.put_items-put_leaves-requires-clause-leaves
+put_items-put_leaves-requires-clause-leaves t c = leaves_conform c.in-Some.tag (ty_view c.args.ty.now) c.in-Some.ensures (map value_view c.args.items.now) c.requires.conform
+
+pub put_items-returns-in-Some-clause-appended : goal.put_items-returns-in-Some-clause-appended
+put_items-returns-in-Some-clause-appended t c =
+    let rule = rule_of c.args.rule in
+    let tag = c.in-Some.tag in
+    let type = ty_view c.args.ty.now in
+    let values = map value_view c.args.items.now in
+    let alike = leaves_alike tag type c.in-Some.ensures rule values c.requires.conform in
+    appended_by c.put_leaves.result (Turned (AreItems (IsLeafEncoding rule tag) values)) (Turned (AreItems (IsEncoding rule type) values)) c.args.out.now.items c.put_leaves.new.out.items (λ b h. alike.to (reverse b) h) c.put_leaves.ensures.appended
 
 pub put_items-put_back-requires : goal.put_items-put_back-requires
 put_items-put_back-requires t c =

@@ -5,25 +5,23 @@ use Rattle.types.specs.View.{value_view}
 use Rattle.canon.specs.Part.{Keeps}
 use Rattle.canon.specs.Rule.{rule_of}
 use Rattle.canon.specs.Leaf.{IsContentsOf, IsSimplyEncoded}
-use Rattle.canon.proofs.KeptLemmas.{kept, keeps_more}
+use Rattle.canon.proofs.KeptLemmas.{kept}
 use Rattle.canon.proofs.SimpleLemmas.{simple_made}
 use Rattle.canon.proofs.leaf.put_simple.Goals as goal
 
 pub returns-clause-appended : goal.returns-clause-appended
 returns-clause-appended c =
     let v = value_view c.args.value.now in
-    let mid = c.put_shortest_length.new.out.items in
+    let mid = c.put_primitive_head.new.out.items in
     let new = c.put_contents.new.out.items in
     OnOk-map c.put_contents.result (Appends (IsContentsOf (rule_of c.args.rule) v) mid new) (Appends (IsSimplyEncoded (rule_of c.args.rule) c.args.tag v) c.args.out.now.items new)
-    (λ h. simple_made c.args.rule c.args.tag v c.size_of_contents.result c.args.out.now.items c.put_identifier.new.out.items mid new c.in_ok-put_identifier.ensures.appended c.in_ok-put_shortest_length.ensures.appended h c.size_of_contents.ensures.size)
+    (λ h. simple_made c.args.rule c.args.tag v c.size_of_contents.result c.args.out.now.items mid new c.in_ok-put_primitive_head.ensures.appended h c.size_of_contents.ensures.size)
     c.put_contents.ensures.appended
 
 pub returns-clause-kept : goal.returns-clause-kept
 returns-clause-kept c =
     let old = c.args.out.now.items in
-    let one = c.put_identifier.new.out.items in
-    let mid = c.put_shortest_length.new.out.items in
+    let mid = c.put_primitive_head.new.out.items in
     let new = c.put_contents.new.out.items in
-    let a = c.in_ok-put_identifier.ensures.appended in
-    let b = c.in_ok-put_shortest_length.ensures.appended in
-    kept c.put_contents.result (new ≡ mid) (Keeps old new) (λ same. keeps_more old one new b.0 (a.0, a.1, tt) (same ∙ b.1)) c.put_contents.ensures.unchanged
+    let head = c.in_ok-put_primitive_head.ensures.appended in
+    kept c.put_contents.result (new ≡ mid) (Keeps old new) (λ same. (head.0, same ∙ head.1, tt)) c.put_contents.ensures.unchanged

@@ -16,6 +16,7 @@ use Rattle.canon.specs.Rule.{rule_of}
 use Rattle.canon.specs.Size.{HasSize}
 use Rattle.canon.proofs.AlikeLemmas.{size_alike, alike-chain}
 use Rattle.canon.proofs.LeafLemmas.{leaf_alike}
+use Rattle.canon.proofs.LeavesLemmas.{leaves_conform, leaves_alike}
 use Rattle.canon.proofs.NodeLemmas.{choice_parts, choice_alike, has_items, has_slots, has_inner, explicit_alike}
 use Rattle.canon.proofs.NodeSizeLemmas.{around_size}
 use Rattle.canon.proofs.SimpleLemmas.{rule_is_canonical}
@@ -135,6 +136,13 @@ size_of-returns-in-Boolean-clause-size t c =
     let shape = ty_view c.args.ty.now in
     let v = value_view c.args.value.now in
     size_alike _ _ c.size_of_leaf.result (leaf_alike (rule_of c.args.rule) tag shape v (leaf_view c.args.ty.now tag c.in-Boolean.is) c.requires.conforms) c.size_of_leaf.ensures.size
+
+pub size_of_items-size_of_leaves-requires-clause-leaves : goal.size_of_items-size_of_leaves-requires-clause-leaves
+size_of_items-size_of_leaves-requires-clause-leaves t c = leaves_conform c.in-Some.tag (ty_view c.args.ty.now) c.in-Some.ensures (map value_view c.args.items.now) c.requires.conform
+
+pub size_of_items-returns-in-Some-clause-size : goal.size_of_items-returns-in-Some-clause-size
+size_of_items-returns-in-Some-clause-size t c =
+    size_alike _ _ c.size_of_leaves.result (leaves_alike c.in-Some.tag (ty_view c.args.ty.now) c.in-Some.ensures (rule_of c.args.rule) (map value_view c.args.items.now) c.requires.conform) c.size_of_leaves.ensures.size
 
 pub size_of_items-size_of-requires : goal.size_of_items-size_of-requires
 size_of_items-size_of-requires t c =

@@ -1,0 +1,81 @@
+//! Lists of values without parts.
+
+ghost use Rattle.std.specs.Prelude.{◌≤◌, ◌+◌, map, IfSome, OnOk, OnErr};
+ghost use Rattle.std.specs.List.{AllByRecursion};
+ghost use Rattle.octets.specs.declared.TheConstants.{MAX_ENCODING, MAX_TAG_NUMBER};
+ghost use Rattle.octets.specs.Front.{Appends};
+ghost use Rattle.types.specs.View.{ty_view, value_view};
+ghost use Rattle.canon.specs.Leaf.{IsLeaf, IsLeafEncoding, IsLeafOf};
+ghost use Rattle.canon.specs.Node.{AreItems};
+ghost use Rattle.canon.specs.Part.{Keeps};
+ghost use Rattle.canon.specs.Rule.{rule_of};
+ghost use Rattle.canon.specs.Size.{HasSize};
+ghost use Rattle.canon.specs.Turned.{Turned};
+
+use crate::leaf::{put_forwards, size_of_leaf};
+use crate::rule::CanonicalRule;
+use crate::spans::turn;
+use octets::{MAX_ENCODING, NoMemory, Tag};
+use types::{Ty, Value};
+
+// The tag of a type without parts; nothing of another.
+pub(crate) fn leaf_tag(ty: &Ty) -> Option<Tag>
+    ensures { IfSome result (λ tag. IsLeafOf tag (ty_view ty.now)) }
+{
+    match ty {
+        Ty::Boolean(tag)
+        | Ty::Integer(tag)
+        | Ty::Enumerated(tag, _)
+        | Ty::Null(tag)
+        | Ty::Oid(tag)
+        | Ty::RelativeOid(tag)
+        | Ty::Bits(tag)
+        | Ty::Octets(tag)
+        | Ty::Text(tag, _)
+        | Ty::Time(tag, _) => Some(*tag),
+        Ty::Sequence(..)
+        | Ty::Set(..)
+        | Ty::SequenceOf(..)
+        | Ty::SetOf(..)
+        | Ty::Choice(_)
+        | Ty::Explicit(..) => None,
+    }
+}
+
+// How many octets the encodings of values under `tag` have.
+pub(crate) fn size_of_leaves(rule: CanonicalRule, tag: Tag, values: &[Value]) -> usize
+    requires tag { tag.number ≤ MAX_TAG_NUMBER }
+    requires leaves { AllByRecursion IsLeaf (map value_view values.now) }
+    ensures at_most { result ≤ MAX_ENCODING + 1 }
+    ensures size { HasSize
+        (AreItems (IsLeafEncoding (rule_of rule) tag) (map value_view values.now)) result }
+{
+    let count = values.len();
+    let mut total = 0usize;
+    for done in 0..count {
+        let size = size_of_leaf(rule, tag, &values[count - 1 - done]);
+        total = (total + size).min(MAX_ENCODING + 1);
+    }
+    total
+}
+
+// Appends the encodings of values under `tag`, all of them turned round at once.
+pub(crate) fn put_leaves(
+    rule: CanonicalRule,
+    tag: Tag,
+    values: &[Value],
+    out: &mut Vec<u8>,
+) -> Result<(), NoMemory>
+    requires tag { tag.number ≤ MAX_TAG_NUMBER }
+    requires leaves { AllByRecursion IsLeaf (map value_view values.now) }
+    ensures appended { OnOk result (Appends
+        (Turned (AreItems (IsLeafEncoding (rule_of rule) tag) (map value_view values.now))) out.old.items out.new.items) }
+    ensures kept { OnErr result (Keeps out.old.items out.new.items) }
+{
+    let start = out.len();
+    for value in values {
+        put_forwards(rule, tag, value, out)?;
+    }
+    turn(out, start);
+    Ok(())
+}
