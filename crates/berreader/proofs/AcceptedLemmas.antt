@@ -1,5 +1,5 @@
 -- Lemmas on accepted encodings: those within the limits.
-use Rattle.std.proofs.Common.{◌≡◌, ◌≤◌, ℕ, List, ◌+◌, length, take, drop, sym, ap, ◌∙◌, arith}
+use Rattle.std.proofs.Common.{◌≡◌, ◌≤◌, ℕ, List, length, take, drop, sym, ap, ◌∙◌, arith}
 use Rattle.std.proofs.lemmas.List.{length-take-le}
 use Rattle.octets.specs.declared.TheConstants.{MAX_ENCODING}
 use Rattle.octets.specs.Front.{HasFront}
@@ -10,7 +10,6 @@ use Rattle.types.specs.Encoding.{IsAccepted, IsSomeAccepted, most_nested}
 use Rattle.types.specs.Same.{IsSame}
 use Rattle.types.specs.WellFormed.{IsWellFormed}
 use Rattle.types.proofs.EncodingLemmas.{encoding_unique}
-use Rattle.berreader.specs.Parts.{IsPartOf}
 use Rattle.berreader.specs.Nest.{IsPartWithin}
 
 -- two accepted encodings at the front are one, and so are their values
@@ -31,8 +30,3 @@ within_of_accepted shape octets f =
     let part : IsPartWithin most_nested shape MAX_ENCODING 0 (take f.0 octets) =
     record { part = record { value = f.2.0; encoding = f.2.1.encoding; depth = f.2.1.depth }; fits = omega (arith, f.2.1.size) } in
     (f.0, f.1, part)
-
-pub accepted_of_part : (shape : Shape) (value : Val) (octets : List ℕ) (used : ℕ) → (used ≤ length octets) × (0 + used ≤ MAX_ENCODING) → IsPartOf most_nested shape value (take used octets) → (used ≤ length octets) × IsAccepted ber shape value (take used octets)
-accepted_of_part shape value octets used there h =
-    let size : length (take used octets) ≡ used = length-take-le used octets there.0 in
-    (there.0, record { encoding = h.encoding; depth = h.depth; size = omega (arith, size, there.1) })

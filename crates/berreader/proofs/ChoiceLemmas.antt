@@ -197,31 +197,6 @@ mutual
 pub node_encoding : (tag : Tag) (type node : Shape) (v : Val) (octets : List ℕ) → IsGoodType type → IsNodeFor tag type node → BeginsWith tag octets → IsEncoding ber type v octets → (w : Val) × IsEncoding ber node w octets
 node_encoding tag type node v octets good h b e = node_encodes tag type node v octets good.tags h b e
 
-mutual
-  one_node : (tag : Tag) (type n m : Shape) → AllByRecursion HasDistinctTags (nodes_of type) → IsNodeFor tag type n → IsNodeFor tag type m → n ≡ m
-  one_node tag (Shape.simple own type) n m good h g = h.1 ∙ sym g.1
-  one_node tag (Shape.string own type) n m good h g = h.1 ∙ sym g.1
-  one_node tag (Shape.sequence own components) n m good h g = h.1 ∙ sym g.1
-  one_node tag (Shape.set own components) n m good h g = h.1 ∙ sym g.1
-  one_node tag (Shape.sequence_of own type) n m good h g = h.1 ∙ sym g.1
-  one_node tag (Shape.set_of own type) n m good h g = h.1 ∙ sym g.1
-  one_node tag (Shape.choice alternatives) n m good h g = one_node_of tag alternatives n m good.0 good.1 h g
-  one_node tag (Shape.explicit own type) n m good h g = h.1 ∙ sym g.1
-
-  one_node_of : (tag : Tag) (alternatives : Alternatives) (n m : Shape) → AreDistinct (tags_of_alternatives alternatives) → AllByRecursion HasDistinctTags (nodes_of_alternatives alternatives) → IsNodeForOneOf tag alternatives n → IsNodeForOneOf tag alternatives m → n ≡ m
-  one_node_of tag no_alternative n m distinct good h g = absurd h
-  one_node_of tag (alternative name type others) n m distinct good (inl h) (inl g) = one_node tag type n m (all_append HasDistinctTags (nodes_of type) (nodes_of_alternatives others) good).0 h g
-  one_node_of tag (alternative name type others) n m distinct good (inl h) (inr g) =
-      absurd (distinct_apart (first_tags type) (tags_of_alternatives others) distinct tag (node_tag tag type n h) (node_tag_of tag others m g))
-  one_node_of tag (alternative name type others) n m distinct good (inr h) (inl g) =
-      absurd (distinct_apart (first_tags type) (tags_of_alternatives others) distinct tag (node_tag tag type m g) (node_tag_of tag others n h))
-  one_node_of tag (alternative name type others) n m distinct good (inr h) (inr g) =
-      one_node_of tag others n m (distinct_right (first_tags type) (tags_of_alternatives others) distinct) (all_append HasDistinctTags (nodes_of type) (nodes_of_alternatives others) good).1 h g
-
--- a type has one node for a tag
-pub node_unique : (tag : Tag) (type n m : Shape) → IsGoodType type → IsNodeFor tag type n → IsNodeFor tag type m → n ≡ m
-node_unique tag type n m good h g = one_node tag type n m good.tags h g
-
 -- the alternative at a place
 pub alternative_encodes : (xs : List Alternative) (which : ℕ) (a : Alternative) (v : Val) (octets : List ℕ) → which < length xs → a ≡ get_or xs which a → IsEncoding ber (ty_view a.ty) v octets → IsAlternativeEncoding ber (alternatives_view xs) which v octets
 alternative_encodes [] which a v octets below is e = absurd (omega (arith, below))

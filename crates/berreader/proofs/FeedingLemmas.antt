@@ -1,5 +1,5 @@
 -- Lemmas on octets that come in pieces.
-use Rattle.std.proofs.Common.{◌≡◌, ◌+◌, ◌-◌, ◌<◌, ◌≤◌, ◌⊎◌, inl, inr, ℕ, zero, suc, List, [], ◌∷◌, ◌++◌, None, Some, Result, Ok, Err, OnOk, IsErr, IfOk, IfErr, length, take, drop, refl, sym, ap, ◌∙◌, subst, arith, append-nil, append_assoc, length-append, length-drop}
+use Rattle.std.proofs.Common.{◌≡◌, ◌+◌, ◌-◌, ◌<◌, ◌≤◌, ◌⊎◌, inl, inr, ℕ, zero, suc, List, [], ◌∷◌, ◌++◌, Option, None, Some, Result, Ok, Err, OnOk, IsErr, IfOk, IfErr, length, take, drop, refl, sym, ap, ◌∙◌, subst, arith, append-nil, append_assoc, length-append, length-drop}
 use Rattle.std.proofs.Math.Seq.{take-add, take-append-add}
 use Rattle.std.proofs.lemmas.List.{take-append-drop, drop-drop, take_all, length-take-le, take-append-le}
 use Rattle.octets.specs.declared.TheConstants.{MAX_ENCODING}
@@ -11,14 +11,16 @@ use Rattle.types.specs.declared.value.Value.{Value}
 use Rattle.types.specs.declared.refusal.Refusal.{Refusal}
 use Rattle.types.specs.declared.refusal.Refusal.TheVariants.{Truncated}
 use Rattle.types.specs.Refusal.{IsFinal, IsOfReading}
-use Rattle.berreader.specs.declared.nest.Step as nest_step
 use Rattle.berreader.specs.declared.pieces.Fed as fed
 use Rattle.berreader.specs.declared.reader.Step as answer
 use Rattle.berreader.specs.Stack.{layers_of, IsCounted}
+use Rattle.berreader.specs.declared.cursor.Cursor.{Cursor}
 use Rattle.berreader.specs.declared.nest.Nest.{Nest}
 use Rattle.types.specs.WellFormed.{IsWellFormed}
 use Rattle.berreader.specs.declared.pieces.Pieces.{Pieces}
-use Rattle.berreader.specs.Nest.{CanFinish, IsStep, IsTaken, IsWhole, IsSoundNest, AreSound, AreInside}
+use Rattle.berreader.specs.Cursor.{open_in, taken_of, CanFinish, IsStep, IsTaken, IsWhole, IsSoundCursor}
+use Rattle.berreader.specs.Nest.{AreSound, AreInside, IsSoundNest}
+use Rattle.berreader.proofs.CursorLemmas.{count_taken, sound_nest}
 use Rattle.berreader.specs.Feeding.{HasValue, GoesOn, HasBeenFed, EndsWithin, IsDone, IsDoneBefore, IsDoneBehind, IsFed, IsFedStep, IsFresh, IsMore, IsTakenCut, IsTakenWhole, IsGoingOn, IsOfFeeding, IsSoundPieces, IsSoundReader, IsTold, shape_of}
 
 -- the octets of a front and those behind it
@@ -26,43 +28,43 @@ pub front_and_rest : (n : ℕ) (before octets : List ℕ) → (before ++ take n 
 front_and_rest n before octets = append_assoc before (take n octets) (drop n octets) ∙ ap (λ o. before ++ o) (take-append-drop n octets)
 
 -- a step was taken
-pub goes_on_step : (old new : Nest) (before octets : List ℕ) (used : ℕ) → GoesOn old before octets → IsTaken old new octets used → GoesOn new (before ++ take used octets) (drop used octets)
+pub goes_on_step : (old new : Cursor) (before octets : List ℕ) (used : ℕ) → GoesOn old before octets → IsTaken old new octets used → GoesOn new (before ++ take used octets) (drop used octets)
 goes_on_step old new before octets used on step = record {
   taken = step.back before on.taken;
   forth = λ more h.
       let joined : (before ++ take used octets) ++ (drop used octets ++ more) ≡ before ++ (octets ++ more) =
       append_assoc before (take used octets) (drop used octets ++ more) ∙ ap (λ o. before ++ o) (sym (append_assoc (take used octets) (drop used octets) more) ∙ ap (λ o. o ++ more) (take-append-drop used octets)) in
-      step.forth more (on.forth more (subst (λ shape. HasValue shape (before ++ (octets ++ more))) step.type (subst (HasValue (ty_view new.ty.now)) joined h)));
+      step.forth more (on.forth more (subst (λ shape. HasValue shape (before ++ (octets ++ more))) step.type (subst (HasValue (ty_view new.nest.ty.now)) joined h)));
 }
 
 -- more octets stand behind
-pub widened : (nest : Nest) (before octets behind : List ℕ) → GoesOn nest before octets → GoesOn nest before (octets ++ behind)
-widened nest before octets behind on = record {
+pub widened : (cursor : Cursor) (before octets behind : List ℕ) → GoesOn cursor before octets → GoesOn cursor before (octets ++ behind)
+widened cursor before octets behind on = record {
   taken = on.taken;
   forth = λ more h.
       let joined : (octets ++ behind) ++ more ≡ octets ++ (behind ++ more) = append_assoc octets behind more in
-      subst (CanFinish nest) (sym joined) (on.forth (behind ++ more) (subst (λ o. HasValue (ty_view nest.ty.now) (before ++ o)) joined h));
+      subst (CanFinish cursor) (sym joined) (on.forth (behind ++ more) (subst (λ o. HasValue (ty_view cursor.nest.ty.now) (before ++ o)) joined h));
 }
 
 -- octets that complete nothing complete no value
-pub none_of_cut : (nest : Nest) (before octets : List ℕ) → GoesOn nest before octets → (CanFinish nest octets → ⊥) → HasValue (ty_view nest.ty.now) (before ++ octets) → ⊥
-none_of_cut nest before octets on none h =
+pub none_of_cut : (cursor : Cursor) (before octets : List ℕ) → GoesOn cursor before octets → (CanFinish cursor octets → ⊥) → HasValue (ty_view cursor.nest.ty.now) (before ++ octets) → ⊥
+none_of_cut cursor before octets on none h =
     let same : octets ++ [] ≡ octets = append-nil octets in
-    none (subst (CanFinish nest) same (on.forth [] (subst (λ o. HasValue (ty_view nest.ty.now) (before ++ o)) (sym same) h)))
+    none (subst (CanFinish cursor) same (on.forth [] (subst (λ o. HasValue (ty_view cursor.nest.ty.now) (before ++ o)) (sym same) h)))
 
 -- the first so many of the octets were taken as whole steps
 pub record IsOnTheWay (initial now : Pieces) (octets : List ℕ) (at : ℕ) : Type 0 where
   pub within : at ≤ length octets
   pub going_on : IsGoingOn initial now
   pub kept : now.pending.items ≡ []
-  pub on : (before : List ℕ) → GoesOn initial.nest before octets → GoesOn now.nest (before ++ take at octets) (drop at octets)
+  pub on : (before : List ℕ) → GoesOn initial.cursor before octets → GoesOn now.cursor (before ++ take at octets) (drop at octets)
 
 pub on_the_way : (initial : Pieces) (octets : List ℕ) → initial.refused ≡ None → IsSoundPieces initial → initial.pending.items ≡ [] → IsOnTheWay initial initial octets 0
 on_the_way initial octets accepts sound kept = record {
   within = omega arith;
   going_on = record { shape = refl; accepts = accepts; sound = sound };
   kept = kept;
-  on = λ before on. subst (λ b. GoesOn initial.nest b octets) (sym (append-nil before)) on;
+  on = λ before on. subst (λ b. GoesOn initial.cursor b octets) (sym (append-nil before)) on;
 }
 
 take_more_octets : (at used : ℕ) (octets : List ℕ) → take at octets ++ take used (drop at octets) ≡ take (at + used) octets
@@ -72,24 +74,24 @@ drop_more_octets : (at used : ℕ) (octets : List ℕ) → drop used (drop at oc
 drop_more_octets at used octets = drop-drop used at octets
 
 -- a step goes on
-pub on_the_way_step : (initial now new : Pieces) (octets : List ℕ) (at used : ℕ) → IsOnTheWay initial now octets at → IsTaken now.nest new.nest (drop at octets) used → IsSoundNest new.nest → new.refused ≡ now.refused → new.pending.items ≡ now.pending.items → IsOnTheWay initial new octets (at + used)
+pub on_the_way_step : (initial now new : Pieces) (octets : List ℕ) (at used : ℕ) → IsOnTheWay initial now octets at → IsTaken now.cursor new.cursor (drop at octets) used → IsSoundCursor new.cursor → new.refused ≡ now.refused → new.pending.items ≡ now.pending.items → IsOnTheWay initial new octets (at + used)
 on_the_way_step initial now new octets at used way step sound accepts kept =
     let there : used ≤ length octets - at = subst (λ n. used ≤ n) (length-drop at octets) step.there in record {
       within = omega (arith, there, way.within);
       going_on = record {
         shape = step.type ∙ way.going_on.shape;
         accepts = accepts ∙ way.going_on.accepts;
-        sound = record { nest = sound; well_formed = subst IsWellFormed (sym step.type) way.going_on.sound.well_formed };
+        sound = record { cursor = sound; well_formed = subst IsWellFormed (sym step.type) way.going_on.sound.well_formed };
       };
       kept = kept ∙ way.kept;
       on = λ before on.
-          let next = goes_on_step now.nest new.nest (before ++ take at octets) (drop at octets) used (way.on before on) step in
+          let next = goes_on_step now.cursor new.cursor (before ++ take at octets) (drop at octets) used (way.on before on) step in
           let front : (before ++ take at octets) ++ take used (drop at octets) ≡ before ++ take (at + used) octets = append_assoc before (take at octets) (take used (drop at octets)) ∙ ap (λ o. before ++ o) (take_more_octets at used octets) in
-          subst (λ b. GoesOn new.nest b (drop (at + used) octets)) front (subst (GoesOn new.nest ((before ++ take at octets) ++ take used (drop at octets))) (drop_more_octets at used octets) next);
+          subst (λ b. GoesOn new.cursor b (drop (at + used) octets)) front (subst (GoesOn new.cursor ((before ++ take at octets) ++ take used (drop at octets))) (drop_more_octets at used octets) next);
     }
 
 -- the value is whole
-pub done_on_the_way : (initial now new : Pieces) (octets before : List ℕ) (at used : ℕ) (value : Val) → IsOnTheWay initial now octets at → IsWhole now.nest new.nest (drop at octets) value used → new.refused ≡ now.refused → new.pending.items ≡ now.pending.items → GoesOn initial.nest before octets
+pub done_on_the_way : (initial now new : Pieces) (octets before : List ℕ) (at used : ℕ) (value : Val) → IsOnTheWay initial now octets at → IsWhole now.cursor new.cursor (drop at octets) value used → new.refused ≡ now.refused → new.pending.items ≡ now.pending.items → GoesOn initial.cursor before octets
     → IsDoneBehind (shape_of initial) new before octets value (at + used)
 done_on_the_way initial now new octets before at used value way step accepts kept on =
     let there : used ≤ length octets - at = subst (λ n. used ≤ n) (length-drop at octets) step.there in
@@ -98,27 +100,27 @@ done_on_the_way initial now new octets before at used value way step accepts kep
     record {
       there = omega (arith, there, way.within);
       accepted = subst (IsAccepted ber (shape_of initial) value) front (subst (λ shape. IsAccepted ber shape value ((before ++ take at octets) ++ take used (drop at octets))) way.going_on.shape (step.accepted (before ++ take at octets) goes.taken));
-      fresh = record { accepts = accepts ∙ way.going_on.accepts; layers = step.layers; taken = step.taken; kept = kept ∙ way.kept };
+      fresh = record { accepts = accepts ∙ way.going_on.accepts; layers = step.layers; taken = step.taken; string = step.string; kept = kept ∙ way.kept };
     }
 
 -- the rest is kept
-pub kept_on_the_way : (initial now new : Pieces) (octets before : List ℕ) (at : ℕ) → IsOnTheWay initial now octets at → new.nest ≡ now.nest → new.refused ≡ now.refused → new.pending.items ≡ now.pending.items ++ drop at octets → (CanFinish now.nest (drop at octets) → ⊥) → GoesOn initial.nest before octets
+pub kept_on_the_way : (initial now new : Pieces) (octets before : List ℕ) (at : ℕ) → IsOnTheWay initial now octets at → new.cursor ≡ now.cursor → new.refused ≡ now.refused → new.pending.items ≡ now.pending.items ++ drop at octets → (CanFinish now.cursor (drop at octets) → ⊥) → GoesOn initial.cursor before octets
     → HasBeenFed new (before ++ octets)
-kept_on_the_way initial now new octets before at way nest accepts kept none on =
+kept_on_the_way initial now new octets before at way cursor accepts kept none on =
     let goes = way.on before on in
     let pending : new.pending.items ≡ drop at octets = kept ∙ ap (λ o. o ++ drop at octets) way.kept in
-    let here : GoesOn new.nest (before ++ take at octets) (drop at octets) = subst (λ n. GoesOn n (before ++ take at octets) (drop at octets)) (sym nest) goes in
+    let here : GoesOn new.cursor (before ++ take at octets) (drop at octets) = subst (λ n. GoesOn n (before ++ take at octets) (drop at octets)) (sym cursor) goes in
     let whole : before ++ octets ≡ (before ++ take at octets) ++ drop at octets = sym (front_and_rest at before octets) in
     record {
       accepts = accepts ∙ way.going_on.accepts;
       before = before ++ take at octets;
       joined = whole ∙ ap (λ o. (before ++ take at octets) ++ o) (sym pending);
-      goes_on = subst (GoesOn new.nest (before ++ take at octets)) (sym pending) here;
-      none = λ h. none_of_cut new.nest (before ++ take at octets) (drop at octets) here (subst (λ n. CanFinish n (drop at octets) → ⊥) (sym nest) none) (subst (HasValue (ty_view new.nest.ty.now)) whole h);
+      goes_on = subst (GoesOn new.cursor (before ++ take at octets)) (sym pending) here;
+      none = λ h. none_of_cut new.cursor (before ++ take at octets) (drop at octets) here (subst (λ n. CanFinish n (drop at octets) → ⊥) (sym cursor) none) (subst (HasValue (ty_view new.cursor.nest.ty.now)) whole h);
     }
 
 -- no octets that begin so have a value
-pub none_on_the_way : (initial now : Pieces) (octets before more : List ℕ) (at : ℕ) → IsOnTheWay initial now octets at → ((more : List ℕ) → CanFinish now.nest (drop at octets ++ more) → ⊥) → GoesOn initial.nest before octets → HasValue (shape_of initial) (before ++ (octets ++ more)) → ⊥
+pub none_on_the_way : (initial now : Pieces) (octets before more : List ℕ) (at : ℕ) → IsOnTheWay initial now octets at → ((more : List ℕ) → CanFinish now.cursor (drop at octets ++ more) → ⊥) → GoesOn initial.cursor before octets → HasValue (shape_of initial) (before ++ (octets ++ more)) → ⊥
 none_on_the_way initial now octets before more at way never on h =
     let goes = way.on before on in
     let joined : before ++ (octets ++ more) ≡ (before ++ take at octets) ++ (drop at octets ++ more) =
@@ -129,11 +131,11 @@ none_on_the_way initial now octets before more at way never on h =
 pub slice_behind : (octets : List ℕ) (at : ℕ) → take (length octets - at) (drop at octets) ≡ drop at octets
 slice_behind octets at = take_all (length octets - at) (drop at octets) (omega (arith, length-drop at octets))
 
-pub taken_behind : (old new : Nest) (octets : List ℕ) (at used : ℕ) (step : nest_step.Step) → step ≡ nest_step.TheVariants.Taken used → IsStep old new (take (length octets - at) (drop at octets)) step → IsTaken old new (drop at octets) used
-taken_behind old new octets at used step is h = subst (λ o. IsTaken old new o used) (slice_behind octets at) (subst (IsStep old new (take (length octets - at) (drop at octets))) is h)
+pub taken_behind : (old new : Cursor) (octets : List ℕ) (at used : ℕ) (whole : Option Value) → whole ≡ None → IsStep old new (take (length octets - at) (drop at octets)) whole used → IsTaken old new (drop at octets) used
+taken_behind old new octets at used whole is h = subst (λ o. IsTaken old new o used) (slice_behind octets at) (subst (λ w. IsStep old new (take (length octets - at) (drop at octets)) w used) is h)
 
-pub whole_behind : (old new : Nest) (octets : List ℕ) (at used : ℕ) (value : Value) (step : nest_step.Step) → step ≡ nest_step.TheVariants.Whole value used → IsStep old new (take (length octets - at) (drop at octets)) step → IsWhole old new (drop at octets) (value_view value) used
-whole_behind old new octets at used value step is h = subst (λ o. IsWhole old new o (value_view value) used) (slice_behind octets at) (subst (IsStep old new (take (length octets - at) (drop at octets))) is h)
+pub whole_behind : (old new : Cursor) (octets : List ℕ) (at used : ℕ) (value : Value) (whole : Option Value) → whole ≡ Some value → IsStep old new (take (length octets - at) (drop at octets)) whole used → IsWhole old new (drop at octets) (value_view value) used
+whole_behind old new octets at used value whole is h = subst (λ o. IsWhole old new o (value_view value) used) (slice_behind octets at) (subst (λ w. IsStep old new (take (length octets - at) (drop at octets)) w used) is h)
 
 -- what a reader of one piece refuses with, it refuses a piece with, unless octets are missing
 pub of_feeding : (refusal : Refusal) → IsOfReading refusal → (refusal ≡ Truncated → ⊥) → IsOfFeeding refusal
@@ -147,39 +149,39 @@ done_as shape new before octets at m n v w values counts h = subst (λ k. IsDone
 pub record IsAt (pieces : Pieces) (octets : List ℕ) : Type 0 where
   pub before : List ℕ
   pub joined : octets ≡ before ++ pieces.pending.items
-  pub goes_on : GoesOn pieces.nest before pieces.pending.items
+  pub goes_on : GoesOn pieces.cursor before pieces.pending.items
 
-pub kept_at : (now new : Pieces) (octets slice : List ℕ) → HasBeenFed now octets → new.nest ≡ now.nest → new.pending.items ≡ now.pending.items ++ slice → IsAt new (octets ++ slice)
-kept_at now new octets slice fed nest kept = record {
+pub kept_at : (now new : Pieces) (octets slice : List ℕ) → HasBeenFed now octets → new.cursor ≡ now.cursor → new.pending.items ≡ now.pending.items ++ slice → IsAt new (octets ++ slice)
+kept_at now new octets slice fed cursor kept = record {
   before = fed.before;
   joined = ap (λ o. o ++ slice) fed.joined ∙ append_assoc fed.before now.pending.items slice ∙ ap (λ o. fed.before ++ o) (sym kept);
   goes_on =
-      let wide = widened now.nest fed.before now.pending.items slice fed.goes_on in
-      subst (GoesOn new.nest fed.before) (sym kept) (subst (λ n. GoesOn n fed.before (now.pending.items ++ slice)) (sym nest) wide);
+      let wide = widened now.cursor fed.before now.pending.items slice fed.goes_on in
+      subst (GoesOn new.cursor fed.before) (sym kept) (subst (λ n. GoesOn n fed.before (now.pending.items ++ slice)) (sym cursor) wide);
 }
 
 -- octets are missing
-pub fed_at : (now new : Pieces) (octets : List ℕ) → IsAt now octets → new.nest ≡ now.nest → new.pending.items ≡ now.pending.items → new.refused ≡ None → (CanFinish now.nest now.pending.items → ⊥) → HasBeenFed new octets
-fed_at now new octets at nest kept accepts none =
-    let here : GoesOn new.nest at.before now.pending.items = subst (λ n. GoesOn n at.before now.pending.items) (sym nest) at.goes_on in
-    let never : CanFinish new.nest now.pending.items → ⊥ = subst (λ n. CanFinish n now.pending.items → ⊥) (sym nest) none in
+pub fed_at : (now new : Pieces) (octets : List ℕ) → IsAt now octets → new.cursor ≡ now.cursor → new.pending.items ≡ now.pending.items → new.refused ≡ None → (CanFinish now.cursor now.pending.items → ⊥) → HasBeenFed new octets
+fed_at now new octets at cursor kept accepts none =
+    let here : GoesOn new.cursor at.before now.pending.items = subst (λ n. GoesOn n at.before now.pending.items) (sym cursor) at.goes_on in
+    let never : CanFinish new.cursor now.pending.items → ⊥ = subst (λ n. CanFinish n now.pending.items → ⊥) (sym cursor) none in
     record {
       accepts = accepts;
       before = at.before;
       joined = at.joined ∙ ap (λ o. at.before ++ o) (sym kept);
-      goes_on = subst (GoesOn new.nest at.before) (sym kept) here;
-      none = λ h. none_of_cut new.nest at.before now.pending.items here never (subst (HasValue (ty_view new.nest.ty.now)) at.joined h);
+      goes_on = subst (GoesOn new.cursor at.before) (sym kept) here;
+      none = λ h. none_of_cut new.cursor at.before now.pending.items here never (subst (HasValue (ty_view new.cursor.nest.ty.now)) at.joined h);
     }
 
 -- no octets that begin so have a value
-pub never_at : (now : Pieces) (octets more : List ℕ) → IsAt now octets → ((more : List ℕ) → CanFinish now.nest (now.pending.items ++ more) → ⊥) → HasValue (shape_of now) (octets ++ more) → ⊥
+pub never_at : (now : Pieces) (octets more : List ℕ) → IsAt now octets → ((more : List ℕ) → CanFinish now.cursor (now.pending.items ++ more) → ⊥) → HasValue (shape_of now) (octets ++ more) → ⊥
 never_at now octets more at never h =
     let joined : octets ++ more ≡ at.before ++ (now.pending.items ++ more) = ap (λ o. o ++ more) at.joined ∙ append_assoc at.before now.pending.items more in
     never more (at.goes_on.forth more (subst (HasValue (shape_of now)) joined h))
 
 -- a step over those that are kept
-pub step_at : (now new : Pieces) (octets : List ℕ) (used : ℕ) (at : IsAt now octets) → IsTaken now.nest new.nest now.pending.items used → GoesOn new.nest (at.before ++ take used now.pending.items) (drop used now.pending.items)
-step_at now new octets used at step = goes_on_step now.nest new.nest at.before now.pending.items used at.goes_on step
+pub step_at : (now new : Pieces) (octets : List ℕ) (used : ℕ) (at : IsAt now octets) → IsTaken now.cursor new.cursor now.pending.items used → GoesOn new.cursor (at.before ++ take used now.pending.items) (drop used now.pending.items)
+step_at now new octets used at step = goes_on_step now.cursor new.cursor at.before now.pending.items used at.goes_on step
 
 pub joined_at : (now : Pieces) (octets : List ℕ) (used : ℕ) (at : IsAt now octets) → (at.before ++ take used now.pending.items) ++ drop used now.pending.items ≡ octets
 joined_at now octets used at = front_and_rest used at.before now.pending.items ∙ sym at.joined
@@ -245,16 +247,16 @@ taken_whole_is old new before octets value used f is h = subst (IsTakenWhole old
 pub ends_within_is : (count : ℕ) (value : Value) (used : ℕ) (f : fed.Fed) → f ≡ fed.TheVariants.Done value used → EndsWithin count f → used ≤ count
 ends_within_is count value used f is h = subst (EndsWithin count) is h
 
--- what is kept is no part of the nest
-pub shape_kept : (old mid : Pieces) → mid.nest ≡ old.nest → shape_of mid ≡ shape_of old
-shape_kept old mid nest = ap (λ (n : Nest). ty_view n.ty.now) nest
+-- what is kept is no part of the cursor
+pub shape_kept : (old mid : Pieces) → mid.cursor ≡ old.cursor → shape_of mid ≡ shape_of old
+shape_kept old mid cursor = ap (λ (n : Cursor). ty_view n.nest.ty.now) cursor
 
-pub on_kept : (old mid : Pieces) (before rest other : List ℕ) → mid.nest ≡ old.nest → other ≡ rest → GoesOn old.nest before rest → GoesOn mid.nest before other
-on_kept old mid before rest other nest same on = subst (GoesOn mid.nest before) (sym same) (subst (λ n. GoesOn n before rest) (sym nest) on)
+pub on_kept : (old mid : Pieces) (before rest other : List ℕ) → mid.cursor ≡ old.cursor → other ≡ rest → GoesOn old.cursor before rest → GoesOn mid.cursor before other
+on_kept old mid before rest other cursor same on = subst (GoesOn mid.cursor before) (sym same) (subst (λ n. GoesOn n before rest) (sym cursor) on)
 
-pub done_kept : (old mid new : Pieces) (before rest other : List ℕ) (value : Val) (used : ℕ) → mid.nest ≡ old.nest → other ≡ rest → IsDoneBehind (shape_of mid) new before other value used → IsDoneBehind (shape_of old) new before rest value used
-done_kept old mid new before rest other value used nest same h =
-    subst (λ o. IsDoneBehind (shape_of old) new before o value used) same (subst (λ shape. IsDoneBehind shape new before other value used) (shape_kept old mid nest) h)
+pub done_kept : (old mid new : Pieces) (before rest other : List ℕ) (value : Val) (used : ℕ) → mid.cursor ≡ old.cursor → other ≡ rest → IsDoneBehind (shape_of mid) new before other value used → IsDoneBehind (shape_of old) new before rest value used
+done_kept old mid new before rest other value used cursor same h =
+    subst (λ o. IsDoneBehind (shape_of old) new before o value used) same (subst (λ shape. IsDoneBehind shape new before other value used) (shape_kept old mid cursor) h)
 
 pub if_ok : {T E : Type 0} {P Q : T → Type 0} (r : Result T E) → ((x : T) → P x → Q x) → IfOk r P → IfOk r Q
 if_ok (Ok x) f h = f x h
@@ -269,41 +271,41 @@ cut_as old mid new octets other (fed.TheVariants.Done value left) shape same h =
     subst (λ o. IsDoneBefore (shape_of old) new o (value_view value) left) same (subst (λ s. IsDoneBefore s new other (value_view value) left) shape h)
 cut_as old mid new octets other fed.TheVariants.More shape same h = subst (HasBeenFed new) same h
 
-pub taken_is : (old new : Nest) (octets : List ℕ) (used : ℕ) (step : nest_step.Step) → step ≡ nest_step.TheVariants.Taken used → IsStep old new octets step → IsTaken old new octets used
-taken_is old new octets used step is h = subst (IsStep old new octets) is h
+pub taken_is : (old new : Cursor) (octets : List ℕ) (used : ℕ) (whole : Option Value) → whole ≡ None → IsStep old new octets whole used → IsTaken old new octets used
+taken_is old new octets used whole is h = subst (λ w. IsStep old new octets w used) is h
 
-pub whole_is : (old new : Nest) (octets : List ℕ) (value : Value) (used : ℕ) (step : nest_step.Step) → step ≡ nest_step.TheVariants.Whole value used → IsStep old new octets step → IsWhole old new octets (value_view value) used
-whole_is old new octets value used step is h = subst (IsStep old new octets) is h
+pub whole_is : (old new : Cursor) (octets : List ℕ) (value : Value) (used : ℕ) (whole : Option Value) → whole ≡ Some value → IsStep old new octets whole used → IsWhole old new octets (value_view value) used
+whole_is old new octets value used whole is h = subst (λ w. IsStep old new octets w used) is h
 
 -- the value is whole with those that are kept
-pub whole_at : (now new : Pieces) (octets : List ℕ) (value : Val) (used left : ℕ) → IsAt now octets → IsWhole now.nest new.nest now.pending.items value used → new.refused ≡ None → new.pending.items ≡ [] → left ≡ length now.pending.items - used → IsDoneBefore (shape_of now) new octets value left
+pub whole_at : (now new : Pieces) (octets : List ℕ) (value : Val) (used left : ℕ) → IsAt now octets → IsWhole now.cursor new.cursor now.pending.items value used → new.refused ≡ None → new.pending.items ≡ [] → left ≡ length now.pending.items - used → IsDoneBefore (shape_of now) new octets value left
 whole_at now new octets value used left at step accepts kept is =
     let count : length octets ≡ length at.before + length now.pending.items = ap length at.joined ∙ length-append at.before now.pending.items in
     let front = front_by_rest octets at.before now.pending.items used at.joined step.there ∙ ap (λ k. take (length octets - k) octets) (sym is) in
     record {
       there = omega (arith, is, count);
       accepted = subst (IsAccepted ber (shape_of now) value) front (step.accepted at.before at.goes_on.taken);
-      fresh = record { accepts = accepts; layers = step.layers; taken = step.taken; kept = kept };
+      fresh = record { accepts = accepts; layers = step.layers; taken = step.taken; string = step.string; kept = kept };
     }
 
 -- no value is whole, and the octets are few enough
-pub more_is_fed : (old new : Pieces) (octets : List ℕ) (r : Result fed.Fed Refusal) → shape_of new ≡ shape_of old → OnOk r (new.nest.taken + length new.pending.items ≤ MAX_ENCODING) → IfOk r (λ f. f ≡ fed.TheVariants.More)
+pub more_is_fed : (old new : Pieces) (octets : List ℕ) (r : Result fed.Fed Refusal) → shape_of new ≡ shape_of old → OnOk r (taken_of new.cursor + length new.pending.items ≤ MAX_ENCODING) → IfOk r (λ f. f ≡ fed.TheVariants.More)
     → ((before : List ℕ) → HasBeenFed old before → HasBeenFed new (before ++ octets)) → IfOk r (λ f. (before : List ℕ) → HasBeenFed old before → IsFed old new before octets f)
 more_is_fed old new octets (Ok f) shape few is goes = λ before h.
     let been = goes before h in
-    let count : length (before ++ octets) ≡ new.nest.taken + length new.pending.items = ap length been.joined ∙ length-append been.before new.pending.items ∙ ap (λ n. n + length new.pending.items) been.goes_on.taken.count in
+    let count : length (before ++ octets) ≡ taken_of new.cursor + length new.pending.items = ap length been.joined ∙ length-append been.before new.pending.items ∙ ap (λ n. n + length new.pending.items) (count_taken new.cursor been.before been.goes_on.taken) in
     let more : IsMore (shape_of old) new (before ++ octets) = record { none = subst (λ s. HasValue s (before ++ octets) → ⊥) shape been.none; has_been_fed = been; size = omega (arith, few, count) } in
     subst (IsFed old new before octets) (sym is) more
 more_is_fed old new octets (Err e) shape few is goes = is
 
 -- no value is whole, and they are too many
-pub too_many : (old new : Pieces) (octets : List ℕ) (r : Result fed.Fed Refusal) → shape_of new ≡ shape_of old → (IsErr r → MAX_ENCODING < new.nest.taken + length new.pending.items)
+pub too_many : (old new : Pieces) (octets : List ℕ) (r : Result fed.Fed Refusal) → shape_of new ≡ shape_of old → (IsErr r → MAX_ENCODING < taken_of new.cursor + length new.pending.items)
     → ((before : List ℕ) → HasBeenFed old before → HasBeenFed new (before ++ octets)) → IfErr r (λ refusal. IsFinal refusal → (before more : List ℕ) → HasBeenFed old before → HasValue (shape_of old) ((before ++ octets) ++ more) → ⊥)
 too_many old new octets (Ok f) shape many goes = tt
 too_many old new octets (Err e) shape many goes = λ final before more h value.
     let been = goes before h in
     let whole = before ++ octets in
-    let count : length whole ≡ new.nest.taken + length new.pending.items = ap length been.joined ∙ length-append been.before new.pending.items ∙ ap (λ n. n + length new.pending.items) been.goes_on.taken.count in
+    let count : length whole ≡ taken_of new.cursor + length new.pending.items = ap length been.joined ∙ length-append been.before new.pending.items ∙ ap (λ n. n + length new.pending.items) (count_taken new.cursor been.before been.goes_on.taken) in
     let n = value.0 in
     let size : length (take n (whole ++ more)) ≤ 1_048_576 = value.2.1.size in
     let all : length (take n (whole ++ more)) ≡ n = length-take-le n (whole ++ more) value.1 in
@@ -325,11 +327,11 @@ done_is_fed old new before octets value used none done = (record { some = some u
         (length before, omega arith, (value, subst (IsAccepted ber (shape_of old) value) same done.accepted))
 
 -- octets behind those that have been fed, none of which are kept
-pub on_from_fed : (now : Pieces) (before octets : List ℕ) → HasBeenFed now before → now.pending.items ≡ [] → GoesOn now.nest before octets
+pub on_from_fed : (now : Pieces) (before octets : List ℕ) → HasBeenFed now before → now.pending.items ≡ [] → GoesOn now.cursor before octets
 on_from_fed now before octets fed none =
     let same : before ≡ fed.before = fed.joined ∙ ap (λ o. fed.before ++ o) none ∙ append-nil fed.before in
-    let on : GoesOn now.nest fed.before [] = subst (GoesOn now.nest fed.before) none fed.goes_on in
-    subst (λ b. GoesOn now.nest b octets) (sym same) (widened now.nest fed.before [] octets on)
+    let on : GoesOn now.cursor fed.before [] = subst (GoesOn now.cursor fed.before) none fed.goes_on in
+    subst (λ b. GoesOn now.cursor b octets) (sym same) (widened now.cursor fed.before [] octets on)
 
 -- what is fed behind a front of the piece is fed of the piece
 pub fed_of_piece : (old mid new : Pieces) (octets piece : List ℕ) (at : ℕ) (value : Val) (used : ℕ) → at ≤ length piece → shape_of mid ≡ shape_of old → IsDone (shape_of mid) (octets ++ take at piece) (drop at piece) value used → IsDone (shape_of old) octets piece value (at + used)
@@ -422,9 +424,11 @@ fresh_nest nest well none counted taken = record {
   place = subst (λ n. n ≤ MAX_ENCODING) (sym taken) (omega arith);
 }
 
-pub fresh_reader : (pieces : Pieces) → IsWellFormed (shape_of pieces) → IsFresh pieces → IsCounted pieces.nest.layers → IsSoundReader pieces
-fresh_reader pieces well fresh counted = record {
-  sound = λ accepts. record { nest = fresh_nest pieces.nest well fresh.layers counted fresh.taken; well_formed = well };
-  numbers = λ refusal is. let both : None ≡ Some refusal = sym fresh.accepts ∙ is in absurd (cc both);
-  depth = subst (λ l. length l ≤ most_nested) (sym fresh.layers) (omega arith);
-}
+pub fresh_reader : (pieces : Pieces) → IsWellFormed (shape_of pieces) → IsFresh pieces → IsCounted pieces.cursor.nest.layers → IsSoundReader pieces
+fresh_reader pieces well fresh counted =
+    let cursor = pieces.cursor in
+    record {
+      sound = λ accepts. record { cursor = sound_nest cursor fresh.string (fresh_nest cursor.nest well fresh.layers counted fresh.taken); well_formed = well };
+      numbers = λ refusal is. let both : None ≡ Some refusal = sym fresh.accepts ∙ is in absurd (cc both);
+      depth = omega (arith, ap length fresh.layers, ap open_in fresh.string);
+    }

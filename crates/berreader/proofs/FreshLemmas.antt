@@ -1,5 +1,5 @@
 -- Lemmas on a reader of whose next value no octet has come.
-use Rattle.std.proofs.Common.{◌≡◌, ◌≤◌, ℕ, List, [], ◌++◌, length, take, refl, sym, ap, ◌∙◌, subst, arith}
+use Rattle.std.proofs.Common.{◌≡◌, ◌+◌, ◌≤◌, ℕ, List, [], ◌++◌, length, take, refl, sym, ap, ◌∙◌, subst, arith, length-append}
 use Rattle.std.proofs.lemmas.List.{take_all}
 use Rattle.octets.specs.declared.TheConstants.{MAX_ENCODING}
 use Rattle.octets.specs.Front.{HasFront}
@@ -12,8 +12,9 @@ use Rattle.types.proofs.ApartInstances.{of_no_octets}
 use Rattle.berreader.specs.declared.pieces.Pieces.{Pieces}
 use Rattle.berreader.specs.declared.reader.Step as answer
 use Rattle.berreader.specs.Nest.{CanComplete, IsPartWithin, StandsAt}
-use Rattle.berreader.specs.Feeding.{HasBeenFed, HasValue, IsDone, IsFedStep, IsFresh, IsMore, shape_of}
+use Rattle.berreader.specs.Feeding.{HasBeenFed, HasValue, IsDone, IsFedStep, IsFinished, IsFresh, IsMore, shape_of}
 use Rattle.berreader.proofs.AcceptedLemmas.{within_of_accepted}
+use Rattle.berreader.proofs.CursorLemmas.{finishes, no_octets, none_begun, taken_by_nest, taken_of_nest}
 
 none_in_none : (shape : Shape) → HasValue shape [] → ⊥
 none_in_none shape h = of_no_octets ber shape h.2.0 (subst (IsEncoding ber shape h.2.0) (take_all h.0 [] (omega arith)) h.2.1.encoding)
@@ -22,17 +23,18 @@ none_in_none shape h = of_no_octets ber shape h.2.0 (subst (IsEncoding ber shape
 pub fresh_has_been_fed : (pieces : Pieces) → IsFresh pieces → HasBeenFed pieces []
 fresh_has_been_fed pieces fresh =
     let shape = shape_of pieces in
+    let cursor = pieces.cursor in
     let kept = pieces.pending.items in
     record {
       accepts = fresh.accepts;
       before = [];
       joined = sym fresh.kept;
       goes_on = record {
-        taken = record { count = sym fresh.taken; stands = subst (λ l. StandsAt shape l []) (sym fresh.layers) refl };
+        taken = taken_of_nest cursor [] fresh.string (record { count = sym fresh.taken; stands = subst (λ l. StandsAt shape l []) (sym fresh.layers) refl });
         forth = λ more h.
-            let part : HasFront (IsPartWithin most_nested shape MAX_ENCODING pieces.nest.taken) (kept ++ more) =
+            let part : HasFront (IsPartWithin most_nested shape MAX_ENCODING cursor.nest.taken) (kept ++ more) =
             subst (λ n. HasFront (IsPartWithin most_nested shape MAX_ENCODING n) (kept ++ more)) (sym fresh.taken) (within_of_accepted shape (kept ++ more) h) in
-            subst (λ l. CanComplete shape l pieces.nest.taken (kept ++ more)) (sym fresh.layers) part;
+            finishes cursor (kept ++ more) fresh.string (subst (λ l. CanComplete shape l cursor.nest.taken (kept ++ more)) (sym fresh.layers) part);
       };
       none = none_in_none shape;
     }
@@ -40,8 +42,33 @@ fresh_has_been_fed pieces fresh =
 -- and no others
 pub fresh_has_been_fed_none : (pieces : Pieces) (octets : List ℕ) → IsFresh pieces → HasBeenFed pieces octets → octets ≡ []
 fresh_has_been_fed_none pieces octets fresh fed =
-    let none : fed.before ≡ [] = subst (λ l. StandsAt (shape_of pieces) l fed.before) fresh.layers fed.goes_on.taken.stands in
+    let none : fed.before ≡ [] = subst (λ l. StandsAt (shape_of pieces) l fed.before) fresh.layers (taken_by_nest pieces.cursor fed.before fresh.string fed.goes_on.taken).stands in
     fed.joined ∙ ap (λ o. o ++ pieces.pending.items) none ∙ fresh.kept
+
+-- nothing has come where no value is begun
+pub finished_has_been_fed : (pieces : Pieces) (octets : List ℕ) → IsFinished pieces → HasBeenFed pieces octets → octets ≡ []
+finished_has_been_fed pieces octets done fed =
+    let cursor = pieces.cursor in
+    let taken = taken_by_nest cursor fed.before done.string fed.goes_on.taken in
+    let none : fed.before ≡ [] = no_octets fed.before (taken.count ∙ done.taken) in
+    fed.joined ∙ ap (λ o. o ++ pieces.pending.items) none ∙ done.kept
+
+-- and no value is begun where nothing has come
+pub fed_none_finished : (pieces : Pieces) → HasBeenFed pieces [] → IsFinished pieces
+fed_none_finished pieces fed =
+    let cursor = pieces.cursor in
+    let taken = fed.goes_on.taken in
+    let before : length fed.before ≡ length taken.before + length taken.passed = ap length taken.joined ∙ length-append taken.before taken.passed in
+    let size : length fed.before + length pieces.pending.items ≡ 0 = sym (ap length fed.joined ∙ length-append fed.before pieces.pending.items) in
+    record {
+      accepts = fed.accepts;
+      taken = sym taken.taken.count ∙ zero_of (length taken.before) (omega (arith, before, size));
+      string = none_begun cursor.nest cursor.string taken.passed taken.string (zero_of (length taken.passed) (omega (arith, before, size)));
+      kept = no_octets pieces.pending.items (zero_of (length pieces.pending.items) (omega (arith, size)));
+    }
+  where
+    zero_of : (n : ℕ) → n ≤ 0 → n ≡ 0
+    zero_of n h = omega (arith, h)
 
 -- what the first piece comes to
 pub read_done : (shape : Shape) (old new : Pieces) (octets : List ℕ) (value : Value) (used : ℕ) (step : answer.Step) → shape_of old ≡ shape → HasBeenFed old [] → step ≡ answer.TheVariants.Done value used

@@ -1,10 +1,9 @@
 -- Lemmas on how much a reader holds.
-use Rattle.std.proofs.Common.{◌≡◌, ◌+◌, ◌*◌, ◌≤◌, inl, inr, ℕ, true, List, [], ◌∷◌, ◌++◌, Result, Ok, Err, IfOk, length, take, ap, ◌∙◌, arith, length-append}
+use Rattle.std.proofs.Common.{◌≡◌, ◌+◌, ◌*◌, ◌≤◌, ℕ, true, List, [], ◌∷◌, ◌++◌, Result, Ok, Err, IfOk, length, take, ap, ◌∙◌, arith, length-append}
 use Rattle.std.proofs.Math.Nat.{mul-add}
 use Rattle.std.proofs.lemmas.List.{length-take-le}
 use Rattle.octets.specs.declared.tag.Tag.{Tag}
 use Rattle.octets.specs.Rule.{ber}
-use Rattle.octets.proofs.ShortestLemmas.{IsLength-size}
 use Rattle.types.specs.declared.refusal.Refusal.{Refusal}
 use Rattle.types.specs.Encoding.{IsAccepted}
 use Rattle.types.specs.Shape.{Shape, Val}
@@ -14,17 +13,14 @@ use Rattle.types.specs.WellFormed.{nodes_of}
 use Rattle.berreader.specs.declared.frame.Frame.{Frame}
 use Rattle.berreader.specs.declared.pieces.Pieces.{Pieces}
 use Rattle.berreader.specs.declared.reader.Step as answer
-use Rattle.berreader.specs.Completing.{IsOpening, Opens}
+use Rattle.berreader.specs.Completing.{IsOpening}
 use Rattle.berreader.specs.Feeding.{HasBeenFed, IsFedStep, shape_of}
 use Rattle.berreader.specs.Nest.{IsDueInside, StandsAt, levels_inside}
 use Rattle.berreader.specs.Stack.{Layer, layers_of}
 use Rattle.berreader.specs.Weight.{IsLight, most_weight, weight_held, weight_of_layers, weight_of_parts}
+use Rattle.berreader.proofs.CursorLemmas.{octets_few, some_size}
 use Rattle.berreader.proofs.WeightLemmas.{at_least_once, light, more_of, some_identifier, some_nodes}
 use Rattle.berreader.proofs.PartsWeightLemmas.{due_nodes, node_nodes, parts_light}
-
-some_size : (end taken : ℕ) (frame : Frame) (size : List ℕ) → Opens end taken frame size → 1 ≤ length size
-some_size end taken frame size (inl h) = (IsLength-size h.contents size h.sized).0
-some_size end taken frame size (inr h) = omega (arith, ap length h.mark)
 
 opening_size : (tag : Tag) (end taken : ℕ) (frame : Frame) (head : List ℕ) → IsOpening tag end taken frame head → 2 ≤ length head
 opening_size tag end taken frame head h =
@@ -53,12 +49,17 @@ layers_light shape (layer ∷ others) octets h =
 pub held_light : (pieces : Pieces) (octets : List ℕ) → HasBeenFed pieces octets → weight_held pieces ≤ most_weight (shape_of pieces) (length octets)
 held_light pieces octets fed =
     let n = length (nodes_of (shape_of pieces)) in
+    let cursor = pieces.cursor in
     let kept = pieces.pending.items in
-    let layers = layers_light (shape_of pieces) (layers_of pieces.nest.layers) fed.before fed.goes_on.taken.stands in
+    let some = some_nodes (shape_of pieces) in
+    let taken = fed.goes_on.taken in
+    let layers = layers_light (shape_of pieces) (layers_of cursor.nest.layers) taken.before taken.taken.stands in
+    let string = octets_few cursor.nest cursor.string taken.passed taken.string in
+    let before : n * length fed.before ≡ n * length taken.before + n * length taken.passed = ap (λ k. n * k) (ap length taken.joined ∙ length-append taken.before taken.passed) ∙ mul-add n (length taken.before) (length taken.passed) in
     let size : length octets ≡ length fed.before + length kept = ap length fed.joined ∙ length-append fed.before kept in
     let split : n * length octets ≡ n * length fed.before + n * length kept = ap (λ k. n * k) size ∙ mul-add n (length fed.before) (length kept) in
     let more : n * length octets ≤ n * (length octets + 1) = more_of n (length octets) (length octets + 1) (omega arith) in
-    omega (arith, layers, split, more, at_least_once n (length kept) (some_nodes (shape_of pieces)))
+    omega (arith, layers, string, before, split, more, at_least_once n (length taken.passed) some, at_least_once n (length kept) some)
 
 -- so does a value
 pub value_light : (shape : Shape) (value : Val) (octets : List ℕ) (used : ℕ) → used ≡ length octets → IsAccepted ber shape value octets → weight_of value ≤ most_weight shape used

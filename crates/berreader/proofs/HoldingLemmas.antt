@@ -1,29 +1,23 @@
 -- Lemmas on what an open encoding holds of a SEQUENCE, and on which parts may come next.
-use Rattle.std.proofs.Common.{◌≡◌, ◌↔◌, inl, inr, ◌+◌, ◌<◌, ℕ, zero, suc, List, [], ◌∷◌, ◌++◌, Option, None, length, get_or, replicate, take, drop, map, option_map, append_assoc, Contains, refl, sym, ap, ◌∙◌, subst, arith, add-zero}
+use Rattle.std.proofs.Common.{◌≡◌, ◌↔◌, ◌+◌, ◌<◌, ℕ, zero, suc, List, [], ◌∷◌, ◌++◌, Option, None, length, get_or, replicate, take, drop, map, option_map, append_assoc, Contains, refl, sym, ap, ◌∙◌, subst, arith, add-zero}
 use Rattle.std.proofs.lemmas.List.{length-append, length-replicate, length-take-le, take-append-drop, drop_more, take_more, get_or-drop, drop-drop, drop-take, take-take, drop-map, length-map, length-drop, map_push, replicate_more, get_or-map}
 use Rattle.std.specs.List.{AllByRecursion}
 use Rattle.octets.specs.declared.tag.Tag.{Tag}
 use Rattle.types.specs.Conforms.{MayBeAbsent}
 use Rattle.types.specs.FirstTags.{first_tags}
-use Rattle.types.specs.Refusal.{IsFinal, IsOfReading}
-use Rattle.types.specs.Shape.{Shape, Val, Alternatives, no_alternative, alternative}
-use Rattle.types.specs.declared.refusal.Refusal.{Refusal}
-use Rattle.types.specs.declared.refusal.Refusal.TheVariants.{Identifier, Length, EndOfContents, Missing, Repeated, NoMemory}
+use Rattle.types.specs.Shape.{Shape, Val}
 use Rattle.types.specs.View.{ComponentView, ty_view, value_view, field_view, requirement_view}
 use Rattle.types.specs.declared.value.Value.{Value}
 use Rattle.types.specs.declared.ty.Field.{Field}
 use Rattle.types.proofs.LimitLemmas.{field_type}
 use Rattle.types.proofs.LoopLemmas.{left_at}
-use Rattle.berreader.specs.Holding.{run_view, IsNode, IsOfDue, IsOfParts}
-use Rattle.berreader.specs.Parts.{IsNextOf, IsSlotOf, IsPut, IsNodeFor, IsNodeForOneOf}
+use Rattle.berreader.specs.Holding.{run_view}
+use Rattle.berreader.specs.Parts.{IsNextOf, IsSlotOf, IsPut}
 use Rattle.berreader.proofs.SeatLemmas.{requirement_is}
 
 -- no component that may come next begins with the tag
 abbrev pub NoneNext : Tag → List Field → Type 0
 NoneNext tag xs = (which : ℕ) (type : Shape) → IsNextOf (map field_view xs) which type → Contains (first_tags type) tag → ⊥
-
-pub none_next_nil : (tag : Tag) → NoneNext tag []
-none_next_nil tag which type n c = absurd n
 
 none_next-cons : (tag : Tag) (x : Field) (xs : List Field) → (Contains (first_tags (ty_view x.ty)) tag → ⊥) → (MayBeAbsent (requirement_view x.presence) → NoneNext tag xs) → NoneNext tag (x ∷ xs)
 none_next-cons tag x xs first rest zero type n c = first (subst (λ (s : Shape). Contains (first_tags s) tag) (sym n ∙ field_type x) c)
@@ -147,35 +141,3 @@ put_at fields slots passed new which place type f slot value next at is slot_is 
     ap (map (option_map value_view)) new_is ∙ map_push (option_map value_view) passed slot ∙ ap (λ (l : List (Option Val)). l ++ last) passed_is ∙ append_assoc slots (replicate which none) last in
     put_into cs slots (map (option_map value_view) new) which type (field_view f) (option_map value_view slot) value next (subst (λ k. field_view f ≡ get_or cs k (field_view f)) at.place_is there)
     (subst (λ r. IsSlotOf r value (option_map value_view slot)) (sym (requirement_is f)) slot_is) all
-
--- a refused part is refused for good, and so are parts behind which nothing comes
-pub due_is_final : (refusal : Refusal) → IsOfDue refusal → IsFinal refusal × IsOfReading refusal
-due_is_final Identifier h = (tt, tt)
-due_is_final EndOfContents h = (tt, tt)
-due_is_final Missing h = (tt, tt)
-due_is_final Repeated h = (tt, tt)
-due_is_final _ h = absurd h
-
-pub parts_of_reading : (refusal : Refusal) → IsOfParts refusal → IsOfReading refusal
-parts_of_reading Length h = tt
-parts_of_reading EndOfContents h = tt
-parts_of_reading Missing h = tt
-parts_of_reading NoMemory h = tt
-parts_of_reading _ h = absurd h
-
-mutual
-  -- the node for a tag is no CHOICE
-  pub is_node : (tag : Tag) (type node : Shape) → IsNodeFor tag type node → IsNode node
-  is_node tag (Shape.simple own type) node h = subst IsNode (sym h.1) tt
-  is_node tag (Shape.string own type) node h = subst IsNode (sym h.1) tt
-  is_node tag (Shape.sequence own components) node h = subst IsNode (sym h.1) tt
-  is_node tag (Shape.set own components) node h = subst IsNode (sym h.1) tt
-  is_node tag (Shape.sequence_of own type) node h = subst IsNode (sym h.1) tt
-  is_node tag (Shape.set_of own type) node h = subst IsNode (sym h.1) tt
-  is_node tag (Shape.choice alternatives) node h = is_node_of_one tag alternatives node h
-  is_node tag (Shape.explicit own type) node h = subst IsNode (sym h.1) tt
-
-  is_node_of_one : (tag : Tag) (alternatives : Alternatives) (node : Shape) → IsNodeForOneOf tag alternatives node → IsNode node
-  is_node_of_one tag no_alternative node h = absurd h
-  is_node_of_one tag (alternative name type others) node (inl h) = is_node tag type node h
-  is_node_of_one tag (alternative name type others) node (inr h) = is_node_of_one tag others node h

@@ -27,5 +27,7 @@ pub mod WeightLemmas
 pub mod PartsWeightLemmas
 pub mod HeldLemmas
 pub mod NestStepLemmas
+pub mod StringLemmas
+pub mod CursorLemmas
 pub mod SeatLemmas
 pub mod HoldingLemmas

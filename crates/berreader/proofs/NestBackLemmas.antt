@@ -1,12 +1,12 @@
 -- Lemmas on where the open encodings stand, and what is known of them, after a step.
-use Rattle.std.proofs.Common.{◌≡◌, inl, inr, ◌+◌, ◌<◌, ◌≤◌, ℕ, suc, true, false, List, [], ◌∷◌, ◌++◌, length, refl, sym, ap, ◌∙◌, subst, arith, append_assoc, append-nil, length-append}
+use Rattle.std.proofs.Common.{◌≡◌, inl, inr, ◌+◌, ◌<◌, ◌≤◌, ℕ, suc, false, List, [], ◌∷◌, ◌++◌, length, refl, sym, ap, ◌∙◌, subst, arith, append_assoc, append-nil, length-append}
 use Rattle.octets.specs.declared.TheConstants.{MAX_ENCODING}
 use Rattle.octets.specs.declared.tag.Tag.{Tag}
 use Rattle.octets.specs.Rule.{ber}
 use Rattle.types.specs.Shape.{Val, Shape}
 use Rattle.types.specs.Encoding.{IsAccepted, most_nested}
 use Rattle.berreader.specs.declared.frame.Frame.{Frame}
-use Rattle.berreader.specs.Completing.{IsEndOf, IsOpening, Opens}
+use Rattle.berreader.specs.Completing.{IsEndOf, IsOpening}
 use Rattle.berreader.specs.Parts.{IsPartOf, IsNodeFor, ArePartsOf, AreNone, IsGoodType, IsValueOf}
 use Rattle.berreader.specs.Stack.{Layer, with_which}
 use Rattle.berreader.specs.Nest.{StandsAt, IsDueInside, IsDueNext, IsWrapped, IsComeInside, AreSound, AreInside, levels_inside, levels_left, end_inside}
@@ -149,15 +149,6 @@ inside_come shape (layer ∷ others) new type tag v h come = subst (AreInside sh
 pub count_come : (layers new : List Layer) (type : Shape) (tag : Tag) (v : Val) → IsComeInside layers type tag v new → length new ≡ length layers
 count_come [] new type tag v come = absurd come
 count_come (layer ∷ others) new type tag v come = ap length come.is
-
--- where an opened encoding ends
-pub opens_below : (end taken : ℕ) (frame : Frame) (size : List ℕ) → Opens end taken frame size → frame.end ≤ end
-opens_below end taken frame size (inl h) = h.fits
-opens_below end taken frame size (inr h) = omega (arith, h.ends)
-
-pub opens_room : (end taken : ℕ) (frame : Frame) (size : List ℕ) → Opens end taken frame size → frame.definite ≡ false → frame.end + 2 ≤ end
-opens_room end taken frame size (inl h) marked = absurd (let both : true ≡ false = sym h.definite ∙ marked in cc)
-opens_room end taken frame size (inr h) marked = omega (arith, h.ends)
 
 -- where an encoding has ended
 pub ends_room : (end taken : ℕ) (frame : Frame) (mark : List ℕ) → frame.end ≤ end → (frame.definite ≡ false → frame.end + 2 ≤ end) → IsEndOf frame taken mark → taken + length mark ≤ end

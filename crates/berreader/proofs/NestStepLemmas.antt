@@ -1,11 +1,13 @@
 -- Lemmas on the steps of a nest.
-use Rattle.std.proofs.Common.{◌≡◌, inl, inr, ◌+◌, ◌<◌, ◌≤◌, ℕ, Bool, true, List, [], ◌∷◌, ◌++◌, length, take, drop, refl, sym, ap, ◌∙◌, subst, arith, append_assoc, length-append, Contains}
+use Rattle.std.proofs.Common.{◌≡◌, ◌+◌, ◌<◌, ◌≤◌, ℕ, Bool, true, List, [], ◌∷◌, ◌++◌, Option, None, Some, length, take, drop, refl, sym, ap, ◌∙◌, subst, arith, append_assoc, append-nil, length-append, Contains}
 use Rattle.std.specs.List.{AllByRecursion}
 use Rattle.std.proofs.lemmas.List.{length-take-le, length-drop}
 use Rattle.octets.specs.declared.TheConstants.{MAX_ENCODING, MAX_TAG_NUMBER}
 use Rattle.octets.specs.declared.tag.Tag.{Tag}
+use Rattle.octets.specs.Front.{HasFront}
 use Rattle.octets.specs.Identifier.{IsIdentifier}
 use Rattle.octets.proofs.FrontLemmas.{front_of_more}
+use Rattle.types.specs.declared.value.Value.{Value}
 use Rattle.types.specs.Shape.{Val, Shape}
 use Rattle.types.specs.View.{ty_view, value_view}
 use Rattle.types.specs.FirstTags.{first_tags}
@@ -16,26 +18,20 @@ use Rattle.types.specs.Encoding.{most_nested}
 use Rattle.berreader.specs.declared.frame.Frame.{Frame}
 use Rattle.berreader.specs.declared.nest.Nest.{Nest}
 use Rattle.berreader.specs.declared.nest.Next.{Next}
-use Rattle.berreader.specs.declared.nest.Step as step
 use Rattle.berreader.specs.Completing.{IsEndOf, Opens, IsOpening}
 use Rattle.berreader.specs.Head.{IsReadTag, IsTagWithin}
 use Rattle.berreader.specs.Holding.{IsNode}
 use Rattle.berreader.specs.Parts.{Parts, IsPartOf, IsNodeFor, ArePartsOf, AreNone, IsGoodType, IsValueOf}
 use Rattle.berreader.specs.Stack.{Layer, layers_of, with_which, IsCounted, IsPutInside}
-use Rattle.berreader.specs.Nest.{CanFollow, CanComplete, StandsAt, CanFinish, HasTaken, IsTaken, IsWhole, IsStep, IsSoundNest, IsReadNext, IsNext, IsDueInside, IsWrapped, IsComeInside, HasCome, IsLast, IsCome, EndsInside, IsEndInside, IsInside, AreInside, AreSound, levels_inside, levels_left, end_inside}
+use Rattle.berreader.specs.Nest.{CanFollow, CanComplete, StandsAt, CanFinish, HasTaken, IsTaken, IsWhole, IsStep, IsSoundNest, IsReadNext, IsNext, IsPartWithin, IsDueInside, IsWrapped, IsComeInside, HasCome, IsLast, IsCome, EndsInside, IsEndInside, IsInside, AreInside, AreSound, levels_inside, levels_left, end_inside}
 use Rattle.berreader.specs.Segments.{EndsAt}
 use Rattle.berreader.proofs.ChoiceLemmas.{begins_node, node_good, node_own}
 use Rattle.berreader.proofs.PartsBeginLemmas.{part_above, part_begins}
 use Rattle.berreader.proofs.PartsForthLemmas.{fill_end}
 use Rattle.berreader.proofs.ReadingLemmas.{opening_read}
-use Rattle.berreader.proofs.StepLemmas.{opening_fits}
-use Rattle.berreader.proofs.NestLemmas.{IsSomeNext, IsOpenNext, next_part, next_of, next_node, begins_more, open_next, own_tag, HasOwnTag, after_open, after_part, after_come, at_end, length_which}
-use Rattle.berreader.proofs.NestBackLemmas.{stands_which, stands_opened, stands_come, stands_closed, whole_accepted, ends_room, sound_which, inside_which, end_which, due_which, good_next, end_within, sound_opened, sound_come, inside_come, count_come, opens_below, opens_room}
-
--- identifier octets are some
-pub identifier_some : (tag : Tag) (constructed : Bool) (octets : List ℕ) → IsIdentifier tag constructed octets → 1 ≤ length octets
-identifier_some tag constructed octets (inl h) = omega (arith, ap length h.spelt)
-identifier_some tag constructed octets (inr h) = omega (arith, ap length h.spelt)
+use Rattle.berreader.proofs.StepLemmas.{identifier_some, opening_fits, opens_below, opens_room}
+use Rattle.berreader.proofs.NestLemmas.{IsSomeNext, IsOpenNext, next_part, next_of, next_node, begins_more, front_of_next, open_next, own_tag, HasOwnTag, after_open, after_part, after_come, at_end, length_which}
+use Rattle.berreader.proofs.NestBackLemmas.{stands_which, stands_opened, stands_come, stands_closed, whole_accepted, ends_room, sound_which, inside_which, end_which, due_which, good_next, end_within, sound_opened, sound_come, inside_come, count_come}
 
 pub node_is_node : (tag : Tag) (node : Shape) → HasOwnTag tag node → IsNode node
 node_is_node tag (Shape.simple own type) h = tt
@@ -109,6 +105,21 @@ node_next nest octets more next sound absent read h =
     let begins = read_begins next.tag (end_inside layers) nest.taken next.identifier next.constructed octets more read.read in
     let n = next_of shape layers next.which type next.tag nest.taken (octets ++ more) sound.sound read.due read.begins begins (next_part shape layers nest.taken (octets ++ more) absent h) in
     next_node layers next.which type (ty_view next.node.now) next.tag nest.taken (octets ++ more) (good_next shape layers next.which type sound.type sound.sound read.due) read.node begins n
+
+pub part_next : (nest : Nest) (octets more : List ℕ) (next : Next) (end levels : ℕ) → IsSoundNest nest → (EndsInside (layers_of nest.layers) nest.taken (octets ++ more) → ⊥) → IsReadNext nest octets next → end ≡ end_inside (layers_of nest.layers)
+    → levels ≡ levels_left (layers_of nest.layers) → CanFinish nest (octets ++ more) → HasFront (IsPartWithin levels (ty_view next.node.now) end nest.taken) (octets ++ more)
+part_next nest octets more next end levels sound absent read ends deep h =
+    let layers = layers_of nest.layers in
+    let node = ty_view next.node.now in
+    let n = node_next nest octets more next sound absent read h in
+    subst (λ k. HasFront (IsPartWithin k node end nest.taken) (octets ++ more)) (sym deep)
+    (subst (λ e. HasFront (IsPartWithin (levels_left layers) node e nest.taken) (octets ++ more)) (sym ends) (front_of_next layers next.which node nest.taken (octets ++ more) n))
+
+pub part_next_whole : (nest : Nest) (octets : List ℕ) (next : Next) (end levels : ℕ) → IsSoundNest nest → (EndsInside (layers_of nest.layers) nest.taken (octets ++ []) → ⊥) → IsReadNext nest octets next → end ≡ end_inside (layers_of nest.layers)
+    → levels ≡ levels_left (layers_of nest.layers) → CanFinish nest octets → HasFront (IsPartWithin levels (ty_view next.node.now) end nest.taken) octets
+part_next_whole nest octets next end levels sound absent read ends deep h =
+    subst (HasFront (IsPartWithin levels (ty_view next.node.now) end nest.taken)) (append-nil octets)
+    (part_next nest octets [] next end levels sound absent read ends deep (subst (CanFinish nest) (sym (append-nil octets)) h))
 
 pub opens_next : (nest : Nest) (octets more : List ℕ) (next : Next) → IsSoundNest nest → (EndsInside (layers_of nest.layers) nest.taken (octets ++ more) → ⊥) → IsReadNext nest octets next → (IsLeaf (ty_view next.node.now) → ⊥) → CanFinish nest (octets ++ more)
     → IsOpenNext (layers_of nest.layers) next.tag nest.taken (octets ++ more)
@@ -275,12 +286,12 @@ whole_come old mid new octets type tag v w used n r h =
       taken = h.taken;
     }
 
-pub step_come : (old mid new : Nest) (octets : List ℕ) (type : Shape) (tag : Tag) (v : Val) (used : ℕ) (s : step.Step) → IsReady old mid octets type tag v used → IsCome mid new type tag v used s → IsStep old new octets s
-step_come old mid new octets type tag v used (step.TheVariants.Taken n) r h = subst (IsTaken old new octets) (sym h.used_is) (taken_come old mid new octets type tag v used n r h)
-step_come old mid new octets type tag v used (step.TheVariants.Whole value n) r h = subst (IsWhole old new octets (value_view value)) (sym h.used_is) (whole_come old mid new octets type tag v (value_view value) used n r h)
+pub step_come : (old mid new : Nest) (octets : List ℕ) (type : Shape) (tag : Tag) (v : Val) (used : ℕ) (whole : Option Value) (n : ℕ) → IsReady old mid octets type tag v used → IsCome mid new type tag v used whole n → IsStep old new octets whole n
+step_come old mid new octets type tag v used None n r h = subst (IsTaken old new octets) (sym h.used_is) (taken_come old mid new octets type tag v used n r h)
+step_come old mid new octets type tag v used (Some value) n r h = subst (IsWhole old new octets (value_view value)) (sym h.used_is) (whole_come old mid new octets type tag v (value_view value) used n r h)
 
-pub sound_come_nest : (mid new : Nest) (type : Shape) (tag : Tag) (v : Val) (used : ℕ) (s : step.Step) → IsSoundNest mid → mid.taken + used ≤ MAX_ENCODING → IsCounted new.layers → IsCome mid new type tag v used s → IsSoundNest new
-sound_come_nest mid new type tag v used (step.TheVariants.Taken n) sound room counted h = record {
+pub sound_come_nest : (mid new : Nest) (type : Shape) (tag : Tag) (v : Val) (used : ℕ) (whole : Option Value) (n : ℕ) → IsSoundNest mid → mid.taken + used ≤ MAX_ENCODING → IsCounted new.layers → IsCome mid new type tag v used whole n → IsSoundNest new
+sound_come_nest mid new type tag v used None n sound room counted h = record {
   type = subst IsGoodType (sym h.type_is) sound.type;
   sound = sound_come (layers_of mid.layers) (layers_of new.layers) type tag v sound.sound h.come;
   inside = subst (λ s. AreInside s (layers_of new.layers)) (sym h.type_is) (inside_come (ty_view mid.ty.now) (layers_of mid.layers) (layers_of new.layers) type tag v sound.inside h.come);
@@ -288,7 +299,7 @@ sound_come_nest mid new type tag v used (step.TheVariants.Taken n) sound room co
   depth = omega (arith, count_come (layers_of mid.layers) (layers_of new.layers) type tag v h.come, sound.depth);
   place = omega (arith, h.taken, room);
 }
-sound_come_nest mid new type tag v used (step.TheVariants.Whole value n) sound room counted h = record {
+sound_come_nest mid new type tag v used (Some value) n sound room counted h = record {
   type = subst IsGoodType (sym h.type_is) sound.type;
   sound = subst AreSound (sym h.layers) tt;
   inside = subst (AreInside (ty_view new.ty.now)) (sym h.layers) tt;

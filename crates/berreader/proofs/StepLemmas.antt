@@ -1,11 +1,12 @@
 -- Lemmas on what comes next in the innermost open encoding.
-use Rattle.std.proofs.Common.{◌≡◌, ◌⊎◌, inl, inr, ◌+◌, ◌<◌, ◌≤◌, ℕ, true, false, List, ◌∷◌, ◌++◌, length, take, drop, refl, sym, ap, ap₂, ◌∙◌, subst, arith, append_assoc, length-append}
+use Rattle.std.proofs.Common.{◌≡◌, ◌⊎◌, inl, inr, ◌+◌, ◌<◌, ◌≤◌, ℕ, Bool, true, false, List, ◌∷◌, ◌++◌, length, take, drop, refl, sym, ap, ap₂, ◌∙◌, subst, arith, append_assoc, length-append}
 use Rattle.std.proofs.lemmas.List.{append_cancel_left, length-take-le}
 use Rattle.octets.specs.declared.tag.Tag.{Tag}
 use Rattle.octets.specs.Identifier.{IsIdentifier}
 use Rattle.octets.specs.Rule.{ber}
 use Rattle.octets.proofs.IdentifierLemmas.{identifier_unique}
 use Rattle.octets.proofs.LengthLemmas.{length_unique}
+use Rattle.octets.proofs.ShortestLemmas.{IsLength-size}
 use Rattle.types.specs.Form.{IsPrimitive}
 use Rattle.types.specs.FirstTags.{IsUsable}
 use Rattle.types.proofs.FormLemmas.{definite_unique, parts_of_definite, length-definite}
@@ -38,6 +39,28 @@ opens_fits end taken opened size (inr h) = omega (arith, h.fits, h.ends, ap leng
 
 pub opening_fits : (tag : Tag) (end taken : ℕ) (opened : Frame) (part : List ℕ) → IsOpening tag end taken opened part → taken + length part ≤ end
 opening_fits tag end taken opened part h = omega (arith, opens_fits end (taken + length h.identifier) opened h.size h.form, ap length h.joined, length-append h.identifier h.size)
+
+-- where an opened encoding ends
+pub opens_below : (end taken : ℕ) (frame : Frame) (size : List ℕ) → Opens end taken frame size → frame.end ≤ end
+opens_below end taken frame size (inl h) = h.fits
+opens_below end taken frame size (inr h) = omega (arith, h.ends)
+
+pub opens_room : (end taken : ℕ) (frame : Frame) (size : List ℕ) → Opens end taken frame size → frame.definite ≡ false → frame.end + 2 ≤ end
+opens_room end taken frame size (inl h) marked = absurd (let both : true ≡ false = sym h.definite ∙ marked in cc)
+opens_room end taken frame size (inr h) marked = omega (arith, h.ends)
+
+-- identifier octets are some, and so are length octets
+pub identifier_some : (tag : Tag) (constructed : Bool) (octets : List ℕ) → IsIdentifier tag constructed octets → 1 ≤ length octets
+identifier_some tag constructed octets (inl h) = omega (arith, ap length h.spelt)
+identifier_some tag constructed octets (inr h) = omega (arith, ap length h.spelt)
+
+opens_some : (end taken : ℕ) (frame : Frame) (size : List ℕ) → Opens end taken frame size → 1 ≤ length size
+opens_some end taken frame size (inl h) = (IsLength-size h.contents size h.sized).0
+opens_some end taken frame size (inr h) = omega (arith, ap length h.mark)
+
+pub opening_some : (tag : Tag) (end taken : ℕ) (opened : Frame) (part : List ℕ) → IsOpening tag end taken opened part → 2 ≤ length part
+opening_some tag end taken opened part h =
+    omega (arith, identifier_some tag true h.identifier h.tagged, opens_some end (taken + length h.identifier) opened h.size h.form, ap length h.joined, length-append h.identifier h.size)
 
 frame_same : (g h : Frame) → g.definite ≡ h.definite → g.end ≡ h.end → g ≡ h
 frame_same g h definite end = ap₂ (λ d e. record { definite = d; end = e }) definite end

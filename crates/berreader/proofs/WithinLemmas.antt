@@ -15,18 +15,18 @@ use Rattle.types.specs.FirstTags.{IsUsable}
 use Rattle.types.specs.Conforms.{Conforms}
 use Rattle.berreader.specs.Lengths.{CanHaveLength}
 use Rattle.berreader.proofs.ContentsLengthLemmas.{simple_length, string_length}
-use Rattle.types.specs.Form.{IsDefinite, IsPrimitive, IsConstructed}
+use Rattle.types.specs.Form.{IsPrimitive, IsConstructed}
 use Rattle.types.specs.Depth.{IsNested}
 use Rattle.types.specs.Strings.{AreSegments, IsInSegments, IsStringEncoding, bit_segment, octet_segment, IsWholeOctets, AreOctets, AlwaysWhole}
 use Rattle.types.specs.Encoding.{IsEncoding}
-use Rattle.types.proofs.FormLemmas.{definite_unique, parts_of_definite, length-definite}
+use Rattle.types.proofs.FormLemmas.{definite_unique, parts_of_definite}
 use Rattle.types.proofs.NestingLemmas.{parts_of_indefinite}
 use Rattle.berreader.specs.declared.frame.Frame.{Frame}
 use Rattle.berreader.specs.declared.joined.Kind.{Kind}
 use Rattle.berreader.specs.declared.joined.Kind.TheVariants.{Bits, Octets}
 use Rattle.berreader.specs.Contents.{HoldsContents}
 use Rattle.berreader.specs.Completing.{Completes, IsEndOf, IsOpening, Opens}
-use Rattle.berreader.specs.Head.{IsTagWithin, IsPrimitiveWithin}
+use Rattle.berreader.specs.Head.{IsPrimitiveWithin}
 use Rattle.berreader.specs.Parts.{IsPartOf, IsGoodType}
 use Rattle.berreader.specs.Nest.{IsPartWithin}
 use Rattle.strings.specs.declared.text.TextKind.{TextKind}
@@ -37,7 +37,7 @@ use Rattle.berreader.proofs.LeafLemmas.{simple_contents, contents_of_simple, con
 use Rattle.berreader.proofs.DepthLemmas.{nested_primitive, nested_constructed, deeper, match_parts, constructed_part}
 use Rattle.berreader.proofs.CompletingLemmas.{framed, constructed_of_frame, completes_segments, unwind}
 use Rattle.berreader.proofs.JoinedLemmas.{kept_segment, joins_whole, parts_whole, empty_whole}
-use Rattle.berreader.proofs.SegmentsLemmas.{CompletesBy}
+use Rattle.berreader.specs.Segments.{CompletesBy}
 
 -- the form of an encoding
 pub record IsOfContents (shape : Shape) (v : Val) (octets : List ℕ) : Type 0 where
@@ -141,51 +141,6 @@ encoding_of_segments : (kind : Kind) (tag : Tag) (string : List (Element kind)) 
     → IsInSegments tag (segment_of kind) (HoldsPiece kind) (IsWholePiece kind) string octets → IsEncoding ber (string_shape tag kind) (string_value kind string) octets
 encoding_of_segments Bits tag string octets conforms h = record { bits = string; is = refl; string = inr h }
 encoding_of_segments Octets tag string octets conforms h = record { string_octets = string; is = refl; conforms = conforms; string = inr h }
-
--- an encoding begins with identifier octets of the type's tag
-tag_of_definite : (tag : Tag) (end taken : ℕ) (j : Bool) (contents front rest : List ℕ) → taken + length front ≤ end → IsDefinite ber tag j contents front → IsTagWithin tag end taken (front ++ rest)
-tag_of_definite tag end taken j contents front rest size p = record {
-  constructed = j;
-  identifier = p.identifier;
-  rest = p.size ++ (contents ++ rest);
-  tagged = p.tagged;
-  fits = omega (arith, length-definite ber tag j contents front p);
-  parts = parts_of_definite ber tag j contents front rest p;
-}
-
-tag_of_constructed : (tag : Tag) (end taken : ℕ) (contents front rest : List ℕ) → taken + length front ≤ end → IsConstructed ber tag contents front → IsTagWithin tag end taken (front ++ rest)
-tag_of_constructed tag end taken contents front rest size (inl p) = tag_of_definite tag end taken true contents front rest size p
-tag_of_constructed tag end taken contents front rest size (inr p) = record {
-  constructed = true;
-  identifier = p.identifier;
-  rest = 128 ∷ (contents ++ (0 ∷ 0 ∷ rest));
-  tagged = p.tagged;
-  fits = omega (arith, ap length p.joined, length-append p.identifier (128 ∷ (contents ++ (0 ∷ 0 ∷ []))));
-  parts = parts_of_indefinite tag contents front rest p;
-}
-
-tag_of_form : (shape : Shape) (end taken : ℕ) (v : Val) (front rest : List ℕ) → taken + length front ≤ end → HasForm shape v front → IsTagWithin (tag_of shape) end taken (front ++ rest)
-tag_of_form (Shape.simple tag type) end taken v front rest size f = tag_of_definite tag end taken false f.contents front rest size f.primitive
-tag_of_form (Shape.string tag StringType.bit_string) end taken v front rest size (inl f) = tag_of_definite tag end taken false f.contents front rest size f.primitive
-tag_of_form (Shape.string tag StringType.bit_string) end taken v front rest size (inr f) = tag_of_constructed tag end taken f.segments.contents front rest size f.segments.constructed
-tag_of_form (Shape.string tag StringType.octet_string) end taken v front rest size (inl f) = tag_of_definite tag end taken false f.contents front rest size f.primitive
-tag_of_form (Shape.string tag StringType.octet_string) end taken v front rest size (inr f) = tag_of_constructed tag end taken f.segments.contents front rest size f.segments.constructed
-tag_of_form (Shape.string tag (StringType.text kind)) end taken v front rest size (inl f) = tag_of_definite tag end taken false f.contents front rest size f.primitive
-tag_of_form (Shape.string tag (StringType.text kind)) end taken v front rest size (inr f) = tag_of_constructed tag end taken f.segments.contents front rest size f.segments.constructed
-tag_of_form (Shape.string tag (StringType.time kind)) end taken v front rest size (inl f) = tag_of_definite tag end taken false f.contents front rest size f.primitive
-tag_of_form (Shape.string tag (StringType.time kind)) end taken v front rest size (inr f) = tag_of_constructed tag end taken f.segments.contents front rest size f.segments.constructed
-tag_of_form (Shape.sequence tag components) end taken v front rest size f = absurd f
-tag_of_form (Shape.set tag components) end taken v front rest size f = absurd f
-tag_of_form (Shape.sequence_of tag type) end taken v front rest size f = absurd f
-tag_of_form (Shape.set_of tag type) end taken v front rest size f = absurd f
-tag_of_form (Shape.choice alternatives) end taken v front rest size f = absurd f
-tag_of_form (Shape.explicit tag type) end taken v front rest size f = absurd f
-
-pub tag_of_within : (levels : ℕ) (shape : Shape) (end taken : ℕ) (leaf : IsLeaf shape) (octets : List ℕ) → HasFront (IsPartWithin levels shape end taken) octets → IsTagWithin (tag_of shape) end taken octets
-tag_of_within levels shape end taken leaf octets f =
-    let front = take f.0 octets in
-    subst (IsTagWithin (tag_of shape) end taken) (sym (whole_front f.0 octets))
-    (tag_of_form shape end taken f.2.part.value front (drop f.0 octets) f.2.fits (form_of_encoding shape f.2.part.value front leaf f.2.part.encoding))
 
 not_constructed : (tag : Tag) (i : ℕ) (contents octets front rest : List ℕ) → IsIdentifier tag false (take i octets) → octets ≡ front ++ rest → IsConstructed ber tag contents front → ⊥
 not_constructed tag i contents octets front rest id is (inl p) =

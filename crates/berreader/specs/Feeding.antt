@@ -10,11 +10,11 @@ use Rattle.types.specs.Refusal.{IsOfReading}
 use Rattle.types.specs.Shape.{Shape, Val}
 use Rattle.types.specs.View.{ty_view, value_view}
 use Rattle.types.specs.WellFormed.{IsWellFormed}
-use Rattle.berreader.specs.declared.nest.Nest.{Nest}
+use Rattle.berreader.specs.declared.cursor.Cursor.{Cursor}
 use Rattle.berreader.specs.declared.pieces.Pieces.{Pieces}
 use Rattle.berreader.specs.declared.pieces.Fed as fed
 use Rattle.berreader.specs.declared.reader.Step as step
-use Rattle.berreader.specs.Nest.{CanFinish, HasTaken, IsSoundNest}
+use Rattle.berreader.specs.Cursor.{depth_of, CanFinish, HasTaken, IsSoundCursor}
 use Rattle.berreader.specs.Stack.{layers_of}
 
 -- 2 to 11 and 17: what a reader over pieces refuses a piece with
@@ -23,30 +23,31 @@ IsOfFeeding Truncated = ⊥
 IsOfFeeding refusal = IsOfReading refusal
 
 abbrev pub shape_of : Pieces → Shape
-shape_of pieces = ty_view pieces.nest.ty.now
+shape_of pieces = ty_view pieces.cursor.nest.ty.now
 
 -- an encoding of the type is at the front of the octets
 abbrev pub HasValue : Shape → List ℕ → Type 0
 HasValue shape octets = HasFront (IsSomeAccepted ber shape) octets
 
--- these octets stand before the rest, and where all of them begin with an encoding, the rest completes the nest
-pub record GoesOn (nest : Nest) (before rest : List ℕ) : Type 0 where
-  pub taken : HasTaken nest before
-  pub forth : (more : List ℕ) → HasValue (ty_view nest.ty.now) (before ++ (rest ++ more)) → CanFinish nest (rest ++ more)
+-- these octets stand before the rest, and where all of them begin with an encoding, the rest completes the value
+pub record GoesOn (cursor : Cursor) (before rest : List ℕ) : Type 0 where
+  pub taken : HasTaken cursor before
+  pub forth : (more : List ℕ) → HasValue (ty_view cursor.nest.ty.now) (before ++ (rest ++ more)) → CanFinish cursor (rest ++ more)
 
 -- these octets have been fed since no value was begun: first those of whole steps, and then those that are kept
 pub record HasBeenFed (pieces : Pieces) (octets : List ℕ) : Type 0 where
   pub accepts : pieces.refused ≡ None
   pub before : List ℕ
   pub joined : octets ≡ before ++ pieces.pending.items
-  pub goes_on : GoesOn pieces.nest before pieces.pending.items
+  pub goes_on : GoesOn pieces.cursor before pieces.pending.items
   pub none : ¬ HasValue (shape_of pieces) octets
 
 -- no value is begun
 pub record IsFresh (pieces : Pieces) : Type 0 where
   pub accepts : pieces.refused ≡ None
-  pub layers : layers_of pieces.nest.layers ≡ []
-  pub taken : pieces.nest.taken ≡ 0
+  pub layers : layers_of pieces.cursor.nest.layers ≡ []
+  pub taken : pieces.cursor.nest.taken ≡ 0
+  pub string : pieces.cursor.string ≡ None
   pub kept : pieces.pending.items ≡ []
 
 -- so many octets of the piece complete the value
@@ -68,14 +69,14 @@ IsFed old new octets piece fed.TheVariants.More = IsMore (shape_of old) new (oct
 
 -- what holds of a reader that has refused nothing
 pub record IsSoundPieces (pieces : Pieces) : Type 0 where
-  pub nest : IsSoundNest pieces.nest
+  pub cursor : IsSoundCursor pieces.cursor
   pub well_formed : IsWellFormed (shape_of pieces)
 
 -- what holds of a reader at all times
 pub record IsSoundReader (pieces : Pieces) : Type 0 where
   pub sound : pieces.refused ≡ None → IsSoundPieces pieces
   pub numbers : (refusal : Refusal) → pieces.refused ≡ Some refusal → IsOfFeeding refusal
-  pub depth : length (layers_of pieces.nest.layers) ≤ most_nested
+  pub depth : depth_of pieces.cursor ≤ most_nested
 
 -- the same type is read, and no refusal has come
 pub record IsGoingOn (old new : Pieces) : Type 0 where
@@ -106,7 +107,8 @@ IsTakenCut old new octets fed.TheVariants.More = HasBeenFed new octets
 -- nothing was refused, and no octet has come since the last value
 pub record IsFinished (pieces : Pieces) : Type 0 where
   pub accepts : pieces.refused ≡ None
-  pub taken : pieces.nest.taken ≡ 0
+  pub taken : pieces.cursor.nest.taken ≡ 0
+  pub string : pieces.cursor.string ≡ None
   pub kept : pieces.pending.items ≡ []
 
 -- the same of the answer of a public reader

@@ -8,6 +8,7 @@ pub mod Parts
 pub mod Holding
 pub mod Stack
 pub mod Nest
+pub mod Strings
+pub mod Cursor
 pub mod Feeding
 pub mod Weight
-pub mod Leaf

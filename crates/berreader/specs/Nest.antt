@@ -1,10 +1,11 @@
 -- The open constructed encodings, each inside the next: what completes them, and where they stand.
-use Rattle.std.specs.Prelude.{◌≡◌, ◌+◌, ◌-◌, ◌<◌, ◌≤◌, ⊤, ℕ, false, List, [], ◌∷◌, ◌++◌, length, take, drop, Contains}
+use Rattle.std.specs.Prelude.{◌≡◌, ◌+◌, ◌-◌, ◌<◌, ◌≤◌, ⊤, ℕ, false, List, [], ◌∷◌, ◌++◌, Option, Some, None, length, take, drop, Contains}
 use Rattle.std.specs.List.{AllByRecursion}
 use Rattle.octets.specs.declared.TheConstants.{MAX_ENCODING}
 use Rattle.octets.specs.declared.tag.Tag.{Tag}
 use Rattle.octets.specs.Front.{HasFront}
 use Rattle.octets.specs.Rule.{ber}
+use Rattle.types.specs.declared.value.Value.{Value}
 use Rattle.types.specs.Shape.{Shape, Val}
 use Rattle.types.specs.View.{ty_view, value_view}
 use Rattle.types.specs.FirstTags.{first_tags}
@@ -12,7 +13,6 @@ use Rattle.types.specs.Encoding.{IsEncoding, IsAccepted, most_nested}
 use Rattle.berreader.specs.declared.frame.Frame.{Frame}
 use Rattle.berreader.specs.declared.nest.Nest.{Nest}
 use Rattle.berreader.specs.declared.nest.Next.{Next}
-use Rattle.berreader.specs.declared.nest.Step as step
 use Rattle.berreader.specs.Completing.{IsEndOf, IsOpening}
 use Rattle.berreader.specs.Head.{IsReadTag}
 use Rattle.berreader.specs.Parts.{Parts, IsPart, CanFill, once_come, IsDue, IsPut, IsNodeFor, ArePartsOf, Holds, AreGood, IsGoodType}
@@ -159,9 +159,10 @@ pub record IsWhole (old new : Nest) (octets : List ℕ) (value : Val) (used : �
   pub layers : layers_of new.layers ≡ []
   pub taken : new.taken ≡ 0
 
-abbrev pub IsStep : Nest → Nest → List ℕ → step.Step → Type 0
-IsStep old new octets (step.TheVariants.Taken used) = IsTaken old new octets used
-IsStep old new octets (step.TheVariants.Whole value used) = IsWhole old new octets (value_view value) used
+-- by the value that is whole, if one is
+abbrev pub IsStep : Nest → Nest → List ℕ → Option Value → ℕ → Type 0
+IsStep old new octets None used = IsTaken old new octets used
+IsStep old new octets (Some value) used = IsWhole old new octets (value_view value) used
 
 -- the identifier octets of a part that may come next
 pub record IsReadNext (nest : Nest) (octets : List ℕ) (next : Next) : Type 0 where
@@ -202,6 +203,6 @@ pub record IsLast (old new : Nest) (type : Shape) (tag : Tag) (value wrapped : V
   pub layers : layers_of new.layers ≡ []
   pub taken : new.taken ≡ 0
 
-abbrev pub IsCome : Nest → Nest → Shape → Tag → Val → ℕ → step.Step → Type 0
-IsCome old new type tag value used (step.TheVariants.Taken n) = HasCome old new type tag value used n
-IsCome old new type tag value used (step.TheVariants.Whole wrapped n) = IsLast old new type tag value (value_view wrapped) used n
+abbrev pub IsCome : Nest → Nest → Shape → Tag → Val → ℕ → Option Value → ℕ → Type 0
+IsCome old new type tag value used None n = HasCome old new type tag value used n
+IsCome old new type tag value used (Some wrapped) n = IsLast old new type tag value (value_view wrapped) used n

@@ -1,5 +1,5 @@
 -- What is known of a constructed string whose parts are being read.
-use Rattle.std.specs.Prelude.{◌≡◌, ℕ, ◌<◌, ◌≤◌, List, [], ◌∷◌, ◌++◌, length, drop, reverse, All}
+use Rattle.std.specs.Prelude.{◌≡◌, ℕ, ◌+◌, ◌<◌, ◌≤◌, false, List, [], ◌∷◌, ◌++◌, length, take, reverse, All}
 use Rattle.octets.specs.declared.TheConstants.{MAX_ENCODING}
 use Rattle.berreader.specs.declared.frame.Frame.{Frame}
 use Rattle.berreader.specs.declared.joined.Kind.{Kind}
@@ -11,10 +11,14 @@ use Rattle.berreader.specs.Joined.{Element, segment_of, HoldsPiece, IsWholePiece
 abbrev pub stack : List Frame → List Frame
 stack frames = reverse frames
 
+-- what completes a string of the kind, by the open encodings
+abbrev pub CompletesBy : (kind : Kind) → ℕ → List Frame → ℕ → List (Element kind) → List ℕ → List (Element kind) → List ℕ → Type 0
+CompletesBy kind levels frames taken string octets total rest = Completes (segment_of kind) (HoldsPiece kind) (IsWholePiece kind) levels frames taken string octets total rest
+
 -- the octets complete the string, and leave a rest
 abbrev pub Completion : (kind : Kind) → Segments → List ℕ → List (Element kind) → List ℕ → Type 0
 Completion kind segments octets total rest =
-    Completes (segment_of kind) (HoldsPiece kind) (IsWholePiece kind) segments.levels (stack segments.frames.items) segments.taken (string_of kind segments.joined) octets total rest
+    CompletesBy kind segments.levels (stack segments.frames.items) segments.taken (string_of kind segments.joined) octets total rest
 
 -- the octets begin with some that complete a string
 abbrev pub CanComplete : Kind → Segments → List ℕ → Type 0
@@ -28,11 +32,21 @@ pub record IsAlike (kind : Kind) (old new : Segments) (first second : List ℕ) 
 -- so many of the octets were taken
 pub record IsTaken (kind : Kind) (old new : Segments) (octets : List ℕ) (used : ℕ) : Type 0 where
   pub there : used ≤ length octets
-  pub alike : (more : List ℕ) → IsAlike kind old new (octets ++ more) (drop used octets ++ more)
+  pub place : new.taken ≡ old.taken + used
+  pub deepest : new.levels ≡ old.levels
+  pub light : length new.joined.octets.items ≤ length old.joined.octets.items + used
+  pub alike : (more : List ℕ) → IsAlike kind old new (take used octets ++ more) more
 
--- no encoding ends past the limit, and the octets hold a string
+-- an encoding does not end past the limit
+pub record IsWithin (frame : Frame) : Type 0 where
+  pub end : frame.end ≤ MAX_ENCODING
+  pub room : frame.definite ≡ false → frame.end + 2 ≤ MAX_ENCODING
+
+-- no encoding ends past the limit, not too many are open, and the octets hold a string
 pub record IsSound (kind : Kind) (segments : Segments) : Type 0 where
-  pub within : All (λ frame. frame.end ≤ MAX_ENCODING) (stack segments.frames.items)
+  pub within : All IsWithin (stack segments.frames.items)
+  pub few : length segments.frames.items ≤ segments.levels
+  pub place : segments.taken ≤ MAX_ENCODING
   pub held : IsHeld kind segments.joined
 
 -- this is the innermost open encoding

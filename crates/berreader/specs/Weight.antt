@@ -6,6 +6,7 @@ use Rattle.types.specs.Weight.{weight_of, weight_of_items, weight_of_slots}
 use Rattle.types.specs.WellFormed.{nodes_of}
 use Rattle.berreader.specs.declared.pieces.Pieces.{Pieces}
 use Rattle.berreader.specs.declared.reader.Step as step
+use Rattle.berreader.specs.Cursor.{depth_of, octets_in}
 use Rattle.berreader.specs.Parts.{Parts}
 use Rattle.berreader.specs.Stack.{Layer, layers_of}
 
@@ -21,13 +22,13 @@ abbrev pub weight_of_layers : List Layer → ℕ
 weight_of_layers [] = 0
 weight_of_layers (layer ∷ others) = weight_of_parts layer.parts + weight_of_layers others
 
--- octets of which no value is made yet count one each
+-- octets of which no value is made yet count one each, those of the string that has begun too
 abbrev pub weight_held : Pieces → ℕ
-weight_held pieces = weight_of_layers (layers_of pieces.nest.layers) + length pieces.pending.items
+weight_held pieces = weight_of_layers (layers_of pieces.cursor.nest.layers) + octets_in pieces.cursor.string + length pieces.pending.items
 
--- how many constructed encodings are open
+-- how many constructed encodings are open, those of the string that has begun too
 abbrev pub open_encodings : Pieces → ℕ
-open_encodings pieces = length (layers_of pieces.nest.layers)
+open_encodings pieces = depth_of pieces.cursor
 
 -- what so many octets may weigh
 abbrev pub most_weight : Shape → ℕ → ℕ

@@ -1,11 +1,13 @@
 //! Which type within a CHOICE an encoding is of (X.690 8.13): tags tell the alternatives apart.
 
 ghost use Rattle.std.specs.Prelude.{◌≡◌, ◌↔◌, ℕ, List, true, false, Contains, IsTrue, IfOk, MatchOption};
+ghost use Rattle.octets.specs.declared.tag.Tag.{Tag};
 ghost use Rattle.octets.specs.Rule.{ber};
 ghost use Rattle.types.specs.Encoding.{IsEncoding};
 ghost use Rattle.types.specs.FirstTags.{first_tags};
-ghost use Rattle.types.specs.Shape.{Shape};
+ghost use Rattle.types.specs.Shape.{Shape, Val};
 ghost use Rattle.types.specs.View.{ty_view, value_view};
+ghost use Rattle.berreader.specs.Nest.{IsWrapped};
 ghost use Rattle.berreader.specs.Parts.{IsGoodType, IsNodeFor};
 
 use octets::{NoMemory, Tag};
@@ -45,6 +47,16 @@ pub fn node_of<'a>(ty: &'a Ty, tag: Tag) -> Option<&'a Ty>
         }
     }
     None
+}
+
+// Whether the value of a node of the type is one of the type itself, as it is unless that is a CHOICE.
+pub fn is_node(ty: &Ty) -> bool
+    ensures { IsTrue result → (tag : Tag) (value : Val) → IsWrapped (ty_view ty.now) tag value value }
+{
+    let Ty::Choice(_) = ty else {
+        return true;
+    };
+    false
 }
 
 // The value of the type that an encoding has which begins with the tag, by the value of that node.

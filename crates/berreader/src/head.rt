@@ -30,6 +30,7 @@ pub enum Extent {
 }
 
 // The tag of the encoding at the front, whether it is constructed, and how many identifier octets it has.
+#[inline(always)]
 pub fn read_head_tag(end: usize, taken: usize, octets: &[u8]) -> Result<(Tag, bool, usize), Refusal>
     ensures value { IfOk result (λ p. IsReadTag p.0 end taken octets.now p.1 p.2) }
     ensures within { IfOk result (λ p. p.0.number ≤ MAX_TAG_NUMBER) }

@@ -1,6 +1,6 @@
 //! The string that segments make (X.690 8.6.4 and 8.7.3).
 
-ghost use Rattle.std.specs.Prelude.{◌≡◌, ◌⊎◌, ◌↔◌, IsTrue, [], List, MatchOption, OnOk, IfOk, IfErr};
+ghost use Rattle.std.specs.Prelude.{◌≡◌, ◌⊎◌, ◌↔◌, ◌+◌, ◌≤◌, IsTrue, [], List, length, MatchOption, OnOk, IfOk, IfErr};
 ghost use Rattle.primitives.specs.Bits.{CanBeUnused};
 ghost use Rattle.types.specs.Conforms.{Conforms};
 ghost use Rattle.types.specs.Refusal.{IsFinal};
@@ -82,6 +82,7 @@ impl Joined {
         requires whole { self.old.unused ≡ 0 }
         requires held { IsHeld kind self.old }
         ensures joined { OnOk result (IsJoined kind self.old self.new contents.now) }
+        ensures light { OnOk result (length self.new.octets.items ≤ length self.old.octets.items + length contents.now) }
         ensures none { result ≡ Err Refusal.Contents →
             (piece : List (Element kind)) → ¬ HoldsPiece kind piece contents.now }
         ensures numbers { IfErr result (λ refusal.
@@ -96,6 +97,7 @@ impl Joined {
     fn join_octets(&mut self, contents: &[u8]) -> Result<(), Refusal>
         requires held { IsHeld Kind.Octets self.old }
         ensures joined { OnOk result (IsJoined Kind.Octets self.old self.new contents.now) }
+        ensures light { OnOk result (length self.new.octets.items ≤ length self.old.octets.items + length contents.now) }
         ensures numbers { IfErr result (λ refusal. refusal ≡ Refusal.NoMemory) }
     {
         match self.octets.extend_from_slice(contents) {
@@ -108,6 +110,7 @@ impl Joined {
         requires whole { self.old.unused ≡ 0 }
         requires held { IsHeld Kind.Bits self.old }
         ensures joined { OnOk result (IsJoined Kind.Bits self.old self.new contents.now) }
+        ensures light { OnOk result (length self.new.octets.items ≤ length self.old.octets.items + length contents.now) }
         ensures none { result ≡ Err Refusal.Contents →
             (piece : List (Element Kind.Bits)) → ¬ HoldsPiece Kind.Bits piece contents.now }
         ensures numbers { IfErr result (λ refusal.

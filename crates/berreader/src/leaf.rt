@@ -1,32 +1,26 @@
-//! Reads the encodings of types without parts, each whole, within what holds it (X.690 8.2 to 8.8, 8.19,
-//! 8.20, 8.23 and 8.25).
+//! Reads the encodings of types without parts within what holds them (X.690 8.2 to 8.8, 8.19, 8.20, 8.23 and
+//! 8.25): a primitive one whole, and of a constructed string the beginning.
 //!
 //! A part that does not fit is refused as too long. Whether it passes the end of a definite encoding around
 //! it, which is a fault of its length, is said by the reader of those (`named`).
 
-ghost use Rattle.std.specs.Prelude.{◌≡◌, ◌+◌, ◌≤◌, ◌++◌, ℕ, List, [], length, take, true, false, IfOk, IfErr, IsErr, OnOk};
+ghost use Rattle.std.specs.Prelude.{◌≡◌, ◌+◌, ◌≤◌, ◌++◌, ℕ, List, length, take, true, false, IfOk, IfErr, IsErr};
 ghost use Rattle.octets.specs.declared.TheConstants.{MAX_ENCODING};
-ghost use Rattle.octets.specs.declared.tag.Tag.{Tag};
 ghost use Rattle.octets.specs.Front.{HasFront};
-ghost use Rattle.octets.specs.Identifier.{IsIdentifier};
 ghost use Rattle.octets.specs.Length.{IsLength};
-ghost use Rattle.types.specs.FirstTags.{IsUsable};
 ghost use Rattle.types.specs.Leaf.{tag_of, IsLeaf};
 ghost use Rattle.types.specs.Refusal.{IsFinal, IsOfReading};
 ghost use Rattle.types.specs.View.{ty_view, value_view};
 ghost use Rattle.berreader.specs.Contents.{IsOfContents};
 ghost use Rattle.berreader.specs.Head.{IsReadTag};
-ghost use Rattle.berreader.specs.Joined.{string_of, string_shape, string_value, IsHeld};
-ghost use Rattle.berreader.specs.Leaf.{IsReadPart};
 ghost use Rattle.berreader.specs.Lengths.{CanHaveLength};
 ghost use Rattle.berreader.specs.Nest.{IsPartWithin};
 ghost use Rattle.berreader.specs.Parts.{IsGoodType, IsPartOf};
-ghost use Rattle.berreader.specs.Segments.{CanComplete, IsSound, IsTaken, stack};
+ghost use Rattle.berreader.specs.Strings.{IsBegun};
 
 use crate::contents::read_contents;
-use crate::frame::top;
 use crate::head::front;
-use crate::joined::{Joined, Kind, kind_of};
+use crate::joined::{Kind, kind_of};
 use crate::lengths::can_have_length;
 use crate::parts::{read_contents_place, read_opening};
 use crate::segments::Segments;
@@ -34,41 +28,9 @@ use octets::{Length, read_length};
 use std::alloc::Global;
 use types::{Refusal, Ty, Value};
 
-// The value of the encoding at the front, by its identifier octets, and how many octets it has. Before
-// it stand `taken` octets, and it ends at `end` at the latest; `levels` constructed encodings may nest in
-// it.
+// The value of the primitive encoding at the front, by its identifier octets, and how many octets it has.
+// Before it stand `taken` octets, and it ends at `end` at the latest.
 pub fn read_leaf(
-    alloc: Global,
-    node: &Ty,
-    identifier: usize,
-    constructed: bool,
-    end: usize,
-    taken: usize,
-    levels: usize,
-    octets: &[u8],
-) -> Result<(Value, usize), Refusal>
-    requires leaf { IsLeaf (ty_view node.now) }
-    requires good { IsGoodType (ty_view node.now) }
-    requires within { end ≤ MAX_ENCODING }
-    requires tagged { IsReadTag (tag_of (ty_view node.now)) end taken octets.now constructed identifier }
-    ensures there { IfOk result (λ p. (p.1 ≤ length octets.now) × (taken + p.1 ≤ end)) }
-    ensures value { IfOk result (λ p.
-        IsPartOf levels (ty_view node.now) (value_view p.0) (take p.1 octets.now)) }
-    ensures truncated { result ≡ Err Refusal.Truncated →
-        ¬ HasFront (IsPartWithin levels (ty_view node.now) end taken) octets.now }
-    ensures never { IfErr result (λ refusal. IsFinal refusal → (more : List ℕ) →
-        ¬ HasFront (IsPartWithin levels (ty_view node.now) end taken) (octets.now ++ more)) }
-    ensures numbers { IfErr result IsOfReading }
-{
-    if constructed {
-        read_constructed(alloc, node, identifier, end, taken, levels, octets)
-    } else {
-        read_primitive(alloc, node, identifier, end, taken, octets)
-    }
-}
-
-// The value of a primitive encoding.
-fn read_primitive(
     alloc: Global,
     node: &Ty,
     identifier: usize,
@@ -118,8 +80,10 @@ fn unfit(ty: &Ty) -> Refusal
     }
 }
 
-// The value of a constructed encoding: only strings have such.
-fn read_constructed(
+// The constructed string at the front, by its identifier octets: which strings its segments are, what has
+// come of it, and how many identifier octets and length octets there are. `levels` constructed encodings may
+// nest in it, itself among them. Only strings have such encodings.
+pub fn begin_string(
     alloc: Global,
     node: &Ty,
     identifier: usize,
@@ -127,14 +91,11 @@ fn read_constructed(
     taken: usize,
     levels: usize,
     octets: &[u8],
-) -> Result<(Value, usize), Refusal>
+) -> Result<(Kind, Segments, usize), Refusal>
     requires leaf { IsLeaf (ty_view node.now) }
-    requires good { IsGoodType (ty_view node.now) }
     requires within { end ≤ MAX_ENCODING }
     requires tagged { IsReadTag (tag_of (ty_view node.now)) end taken octets.now true identifier }
-    ensures there { IfOk result (λ p. (p.1 ≤ length octets.now) × (taken + p.1 ≤ end)) }
-    ensures value { IfOk result (λ p.
-        IsPartOf levels (ty_view node.now) (value_view p.0) (take p.1 octets.now)) }
+    ensures begun { IfOk result (λ p. IsBegun (ty_view node.now) end taken identifier levels octets.now p.0 p.1 p.2) }
     ensures truncated { result ≡ Err Refusal.Truncated →
         ¬ HasFront (IsPartWithin levels (ty_view node.now) end taken) octets.now }
     ensures never { IfErr result (λ refusal. IsFinal refusal → (more : List ℕ) →
@@ -147,63 +108,9 @@ fn read_constructed(
     if levels == 0 {
         return Err(Refusal::TooDeep);
     }
-    let (joined, used) = read_joined(alloc, kind, identifier, end, taken, levels, octets)?;
-    let value = joined.into_value(node)?;
-    Ok((value, used))
-}
-
-// The string of a constructed encoding, and how many octets it has.
-fn read_joined(
-    alloc: Global,
-    kind: Kind,
-    identifier: usize,
-    end: usize,
-    taken: usize,
-    levels: usize,
-    octets: &[u8],
-) -> Result<(Joined, usize), Refusal>
-    requires within { end ≤ MAX_ENCODING }
-    requires deep { 1 ≤ levels }
-    requires there { identifier ≤ length octets.now }
-    requires fits { taken + identifier ≤ end }
-    ensures value { IfOk result (λ p. (tag : Tag) → IsUsable tag →
-        IsIdentifier tag true (take identifier octets.now) →
-        IsReadPart levels (string_shape tag kind) (string_value kind (string_of kind p.0)) end taken octets.now p.1) }
-    ensures held { IfOk result (λ p. IsHeld kind p.0) }
-    ensures truncated { result ≡ Err Refusal.Truncated → (tag : Tag) →
-        IsIdentifier tag true (take identifier octets.now) →
-        ¬ HasFront (IsPartWithin levels (string_shape tag kind) end taken) octets.now }
-    ensures never { IfErr result (λ refusal. IsFinal refusal → (more : List ℕ) (tag : Tag) →
-        IsIdentifier tag true (take identifier octets.now) →
-        ¬ HasFront (IsPartWithin levels (string_shape tag kind) end taken) (octets.now ++ more)) }
-    ensures numbers { IfErr result IsOfReading }
-{
     let after = taken + identifier;
     let (size, frame) = read_opening(end, after, &octets[identifier..])?;
-    let start = identifier + size;
-    let mut segments = Segments::new(alloc, levels, frame, after + size)?;
-    let used = read_segments(&mut segments, kind, &octets[start..])?;
-    Ok((segments.joined, start + used))
-}
-
-// How many octets complete the string.
-fn read_segments(segments: &mut Segments, kind: Kind, octets: &[u8]) -> Result<usize, Refusal>
-    requires { IsSound kind segments.old }
-    ensures taken { IfOk result (λ used. IsTaken kind segments.old segments.new octets.now used) }
-    ensures closed { OnOk result (stack segments.new.frames.items ≡ []) }
-    ensures sound { OnOk result (IsSound kind segments.new) }
-    ensures truncated { result ≡ Err Refusal.Truncated →
-        ¬ CanComplete kind segments.old octets.now }
-    ensures never { IfErr result (λ refusal. IsFinal refusal → (more : List ℕ) →
-        ¬ CanComplete kind segments.old (octets.now ++ more)) }
-    ensures numbers { IfErr result IsOfReading }
-{
-    let mut at = 0;
-    while let Some(frame) = top(&segments.frames) {
-        match segments.step(kind, frame, &octets[at..]) {
-            Ok(used) => at += used,
-            Err(refusal) => return Err(segments.named(refusal)),
-        }
-    }
-    Ok(at)
+    let used = identifier + size;
+    let segments = Segments::new(alloc, levels, frame, taken + used)?;
+    Ok((kind, segments, used))
 }

@@ -7,6 +7,7 @@
 
 mod choices;
 mod contents;
+mod cursor;
 mod frame;
 mod head;
 mod holding;

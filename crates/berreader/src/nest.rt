@@ -1,27 +1,30 @@
 //! The open encodings of a value that is being read, each inside the next, and the steps by which it is
 //! read, from one part to the next.
 
-ghost use Rattle.std.specs.Prelude.{◌≡◌, ◌≢◌, ◌+◌, ◌≤◌, ◌++◌, ◌∷◌, ℕ, List, [], take, length, IfOk, IfErr, IsErr, OnOk, MatchOption, Contains};
+ghost use Rattle.std.specs.Prelude.{◌≡◌, ◌≢◌, ◌+◌, ◌≤◌, ◌++◌, ◌∷◌, ℕ, List, [], true, false, take, length, IfOk, IfErr, IsErr, OnOk, OnErr, None, MatchOption, Contains};
 ghost use Rattle.octets.specs.declared.TheConstants.{MAX_ENCODING};
+ghost use Rattle.octets.specs.declared.tag.Tag.{Tag};
 ghost use Rattle.types.specs.FirstTags.{first_tags};
 ghost use Rattle.types.specs.Leaf.{IsLeaf};
 ghost use Rattle.types.specs.Refusal.{IsFinal, IsOfReading};
-ghost use Rattle.types.specs.Shape.{Shape};
+ghost use Rattle.types.specs.Shape.{Shape, Val};
 ghost use Rattle.types.specs.View.{ty_view, value_view};
 ghost use Rattle.berreader.specs.Stack.{layers_of, IsCounted};
 ghost use Rattle.berreader.specs.Holding.{IsOfDue};
-ghost use Rattle.berreader.specs.Nest.{end_inside, CanFinish, EndsInside, IsEndInside, IsCome, IsDueInside, IsDueNext, IsReadNext, IsSoundNest, IsStep};
+ghost use Rattle.berreader.specs.Nest.{end_inside, CanFinish, EndsInside, IsEndInside, IsCome, IsDueInside, IsDueNext, IsReadNext, IsSoundNest, IsStep, IsTaken, IsWrapped};
 ghost use Rattle.berreader.specs.Parts.{IsGoodType};
+ghost use Rattle.berreader.specs.Strings.{IsClosed, IsFound, IsOpenedString, IsSoundString, IsString};
 
 use crate::MAX_NESTED;
-use crate::choices::{begins, node_of, wrap};
+use crate::choices::{begins, is_node, node_of, wrap};
 use crate::frame::OUTSIDE;
-use crate::head::read_head_tag;
+use crate::head::{named, read_head_tag};
 use crate::holding::holding_of;
-use crate::leaf::read_leaf;
+use crate::joined::Kind;
+use crate::leaf::{begin_string, read_leaf};
 use crate::parts::read_opening;
 use crate::seats::not_due;
-use crate::segments::read_end;
+use crate::segments::{Segments, read_end};
 use crate::stack::{Open, Stack};
 use octets::{NoMemory, Tag};
 use std::alloc::Global;
@@ -38,28 +41,30 @@ pub struct Nest<'a> {
     pub taken: usize,
 }
 
-/// What a step has taken.
-#[derive(Debug, Drop)]
-pub enum Step {
-    /// So many octets, and the value is not whole.
-    Taken(usize),
-    /// The last octets of the value, and how many they are.
-    Whole(Value, usize),
-}
-
 /// The part that comes next, as its identifier octets say.
 #[derive(Clone, Copy, Debug)]
-struct Next<'a> {
+pub struct Next<'a> {
     /// Which part it is of what is open.
-    which: usize,
+    pub which: usize,
     /// Its type.
-    ty: &'a Ty,
+    pub ty: &'a Ty,
     /// The type itself, or the alternative of a CHOICE that begins with the tag.
-    node: &'a Ty,
-    tag: Tag,
-    constructed: bool,
+    pub node: &'a Ty,
+    pub tag: Tag,
+    pub constructed: bool,
     /// How many identifier octets there are.
-    identifier: usize,
+    pub identifier: usize,
+}
+
+/// A constructed string that has begun.
+#[derive(Debug, Drop)]
+pub struct OpenString<'a> {
+    /// The part that it is.
+    pub next: Next<'a>,
+    /// Which strings its segments are.
+    pub kind: Kind,
+    /// What has come of it.
+    pub segments: Segments,
 }
 
 impl<'a> Nest<'a> {
@@ -77,26 +82,67 @@ impl<'a> Nest<'a> {
         }
     }
 
-    // Takes what stands next: the end of the innermost open encoding, a part without parts, or the
-    // identifier octets and length octets of another.
-    pub fn step(&mut self, alloc: Global, octets: &[u8]) -> Result<Step, Refusal>
-        requires { IsSoundNest self.old }
-        ensures taken { IfOk result (λ step. IsStep self.old self.new octets.now step) }
+    // Takes what stands next, and answers how many octets it has: the end of the innermost open encoding, a
+    // part without parts, or the identifier octets and length octets of another. A constructed string is begun
+    // in `string`: its identifier octets and length octets are counted, and the nest stays before them. A
+    // value that is whole with them is put into `whole`.
+    pub fn step(
+        &mut self,
+        alloc: Global,
+        octets: &[u8],
+        string: &mut Option<OpenString<'a>>,
+        whole: &mut Option<Value>,
+    ) -> Result<usize, Refusal>
+        requires sound { IsSoundNest self.old }
+        requires none { string.old ≡ None }
+        requires whole { whole.old ≡ None }
+        ensures taken { IfOk result (λ used. IsFound self.old self.new octets.now string.new whole.new used) }
         ensures sound { OnOk result (IsSoundNest self.new) }
         ensures truncated { result ≡ Err Refusal.Truncated → ¬ CanFinish self.old octets.now }
         ensures never { IfErr result (λ refusal. IsFinal refusal → (more : List ℕ) →
             ¬ CanFinish self.old (octets.now ++ more)) }
         ensures unchanged { result ≡ Err Refusal.Truncated → self.new ≡ self.old }
+        ensures kept { OnErr result (string.new ≡ None) }
         ensures numbers { IfErr result IsOfReading }
     {
         match self.end_here(octets) {
-            Ok(Some(used)) => self.close(alloc, used),
-            Ok(None) => match self.part(alloc, octets) {
-                Ok(step) => Ok(step),
+            Ok(Some(used)) => self.close(alloc, used, whole),
+            Ok(None) => match self.part(alloc, octets, string, whole) {
+                Ok(used) => Ok(used),
                 Err(refusal) => Err(self.named(refusal)),
             },
             Err(refusal) => Err(refusal),
         }
+    }
+
+    // Takes a constructed string whose last end has come. All octets of it are counted.
+    pub fn close_string(
+        &mut self,
+        alloc: Global,
+        string: OpenString<'a>,
+        whole: &mut Option<Value>,
+    ) -> Result<usize, Refusal>
+        requires sound { IsSoundNest self.old }
+        requires whole { whole.old ≡ None }
+        requires string { IsSoundString self.old string }
+        requires closed { string.segments.frames.items ≡ [] }
+        ensures taken { IfOk result (λ used. (passed : List ℕ) → IsString self.old string.entry passed →
+            IsClosed self.old self.new passed whole.new used) }
+        ensures sound { OnOk result (IsSoundNest self.new) }
+        ensures layers { OnOk result (length (layers_of self.new.layers) ≤ length (layers_of self.old.layers)) }
+        ensures never { IfErr result (λ refusal. IsFinal refusal → (passed more : List ℕ) →
+            IsString self.old string.entry passed → ¬ CanFinish self.old (passed ++ more)) }
+        ensures numbers { IfErr result (λ refusal. IsOfReading refusal × (refusal ≢ Refusal.Truncated)) }
+    {
+        let OpenString {
+            next,
+            kind: _,
+            segments,
+        } = string;
+        let used = segments.taken - self.taken;
+        let value = segments.joined.into_value(next.node)?;
+        self.layers.set_which(next.which);
+        Ok(self.come(alloc, next.ty, next.tag, value, used, whole)?)
     }
 
     // How many octets the end of the innermost open encoding has, if it ends here.
@@ -118,11 +164,17 @@ impl<'a> Nest<'a> {
     }
 
     // Ends the innermost open encoding.
-    fn close(&mut self, alloc: Global, used: usize) -> Result<Step, Refusal>
+    fn close(
+        &mut self,
+        alloc: Global,
+        used: usize,
+        whole: &mut Option<Value>,
+    ) -> Result<usize, Refusal>
         requires sound { IsSoundNest self.old }
+        requires whole { whole.old ≡ None }
         requires ends { (octets : List ℕ) × (used ≤ length octets) × IsEndInside (layers_of self.old.layers) self.old.taken (take used octets) }
-        ensures taken { IfOk result (λ step. (octets : List ℕ) → used ≤ length octets →
-            IsEndInside (layers_of self.old.layers) self.old.taken (take used octets) → IsStep self.old self.new octets step) }
+        ensures taken { IfOk result (λ n. (octets : List ℕ) → used ≤ length octets →
+            IsEndInside (layers_of self.old.layers) self.old.taken (take used octets) → IsStep self.old self.new octets whole.new n) }
         ensures sound { OnOk result (IsSoundNest self.new) }
         ensures never { IfErr result (λ refusal. IsFinal refusal → (octets : List ℕ) →
             EndsInside (layers_of self.old.layers) self.old.taken octets → ¬ CanFinish self.old octets) }
@@ -139,27 +191,40 @@ impl<'a> Nest<'a> {
             which: _,
         } = open;
         let value = holding.into_value(frame.definite)?;
-        Ok(self.come(alloc, ty, tag, value, used)?)
+        Ok(self.come(alloc, ty, tag, value, used, whole)?)
     }
 
-    // Takes a part without parts, or the beginning of another.
-    fn part(&mut self, alloc: Global, octets: &[u8]) -> Result<Step, Refusal>
+    // Takes a part without parts, or the beginning of another. A constructed string is begun in `string`.
+    fn part(
+        &mut self,
+        alloc: Global,
+        octets: &[u8],
+        string: &mut Option<OpenString<'a>>,
+        whole: &mut Option<Value>,
+    ) -> Result<usize, Refusal>
         requires sound { IsSoundNest self.old }
+        requires none { string.old ≡ None }
+        requires whole { whole.old ≡ None }
         requires no_end { (more : List ℕ) →
             ¬ EndsInside (layers_of self.old.layers) self.old.taken (octets.now ++ more) }
-        ensures taken { IfOk result (λ step. IsStep self.old self.new octets.now step) }
+        ensures taken { IfOk result (λ used. IsFound self.old self.new octets.now string.new whole.new used) }
         ensures sound { OnOk result (IsSoundNest self.new) }
         ensures truncated { result ≡ Err Refusal.Truncated → ¬ CanFinish self.old octets.now }
         ensures never { IfErr result (λ refusal. IsFinal refusal → (more : List ℕ) →
             ¬ CanFinish self.old (octets.now ++ more)) }
         ensures unchanged { result ≡ Err Refusal.Truncated → self.new ≡ self.old }
+        ensures kept { OnErr result (string.new ≡ None) }
         ensures numbers { IfErr result IsOfReading }
     {
         let next = self.next(octets)?;
-        if next.node.has_no_parts() {
-            self.leaf(alloc, next, octets)
-        } else {
+        if !next.node.has_no_parts() {
             self.open(alloc, next, octets)
+        } else if next.constructed {
+            let (begun, used) = self.begin(alloc, next, octets)?;
+            *string = Some(begun);
+            Ok(used)
+        } else {
+            self.leaf(alloc, next, octets, whole)
         }
     }
 
@@ -216,14 +281,59 @@ impl<'a> Nest<'a> {
         }
     }
 
-    // Takes a part without parts.
-    fn leaf(&mut self, alloc: Global, next: Next<'a>, octets: &[u8]) -> Result<Step, Refusal>
+    // The constructed string at the front, and how many identifier octets and length octets it has.
+    fn begin(
+        &self,
+        alloc: Global,
+        next: Next<'a>,
+        octets: &[u8],
+    ) -> Result<(OpenString<'a>, usize), Refusal>
+        requires sound { IsSoundNest self.now }
+        requires no_end { (more : List ℕ) →
+            ¬ EndsInside (layers_of self.now.layers) self.now.taken (octets.now ++ more) }
+        requires next { IsReadNext self.now octets.now next }
+        requires leaf { IsLeaf (ty_view next.node.now) }
+        requires constructed { next.constructed ≡ true }
+        ensures begun { IfOk result (λ p. IsOpenedString self.now self.now octets.now p.0 p.1) }
+        ensures truncated { result ≡ Err Refusal.Truncated → ¬ CanFinish self.now octets.now }
+        ensures never { IfErr result (λ refusal. IsFinal refusal → (more : List ℕ) →
+            ¬ CanFinish self.now (octets.now ++ more)) }
+        ensures numbers { IfErr result IsOfReading }
+    {
+        let levels = MAX_NESTED - self.layers.depth();
+        let (kind, segments, used) = begin_string(
+            alloc,
+            next.node,
+            next.identifier,
+            self.end(),
+            self.taken,
+            levels,
+            octets,
+        )?;
+        let string = OpenString {
+            next,
+            kind,
+            segments,
+        };
+        Ok((string, used))
+    }
+
+    // Takes the primitive encoding of a part without parts.
+    fn leaf(
+        &mut self,
+        alloc: Global,
+        next: Next<'a>,
+        octets: &[u8],
+        whole: &mut Option<Value>,
+    ) -> Result<usize, Refusal>
         requires sound { IsSoundNest self.old }
+        requires whole { whole.old ≡ None }
         requires no_end { (more : List ℕ) →
             ¬ EndsInside (layers_of self.old.layers) self.old.taken (octets.now ++ more) }
         requires next { IsReadNext self.old octets.now next }
         requires leaf { IsLeaf (ty_view next.node.now) }
-        ensures taken { IfOk result (λ step. IsStep self.old self.new octets.now step) }
+        requires primitive { next.constructed ≡ false }
+        ensures taken { IfOk result (λ used. IsStep self.old self.new octets.now whole.new used) }
         ensures sound { OnOk result (IsSoundNest self.new) }
         ensures truncated { result ≡ Err Refusal.Truncated → ¬ CanFinish self.old octets.now }
         ensures never { IfErr result (λ refusal. IsFinal refusal → (more : List ℕ) →
@@ -231,29 +341,26 @@ impl<'a> Nest<'a> {
         ensures unchanged { result ≡ Err Refusal.Truncated → self.new ≡ self.old }
         ensures numbers { IfErr result IsOfReading }
     {
-        let levels = MAX_NESTED - self.layers.depth();
         let (value, used) = read_leaf(
             alloc,
             next.node,
             next.identifier,
-            next.constructed,
             self.end(),
             self.taken,
-            levels,
             octets,
         )?;
         self.layers.set_which(next.which);
-        Ok(self.come(alloc, next.ty, next.tag, value, used)?)
+        Ok(self.come(alloc, next.ty, next.tag, value, used, whole)?)
     }
 
     // Takes the identifier octets and length octets of a constructed encoding, and opens it.
-    fn open(&mut self, alloc: Global, next: Next<'a>, octets: &[u8]) -> Result<Step, Refusal>
+    fn open(&mut self, alloc: Global, next: Next<'a>, octets: &[u8]) -> Result<usize, Refusal>
         requires sound { IsSoundNest self.old }
         requires no_end { (more : List ℕ) →
             ¬ EndsInside (layers_of self.old.layers) self.old.taken (octets.now ++ more) }
         requires next { IsReadNext self.old octets.now next }
         requires parts { ¬ IsLeaf (ty_view next.node.now) }
-        ensures taken { IfOk result (λ step. IsStep self.old self.new octets.now step) }
+        ensures taken { IfOk result (λ used. IsTaken self.old self.new octets.now used) }
         ensures sound { OnOk result (IsSoundNest self.new) }
         ensures truncated { result ≡ Err Refusal.Truncated → ¬ CanFinish self.old octets.now }
         ensures never { IfErr result (λ refusal. IsFinal refusal → (more : List ℕ) →
@@ -282,10 +389,11 @@ impl<'a> Nest<'a> {
         self.layers.set_which(next.which);
         self.layers.push(opened)?;
         self.taken = after + size;
-        Ok(Step::Taken(next.identifier + size))
+        Ok(next.identifier + size)
     }
 
-    // Puts a value that has come where it belongs: into the innermost open encoding, if there is one.
+    // Puts a value that has come where it belongs: into the innermost open encoding, if there is one, and
+    // else into `whole`.
     fn come(
         &mut self,
         alloc: Global,
@@ -293,36 +401,50 @@ impl<'a> Nest<'a> {
         tag: Tag,
         value: Value,
         used: usize,
-    ) -> Result<Step, NoMemory>
+        whole: &mut Option<Value>,
+    ) -> Result<usize, NoMemory>
         requires good { IsGoodType (ty_view ty.now) }
         requires due { IsDueInside (ty_view self.old.ty.now) (layers_of self.old.layers) (ty_view ty.now) }
         requires room { self.old.taken + used ≤ MAX_ENCODING }
-        ensures come { IfOk result (λ step. IsCome self.old self.new (ty_view ty.now) tag (value_view value) used step) }
+        requires whole { whole.old ≡ None }
+        ensures come { IfOk result (λ n. IsCome self.old self.new (ty_view ty.now) tag (value_view value) used whole.new n) }
         ensures counted { IsCounted self.old.layers → OnOk result (IsCounted self.new.layers) }
     {
-        let wrapped = wrap(alloc, ty, tag, value)?;
-        match self.layers.put(wrapped)? {
-            None => {
-                self.taken += used;
-                Ok(Step::Taken(used))
-            }
-            Some(whole) => {
-                self.taken = 0;
-                Ok(Step::Whole(whole, used))
-            }
+        if is_node(ty) {
+            return self.put(value, used, whole);
         }
+        let wrapped = wrap(alloc, ty, tag, value)?;
+        self.put(wrapped, used, whole)
+    }
+
+    // Puts a value of the type of the part that has come.
+    fn put(
+        &mut self,
+        value: Value,
+        used: usize,
+        whole: &mut Option<Value>,
+    ) -> Result<usize, NoMemory>
+        requires due { (type : Shape) × IsDueInside (ty_view self.old.ty.now) (layers_of self.old.layers) type }
+        requires room { self.old.taken + used ≤ MAX_ENCODING }
+        requires whole { whole.old ≡ None }
+        ensures come { IfOk result (λ n. (type : Shape) (tag : Tag) (v : Val) → IsWrapped type tag v (value_view value) →
+            IsCome self.old self.new type tag v used whole.new n) }
+        ensures counted { IsCounted self.old.layers → OnOk result (IsCounted self.new.layers) }
+    {
+        self.layers.put(value, whole)?;
+        match whole {
+            None => self.taken += used,
+            Some(_) => self.taken = 0,
+        }
+        Ok(used)
     }
 
     // Why a part is refused: one that goes on too long inside a definite encoding passes its end.
-    fn named(&self, refusal: Refusal) -> Refusal
+    pub fn named(&self, refusal: Refusal) -> Refusal
         ensures truncated { result ≡ Refusal.Truncated → refusal ≡ Refusal.Truncated }
         ensures never { IsFinal result → IsFinal refusal }
         ensures numbers { IsOfReading refusal → IsOfReading result }
     {
-        if refusal == Refusal::TooLong && self.layers.any_definite() {
-            Refusal::Length
-        } else {
-            refusal
-        }
+        named(self.layers.any_definite(), refusal)
     }
 }

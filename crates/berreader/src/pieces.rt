@@ -5,10 +5,10 @@ ghost use Rattle.octets.specs.declared.TheConstants.{MAX_ENCODING};
 ghost use Rattle.types.specs.Refusal.{IsFinal, IsOfReading};
 ghost use Rattle.types.specs.View.{ty_view};
 ghost use Rattle.berreader.specs.Stack.{layers_of, IsCounted};
-ghost use Rattle.berreader.specs.Nest.{CanFinish, IsSoundNest, IsStep};
+ghost use Rattle.berreader.specs.Cursor.{taken_of, CanFinish, IsSoundCursor, IsStep};
 ghost use Rattle.berreader.specs.Feeding.{EndsWithin, GoesOn, HasBeenFed, HasValue, IsFed, IsFinished, IsFresh, IsGoingOn, IsOfFeeding, IsSoundPieces, IsSoundReader, IsTakenCut, IsTakenWhole, shape_of};
 
-use crate::nest::{Nest, Step};
+use crate::cursor::Cursor;
 use octets::{Head, Length, MAX_ENCODING, read_identifier, read_length};
 use std::alloc::Global;
 use types::{Refusal, Ty, Value};
@@ -17,9 +17,9 @@ use types::{Refusal, Ty, Value};
 #[derive(Debug, Drop)]
 pub struct Pieces<'a> {
     pub alloc: Global,
-    /// The encodings that are open.
-    pub nest: Nest<'a>,
-    /// The octets of a head, or of an encoding without parts, that the end of a piece has cut.
+    /// What has been taken of the value.
+    pub cursor: Cursor<'a>,
+    /// The octets of a head, of an encoding without parts, or of a segment, that the end of a piece has cut.
     pub pending: Vec<u8>,
     /// What an earlier piece was refused with.
     pub refused: Option<Refusal>,
@@ -39,11 +39,11 @@ impl<'a> Pieces<'a> {
     pub fn new(alloc: Global, ty: &'a Ty) -> Pieces<'a>
         ensures shape { shape_of result ≡ ty_view ty.now }
         ensures fresh { IsFresh result }
-        ensures counted { IsCounted result.nest.layers }
+        ensures counted { IsCounted result.cursor.nest.layers }
     {
         Pieces {
             alloc,
-            nest: Nest::new(alloc, ty),
+            cursor: Cursor::new(alloc, ty),
             pending: Vec::new(alloc),
             refused: None,
         }
@@ -77,9 +77,10 @@ impl<'a> Pieces<'a> {
     // Keeps the refusal, and nothing else.
     fn refuse(&mut self, refusal: Refusal)
         ensures refused { self.new.refused ≡ Some refusal }
-        ensures layers { layers_of self.new.nest.layers ≡ [] }
+        ensures layers { layers_of self.new.cursor.nest.layers ≡ [] }
+        ensures string { self.new.cursor.string ≡ None }
     {
-        self.nest = Nest::new(self.alloc, self.nest.ty);
+        self.cursor = Cursor::new(self.alloc, self.cursor.nest.ty);
         self.pending = Vec::new(self.alloc);
         self.refused = Some(refusal);
     }
@@ -92,7 +93,7 @@ impl<'a> Pieces<'a> {
         if let Some(refusal) = self.refused {
             return Err(refusal);
         }
-        if self.nest.taken == 0 && self.keeps_none() {
+        if self.cursor.is_fresh() && self.keeps_none() {
             Ok(())
         } else {
             Err(Refusal::Truncated)
@@ -167,13 +168,16 @@ impl<'a> Pieces<'a> {
         if let Err(refusal) = self.keep(octets) {
             return Err(refusal);
         }
-        match self.step_kept() {
-            Ok(Step::Taken(used)) => self.take_behind(used),
-            Ok(Step::Whole(value, used)) => {
-                let left = self.pending.as_slice().len() - used;
-                self.forget();
-                Ok(Fed::Done(value, left))
-            }
+        let mut whole = None;
+        match self.step_kept(&mut whole) {
+            Ok(used) => match whole {
+                None => self.take_behind(used),
+                Some(value) => {
+                    let left = self.pending.as_slice().len() - used;
+                    self.forget();
+                    Ok(Fed::Done(value, left))
+                }
+            },
             Err(refusal) => {
                 if is_missing(refusal) {
                     Ok(Fed::More)
@@ -190,10 +194,10 @@ impl<'a> Pieces<'a> {
         requires sound { IsSoundPieces self.old }
         requires there { used ≤ length self.old.pending.items }
         ensures going_on { OnOk result (IsGoingOn self.old self.new) }
-        ensures value { IfOk result (λ fed. (before : List ℕ) → GoesOn self.old.nest before (drop used self.old.pending.items) →
+        ensures value { IfOk result (λ fed. (before : List ℕ) → GoesOn self.old.cursor before (drop used self.old.pending.items) →
             IsTakenCut self.old self.new (before ++ drop used self.old.pending.items) fed) }
         ensures never { IfErr result (λ refusal. IsFinal refusal → (before more : List ℕ) →
-            GoesOn self.old.nest before (drop used self.old.pending.items) →
+            GoesOn self.old.cursor before (drop used self.old.pending.items) →
             ¬ HasValue (shape_of self.old) (before ++ (drop used self.old.pending.items ++ more))) }
         ensures numbers { IfErr result IsOfFeeding }
     {
@@ -206,35 +210,37 @@ impl<'a> Pieces<'a> {
     }
 
     // Takes a step over octets beside those that are kept.
-    fn step(&mut self, octets: &[u8]) -> Result<Step, Refusal>
-        requires { IsSoundNest self.old.nest }
-        ensures taken { IfOk result (λ step. IsStep self.old.nest self.new.nest octets.now step) }
-        ensures sound { OnOk result (IsSoundNest self.new.nest) }
-        ensures truncated { result ≡ Err Refusal.Truncated → ¬ CanFinish self.old.nest octets.now }
+    fn step(&mut self, octets: &[u8], whole: &mut Option<Value>) -> Result<usize, Refusal>
+        requires sound { IsSoundCursor self.old.cursor }
+        requires whole { whole.old ≡ None }
+        ensures taken { IfOk result (λ used. IsStep self.old.cursor self.new.cursor octets.now whole.new used) }
+        ensures sound { OnOk result (IsSoundCursor self.new.cursor) }
+        ensures truncated { result ≡ Err Refusal.Truncated → ¬ CanFinish self.old.cursor octets.now }
         ensures never { IfErr result (λ refusal. IsFinal refusal → (more : List ℕ) →
-            ¬ CanFinish self.old.nest (octets.now ++ more)) }
-        ensures unchanged { result ≡ Err Refusal.Truncated → self.new.nest ≡ self.old.nest }
+            ¬ CanFinish self.old.cursor (octets.now ++ more)) }
+        ensures unchanged { result ≡ Err Refusal.Truncated → self.new.cursor ≡ self.old.cursor }
         ensures kept { self.new.pending.items ≡ self.old.pending.items }
         ensures refused { self.new.refused ≡ self.old.refused }
         ensures numbers { IfErr result IsOfReading }
     {
-        self.nest.step(self.alloc, octets)
+        self.cursor.step(self.alloc, octets, whole)
     }
 
     // Takes a step over the octets that are kept.
-    fn step_kept(&mut self) -> Result<Step, Refusal>
-        requires { IsSoundNest self.old.nest }
-        ensures taken { IfOk result (λ step. IsStep self.old.nest self.new.nest self.old.pending.items step) }
-        ensures sound { OnOk result (IsSoundNest self.new.nest) }
-        ensures truncated { result ≡ Err Refusal.Truncated → ¬ CanFinish self.old.nest self.old.pending.items }
+    fn step_kept(&mut self, whole: &mut Option<Value>) -> Result<usize, Refusal>
+        requires sound { IsSoundCursor self.old.cursor }
+        requires whole { whole.old ≡ None }
+        ensures taken { IfOk result (λ used. IsStep self.old.cursor self.new.cursor self.old.pending.items whole.new used) }
+        ensures sound { OnOk result (IsSoundCursor self.new.cursor) }
+        ensures truncated { result ≡ Err Refusal.Truncated → ¬ CanFinish self.old.cursor self.old.pending.items }
         ensures never { IfErr result (λ refusal. IsFinal refusal → (more : List ℕ) →
-            ¬ CanFinish self.old.nest (self.old.pending.items ++ more)) }
-        ensures unchanged { result ≡ Err Refusal.Truncated → self.new.nest ≡ self.old.nest }
+            ¬ CanFinish self.old.cursor (self.old.pending.items ++ more)) }
+        ensures unchanged { result ≡ Err Refusal.Truncated → self.new.cursor ≡ self.old.cursor }
         ensures kept { self.new.pending.items ≡ self.old.pending.items }
         ensures refused { self.new.refused ≡ self.old.refused }
         ensures numbers { IfErr result IsOfReading }
     {
-        self.nest.step(self.alloc, &self.pending)
+        self.cursor.step(self.alloc, &self.pending, whole)
     }
 
     // Whether no octets are kept.
@@ -247,7 +253,7 @@ impl<'a> Pieces<'a> {
     // Keeps octets behind those that are kept.
     fn keep(&mut self, octets: &[u8]) -> Result<(), Refusal>
         ensures kept { OnOk result (self.new.pending.items ≡ self.old.pending.items ++ octets.now) }
-        ensures nest { self.new.nest ≡ self.old.nest }
+        ensures cursor { self.new.cursor ≡ self.old.cursor }
         ensures refused { self.new.refused ≡ self.old.refused }
         ensures numbers { IfErr result (λ refusal. refusal ≡ Refusal.NoMemory) }
     {
@@ -260,7 +266,7 @@ impl<'a> Pieces<'a> {
     // Keeps no octets any longer.
     fn forget(&mut self)
         ensures none { self.new.pending.items ≡ [] }
-        ensures nest { self.new.nest ≡ self.old.nest }
+        ensures cursor { self.new.cursor ≡ self.old.cursor }
         ensures refused { self.new.refused ≡ self.old.refused }
     {
         self.pending.clear();
@@ -270,7 +276,7 @@ impl<'a> Pieces<'a> {
     fn take_kept(&mut self) -> Vec<u8>
         ensures kept { result.items ≡ self.old.pending.items }
         ensures none { self.new.pending.items ≡ [] }
-        ensures nest { self.new.nest ≡ self.old.nest }
+        ensures cursor { self.new.cursor ≡ self.old.cursor }
         ensures refused { self.new.refused ≡ self.old.refused }
     {
         std::mem::replace(&mut self.pending, Vec::new(self.alloc))
@@ -283,26 +289,27 @@ impl<'a> Pieces<'a> {
         requires kept { self.old.pending.items ≡ [] }
         ensures going_on { OnOk result (IsGoingOn self.old self.new) }
         ensures there { IfOk result (EndsWithin (length octets.now)) }
-        ensures value { IfOk result (λ fed. (before : List ℕ) → GoesOn self.old.nest before octets.now →
+        ensures value { IfOk result (λ fed. (before : List ℕ) → GoesOn self.old.cursor before octets.now →
             IsTakenWhole self.old self.new before octets.now fed) }
         ensures never { IfErr result (λ refusal. IsFinal refusal → (before more : List ℕ) →
-            GoesOn self.old.nest before octets.now → ¬ HasValue (shape_of self.old) (before ++ (octets.now ++ more))) }
+            GoesOn self.old.cursor before octets.now → ¬ HasValue (shape_of self.old) (before ++ (octets.now ++ more))) }
         ensures numbers { IfErr result IsOfFeeding }
     {
         let mut at = 0;
         loop {
             let rest = &octets[at..];
-            match self.step(rest) {
-                Ok(Step::Taken(used)) => at += used,
-                Ok(Step::Whole(value, used)) => return Ok(Fed::Done(value, at + used)),
+            let mut whole = None;
+            match self.step(rest, &mut whole) {
+                Ok(used) => match whole {
+                    None => at += used,
+                    Some(value) => return Ok(Fed::Done(value, at + used)),
+                },
                 Err(refusal) => {
                     if !is_missing(refusal) {
                         return Err(refusal);
                     }
-                    return match self.keep(rest) {
-                        Ok(()) => Ok(Fed::More),
-                        Err(refusal) => Err(refusal),
-                    };
+                    self.keep(rest)?;
+                    return Ok(Fed::More);
                 }
             }
         }
@@ -310,13 +317,13 @@ impl<'a> Pieces<'a> {
 
     // No value is whole: there may be more octets, unless these are too many.
     fn more(&self) -> Result<Fed, Refusal>
-        requires { self.now.nest.taken ≤ MAX_ENCODING }
-        ensures few { OnOk result (self.now.nest.taken + length self.now.pending.items ≤ MAX_ENCODING) }
+        requires { taken_of self.now.cursor ≤ MAX_ENCODING }
+        ensures few { OnOk result (taken_of self.now.cursor + length self.now.pending.items ≤ MAX_ENCODING) }
         ensures more { IfOk result (λ fed. fed ≡ Fed.More) }
-        ensures many { IsErr result → MAX_ENCODING < self.now.nest.taken + length self.now.pending.items }
+        ensures many { IsErr result → MAX_ENCODING < taken_of self.now.cursor + length self.now.pending.items }
         ensures numbers { IfErr result (λ refusal. refusal ≡ Refusal.TooLong) }
     {
-        if self.pending.len() > MAX_ENCODING - self.nest.taken {
+        if self.pending.len() > MAX_ENCODING - self.cursor.taken() {
             Err(Refusal::TooLong)
         } else {
             Ok(Fed::More)

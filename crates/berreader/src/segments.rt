@@ -1,6 +1,6 @@
 //! A constructed string, read part by part.
 
-ghost use Rattle.std.specs.Prelude.{◌≡◌, ◌+◌, ◌<◌, ◌≤◌, ◌++◌, ℕ, List, true, false, take, length, slice_range, IfOk, IfErr, OnOk, MatchOption, ◌⊎◌};
+ghost use Rattle.std.specs.Prelude.{◌≡◌, ◌≢◌, ◌↔◌, IsTrue, ◌+◌, ◌<◌, ◌≤◌, ◌++◌, ℕ, List, [], true, false, take, length, slice_range, IfOk, IfErr, OnOk, MatchOption, ◌⊎◌};
 ghost use Rattle.octets.specs.declared.TheConstants.{MAX_ENCODING};
 ghost use Rattle.octets.specs.declared.tag.Tag.{Tag};
 ghost use Rattle.octets.specs.Identifier.{IsIdentifier};
@@ -12,7 +12,7 @@ ghost use Rattle.berreader.specs.Head.{IsExtentWithin, IsPrimitiveWithin, IsRead
 ghost use Rattle.berreader.specs.Joined.{segment_of};
 ghost use Rattle.berreader.specs.Segments.{BeginsAboveZero, CanComplete, EndsAt, IsOpened, IsSound, IsTaken, IsTop};
 
-use crate::frame::{Frame, INLINE, close, open};
+use crate::frame::{Frame, INLINE, close, open, top};
 use crate::head::{END_OF_CONTENTS, named, read_tag};
 use crate::joined::{Joined, Kind, segment_tag};
 use crate::parts::{read_contents_place, read_opening};
@@ -56,9 +56,40 @@ impl Segments {
         }
     }
 
+    // Whether the last of its ends has come.
+    pub fn is_closed(&self) -> bool
+        ensures { IsTrue result ↔ (self.now.frames.items ≡ []) }
+    {
+        self.frames.is_empty()
+    }
+
+    // Takes what stands next, and answers how many octets it has.
+    pub fn pass(&mut self, kind: Kind, octets: &[u8]) -> Result<usize, Refusal>
+        requires open { self.old.frames.items ≢ [] }
+        requires sound { IsSound kind self.old }
+        ensures taken { IfOk result (λ used. IsTaken kind self.old self.new octets.now used) }
+        ensures sound { OnOk result (IsSound kind self.new) }
+        ensures smaller { IfOk result (λ used.
+            length self.new.frames.items < length self.old.frames.items + used) }
+        ensures truncated { result ≡ Err Refusal.Truncated →
+            ¬ CanComplete kind self.old octets.now }
+        ensures never { IfErr result (λ refusal. IsFinal refusal → (more : List ℕ) →
+            ¬ CanComplete kind self.old (octets.now ++ more)) }
+        ensures unchanged { result ≡ Err Refusal.Truncated → self.new ≡ self.old }
+        ensures numbers { IfErr result IsOfReading }
+    {
+        let Some(frame) = top(&self.frames) else {
+            return Ok(0);
+        };
+        match self.step(kind, frame, octets) {
+            Ok(used) => Ok(used),
+            Err(refusal) => Err(self.named(refusal)),
+        }
+    }
+
     // Takes what stands next in the innermost open encoding, and answers how many octets it has: its
     // end, a primitive segment, or the identifier octets and length octets of a constructed one.
-    pub fn step(&mut self, kind: Kind, frame: Frame, octets: &[u8]) -> Result<usize, Refusal>
+    fn step(&mut self, kind: Kind, frame: Frame, octets: &[u8]) -> Result<usize, Refusal>
         requires top { IsTop frame self.old.frames.items }
         requires sound { IsSound kind self.old }
         ensures taken { IfOk result (λ used. IsTaken kind self.old self.new octets.now used) }
@@ -69,6 +100,7 @@ impl Segments {
             ¬ CanComplete kind self.old octets.now }
         ensures never { IfErr result (λ refusal. IsFinal refusal → (more : List ℕ) →
             ¬ CanComplete kind self.old (octets.now ++ more)) }
+        ensures unchanged { result ≡ Err Refusal.Truncated → self.new ≡ self.old }
         ensures numbers { IfErr result IsOfReading }
     {
         match read_end(frame, self.taken, octets) {
@@ -83,7 +115,7 @@ impl Segments {
     }
 
     // Why a part is refused, by the encodings that are open.
-    pub fn named(&self, refusal: Refusal) -> Refusal
+    fn named(&self, refusal: Refusal) -> Refusal
         ensures truncated { result ≡ Refusal.Truncated → refusal ≡ Refusal.Truncated }
         ensures never { IsFinal result → IsFinal refusal }
         ensures numbers { IsOfReading refusal → IsOfReading result }
@@ -105,6 +137,7 @@ impl Segments {
             ¬ CanComplete kind self.old octets.now }
         ensures never { IfErr result (λ refusal. IsFinal refusal → (more : List ℕ) →
             ¬ CanComplete kind self.old (octets.now ++ more)) }
+        ensures unchanged { result ≡ Err Refusal.Truncated → self.new ≡ self.old }
         ensures numbers { IfErr result IsOfReading }
     {
         let (constructed, identifier) = read_tag(segment_tag(kind), frame.end, self.taken, octets)?;
@@ -140,6 +173,7 @@ impl Segments {
             ¬ CanComplete kind self.old octets.now }
         ensures never { IfErr result (λ refusal. IsFinal refusal → (more : List ℕ) →
             ¬ CanComplete kind self.old (octets.now ++ more)) }
+        ensures unchanged { result ≡ Err Refusal.Truncated → self.new ≡ self.old }
         ensures numbers { IfErr result IsOfReading }
     {
         if self.frames.len() >= self.levels {
@@ -178,6 +212,7 @@ impl Segments {
             ¬ CanComplete kind self.old octets.now }
         ensures never { IfErr result (λ refusal. IsFinal refusal → (more : List ℕ) →
             ¬ CanComplete kind self.old (octets.now ++ more)) }
+        ensures unchanged { result ≡ Err Refusal.Truncated → self.new ≡ self.old }
         ensures numbers { IfErr result IsOfReading }
     {
         let (start, end) = read_contents_place(frame.end, self.taken, identifier, octets)?;

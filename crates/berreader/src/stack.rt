@@ -1,6 +1,6 @@
 //! The stack of open constructed encodings, each with its parts.
 
-ghost use Rattle.std.specs.Prelude.{◌≡◌, ◌∷◌, [], List, length, OnOk, IfOk, MatchOption};
+ghost use Rattle.std.specs.Prelude.{◌≡◌, ◌∷◌, [], List, None, length, OnOk, MatchOption};
 ghost use Rattle.types.specs.Shape.{Shape};
 ghost use Rattle.types.specs.View.{value_view};
 ghost use Rattle.berreader.specs.Parts.{Parts, IsDue, IsPut};
@@ -105,20 +105,21 @@ impl<'a> Stack<'a> {
         }
     }
 
-    // Puts the value of the part that has come into the innermost one; hands it back where none is open.
-    pub fn put(&mut self, value: Value) -> Result<Option<Value>, NoMemory>
-        requires { IsOpenDue (layers_of self.old) }
-        ensures put { IfOk result (λ left. MatchOption left
+    // Puts the value of the part that has come into the innermost one; into `whole` where none is open.
+    pub fn put(&mut self, value: Value, whole: &mut Option<Value>) -> Result<(), NoMemory>
+        requires due { IsOpenDue (layers_of self.old) }
+        requires whole { whole.old ≡ None }
+        ensures put { OnOk result (MatchOption whole.new
             (IsPutInside (layers_of self.old) (value_view value) (layers_of self.new))
             (λ back. (back ≡ value) × (layers_of self.old ≡ []) × (layers_of self.new ≡ []))) }
         ensures counted { IsCounted self.old → OnOk result (IsCounted self.new) }
     {
         match &mut self.top {
-            Some(top) => {
-                top.put(value)?;
-                Ok(None)
+            Some(top) => top.put(value),
+            None => {
+                *whole = Some(value);
+                Ok(())
             }
-            None => Ok(Some(value)),
         }
     }
 }

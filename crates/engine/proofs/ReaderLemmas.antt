@@ -1,42 +1,23 @@
 -- What a BER reader over pieces has been fed, and what it led to.
-use Rattle.std.proofs.Common.{◌≡◌, ℕ, ◌+◌, inl, inr, ◌⊎◌, List, [], ◌++◌, length, take, None, Some, Result, Ok, Err, OnOk, IsOk, IfOk, IfErr, refl, sym, ap, ◌∙◌, subst, arith, length-append}
+use Rattle.std.proofs.Common.{◌≡◌, ℕ, inl, inr, ◌⊎◌, List, [], ◌++◌, take, None, Some, Result, Ok, Err, OnOk, IsOk, IfOk, IfErr, refl, sym, ◌∙◌, subst}
 use Rattle.std.specs.Prelude.{◌↔◌}
-use Rattle.octets.specs.Front.{HasFront}
 use Rattle.octets.specs.Rule.{ber}
 use Rattle.types.specs.declared.refusal.Refusal.{Refusal}
 use Rattle.types.specs.declared.refusal.Refusal.TheVariants.{Truncated, Identifier, Form, Length, EndOfContents, Contents, Alphabet, Missing, Repeated, TooDeep, TooLong, NotCanonical, StreamTooLong, OutputTooLong, SourceFault, SinkFault, NoMemory}
 use Rattle.types.specs.Encoding.{IsAccepted}
 use Rattle.types.specs.Refusal.{IsFinal}
 use Rattle.types.specs.Shape.{Shape}
-use Rattle.types.specs.View.{ty_view, value_view}
+use Rattle.types.specs.View.{value_view}
 use Rattle.berreader.specs.declared.pieces.Pieces.{Pieces}
 use Rattle.berreader.specs.declared.reader.Step.{Step}
 use Rattle.berreader.specs.declared.reader.Step.TheVariants.{More, Done}
 use Rattle.berreader.specs.Feeding as reader
-use Rattle.berreader.specs.Nest.{CanComplete, StandsAt}
-use Rattle.berreader.proofs.AcceptedLemmas.{within_of_accepted}
+use Rattle.berreader.proofs.FreshLemmas.{fed_none_finished, finished_has_been_fed, fresh_has_been_fed}
 use Rattle.engine.specs.Feeding.{IsFed, IsFinished, StandsOpen}
-use Rattle.engine.proofs.FeedingLemmas.{none_begun, empty_is}
 
 -- a fresh reader took no octets
 pub stands_fresh : (shape : Shape) (pieces : Pieces) → reader.shape_of pieces ≡ shape → reader.IsFresh pieces → StandsOpen shape pieces []
-stands_fresh shape pieces type fresh =
-    let t = ty_view pieces.nest.ty.now in
-    record {
-      type = type;
-      fed = record {
-        accepts = fresh.accepts;
-        before = [];
-        joined = sym fresh.kept;
-        goes_on = record {
-          taken = record { count = sym fresh.taken; stands = subst (λ layers. StandsAt t layers []) (sym fresh.layers) refl };
-          forth = λ more h.
-              let octets = pieces.pending.items ++ more in
-              subst (λ layers. CanComplete t layers pieces.nest.taken octets) (sym fresh.layers) (subst (λ n. CanComplete t [] n octets) (sym fresh.taken) (within_of_accepted t octets h));
-        };
-        none = none_begun ber t;
-      };
-    }
+stands_fresh shape pieces type fresh = record { type = type; fed = fresh_has_been_fed pieces fresh }
 
 -- 2 to 11 and 17
 cases_of_feeding : (refusal : Refusal) → reader.IsOfFeeding refusal → IsFinal refusal ⊎ (refusal ≡ NoMemory)
@@ -80,18 +61,11 @@ open_fed shape old new before piece (Err refusal) s type value never numbers =
 -- whether a value is begun
 pub open_finished : (shape : Shape) (pieces : Pieces) (octets : List ℕ) (r : Result (Unit {0}) Refusal) → StandsOpen shape pieces octets → (IsOk r ↔ reader.IsFinished pieces)
     → IfErr r (λ refusal. (pieces.refused ≡ Some refusal) ⊎ ((pieces.refused ≡ None) × (refusal ≡ Truncated))) → IsFinished r octets
-open_finished shape pieces octets (Ok u) s exact refused =
-    let done = exact.0 refl in
-    let before : length s.fed.before ≡ 0 = s.fed.goes_on.taken.count ∙ done.taken in
-    empty_is octets (omega (arith, ap length s.fed.joined, length-append s.fed.before pieces.pending.items, before, ap length done.kept))
+open_finished shape pieces octets (Ok u) s exact refused = finished_has_been_fed pieces octets (exact.0 refl) s.fed
 open_finished shape pieces octets (Err refusal) s exact refused = (
   elim refused [
     | inl is ↦ let both : None ≡ Some refusal = sym s.fed.accepts ∙ is in absurd (cc both)
     | inr h ↦ h.1
   ],
-  λ none.
-      let size : length s.fed.before + length pieces.pending.items ≡ 0 = omega (arith, ap length s.fed.joined, length-append s.fed.before pieces.pending.items, ap length none) in
-      let before : length s.fed.before ≡ 0 = omega (arith, size) in
-      let kept : length pieces.pending.items ≡ 0 = omega (arith, size) in
-      absurd (cc (exact.1 (record { accepts = s.fed.accepts; taken = sym s.fed.goes_on.taken.count ∙ before; kept = empty_is pieces.pending.items kept }))),
+  λ none. absurd (cc (exact.1 (fed_none_finished pieces (subst (reader.HasBeenFed pieces) none s.fed)))),
 )

@@ -1,15 +1,18 @@
 //! Parts of an encoding that have no parts.
 
-ghost use Rattle.std.specs.Prelude.{◌≡◌};
+ghost use Rattle.std.specs.Prelude.{◌≡◌, ◌≤◌, length, IfOk};
 ghost use Rattle.types.specs.Leaf.{tag_of};
 ghost use Rattle.types.specs.View.{ty_view};
+ghost use Rattle.berreader.specs.Segments.{IsSound};
 
 use super::{boolean, octet_string};
 use crate::head::read_tag;
-use crate::leaf::read_leaf;
+use crate::joined::Kind;
+use crate::leaf::{begin_string, read_leaf};
+use crate::segments::Segments;
 use octets::{Class, MAX_ENCODING, Tag};
 use std::alloc::Global;
-use types::{Ty, WellTyped};
+use types::{Refusal, Ty, WellTyped};
 
 const OCTET_STRING: Tag = Tag {
     class: Class::Universal,
@@ -40,6 +43,18 @@ fn leaf_tag(ty: &Ty) -> Tag
     }
 }
 
+// How many octets complete the string.
+fn segments_of(mut segments: Segments, kind: Kind, octets: &[u8]) -> Result<usize, Refusal>
+    requires { IsSound kind segments }
+    ensures { IfOk result (λ used. used ≤ length octets.now) }
+{
+    let mut at = 0;
+    while !segments.is_closed() {
+        at += segments.pass(kind, &octets[at..])?;
+    }
+    Ok(at)
+}
+
 // Reads a part behind `taken` octets of what ends at `end`: how many octets it has, or the refusal's number.
 fn part(
     alloc: Global,
@@ -58,18 +73,22 @@ fn part(
         Ok(found) => found,
         Err(refusal) => return Some(Err(refusal.number())),
     };
-    let read = read_leaf(
-        alloc,
-        node,
-        identifier,
-        constructed,
-        end,
-        taken,
-        levels,
-        octets,
-    );
+    let read = if constructed {
+        match begin_string(alloc, node, identifier, end, taken, levels, octets) {
+            Ok((kind, segments, used)) => match segments_of(segments, kind, &octets[used..]) {
+                Ok(more) => Ok(used + more),
+                Err(refusal) => Err(refusal),
+            },
+            Err(refusal) => Err(refusal),
+        }
+    } else {
+        match read_leaf(alloc, node, identifier, end, taken, octets) {
+            Ok((_, used)) => Ok(used),
+            Err(refusal) => Err(refusal),
+        }
+    };
     match read {
-        Ok((_, used)) => Some(Ok(used)),
+        Ok(used) => Some(Ok(used)),
         Err(refusal) => Some(Err(refusal.number())),
     }
 }

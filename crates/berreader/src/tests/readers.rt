@@ -2,11 +2,12 @@
 
 ghost use Rattle.std.specs.Prelude.{◌≤◌};
 
-use super::universal;
+use super::{Answer, bit_string, is_answer, octet_string, universal};
 use crate::{Reader, Step, read};
 use octets::{Class, Tag};
 use std::alloc::Global;
 use std::test::Fail;
+use strings::{TextKind, TimeKind};
 use types::{Refusal, Ty, Value, WellTyped};
 
 // SEQUENCE OF [1] OCTET STRING
@@ -49,11 +50,14 @@ fn read_whole(alloc: Global, ty: &WellTyped, octets: &[u8]) -> Come {
     }
 }
 
-// Whether the octets come to the same in one piece, in two, and in pieces of one octet, as `read` answers.
+// Whether the octets come to the same in one piece, in two, and in pieces of one to three octets, as `read`
+// answers.
 pub fn comes_as_read(alloc: Global, ty: &WellTyped, octets: &[u8]) -> bool {
     let want = read_whole(alloc, ty, octets);
-    if feed_all(&mut Reader::new(alloc, ty), octets, 1) != want {
-        return false;
+    for size in 1..=3 {
+        if feed_all(&mut Reader::new(alloc, ty), octets, size) != want {
+            return false;
+        }
     }
     for cut in 0..octets.len() {
         if feed_cut(&mut Reader::new(alloc, ty), octets, cut) != want {
@@ -150,5 +154,159 @@ fn refusals_are_repeated(rt: HostRuntime) -> Result<(), Fail> {
     assert_eq!(rt; told(&mut reader, &[]), 104);
     assert_eq!(rt; told(&mut reader, TWO_STRINGS), 104);
     assert_eq!(rt; reader.finish(), Err(Refusal::Length));
+    Ok(())
+}
+
+// Feeds octet by octet, and puts down what the last comes to, if each before it completes nothing and leaves a value
+// begun.
+fn told_at_last(reader: &mut Reader<'_>, octets: &[u8]) -> Option<usize> {
+    let (last, front) = octets.split_last()?;
+    for octet in front {
+        if told(reader, &[*octet]) != 0 || reader.finish() != Err(Refusal::Truncated) {
+            return None;
+        }
+    }
+    Some(told(reader, &[*last]))
+}
+
+#[test]
+fn strings_that_pieces_cut(rt: HostRuntime) -> Result<(), Fail> {
+    let alloc = rt.alloc();
+    let visible = Ty::Text(universal(26), TextKind::Visible);
+    // (type, octets, the string's octets, how many bits of the last are unused)
+    let cases: [(Ty, &[u8], &[u8], u8); 5] = [
+        (
+            octet_string(),
+            &[
+                0x24, 0x80, 0x24, 0x06, 0x04, 0x01, 0x41, 0x04, 0x01, 0x42, 0x24, 0x80, 0x04, 0x02,
+                0x43, 0x44, 0x00, 0x00, 0x04, 0x00, 0x00, 0x00,
+            ],
+            b"ABCD",
+            0,
+        ),
+        (
+            octet_string(),
+            &[
+                0x24, 0x0F, 0x24, 0x80, 0x24, 0x03, 0x04, 0x01, 0x41, 0x00, 0x00, 0x24, 0x04, 0x04,
+                0x02, 0x42, 0x43,
+            ],
+            b"ABC",
+            0,
+        ),
+        (
+            bit_string(),
+            &[
+                0x23, 0x80, 0x03, 0x03, 0x00, 0xAA, 0xBB, 0x23, 0x80, 0x03, 0x02, 0x00, 0xCC, 0x00,
+                0x00, 0x23, 0x04, 0x03, 0x02, 0x04, 0xFF, 0x00, 0x00,
+            ],
+            &[0xAA, 0xBB, 0xCC, 0xF0],
+            4,
+        ),
+        (
+            bit_string(),
+            &[0x23, 0x08, 0x03, 0x02, 0x00, 0xAA, 0x03, 0x02, 0x07, 0x80],
+            &[0xAA, 0x80],
+            7,
+        ),
+        (
+            visible,
+            &[
+                0x3A, 0x80, 0x04, 0x01, 0x4A, 0x24, 0x80, 0x04, 0x01, 0x6F, 0x00, 0x00, 0x00, 0x00,
+            ],
+            b"Jo",
+            0,
+        ),
+    ];
+    for (ty, octets, want, unused) in cases {
+        let ty = WellTyped::new(ty)?;
+        let answer = Answer {
+            used: octets.len(),
+            octets: want,
+            unused,
+        };
+        assert!(rt;
+            is_answer(&read(alloc, &ty, octets), &answer),
+            "at {octets:?}"
+        );
+        assert!(rt; comes_as_read(alloc, &ty, octets), "at {octets:?}");
+        let last = told_at_last(&mut Reader::new(alloc, &ty), octets);
+        assert_eq!(rt; last, Some(1), "at {octets:?}");
+    }
+    Ok(())
+}
+
+#[test]
+fn refusals_in_strings_that_pieces_cut(rt: HostRuntime) -> Result<(), Fail> {
+    let alloc = rt.alloc();
+    let visible = Ty::Text(universal(26), TextKind::Visible);
+    // (type, octets, what the last of them is told)
+    let cases: [(Ty, &[u8], usize); 9] = [
+        (octet_string(), &[0x24, 0x80, 0x04, 0x01, 0x41, 0x1A], 102),
+        (
+            octet_string(),
+            &[0x24, 0x80, 0x04, 0x01, 0x41, 0x04, 0x80],
+            103,
+        ),
+        (
+            octet_string(),
+            &[0x24, 0x05, 0x04, 0x01, 0x41, 0x04, 0x01],
+            104,
+        ),
+        (
+            octet_string(),
+            &[0x24, 0x80, 0x04, 0x01, 0x41, 0x00, 0x01],
+            105,
+        ),
+        (
+            octet_string(),
+            &[0x24, 0x80, 0x24, 0x03, 0x04, 0x01, 0x41, 0x00, 0x01],
+            105,
+        ),
+        (
+            bit_string(),
+            &[0x23, 0x80, 0x03, 0x02, 0x04, 0xF0, 0x03],
+            106,
+        ),
+        (
+            visible,
+            &[0x3A, 0x80, 0x04, 0x01, 0x4A, 0x04, 0x01, 0x7F, 0x00, 0x00],
+            107,
+        ),
+        (
+            Ty::Time(universal(23), TimeKind::Utc),
+            &[0x37, 0x06, 0x04, 0x01, 0x32, 0x04, 0x01, 0x34],
+            107,
+        ),
+        (
+            octet_string(),
+            &[0x24, 0x80, 0x04, 0x01, 0x41, 0x04, 0x83, 0x0F, 0xFF, 0xF5],
+            111,
+        ),
+    ];
+    for (ty, octets, want) in cases {
+        let ty = WellTyped::new(ty)?;
+        assert!(rt; comes_as_read(alloc, &ty, octets), "at {octets:?}");
+        let last = told_at_last(&mut Reader::new(alloc, &ty), octets);
+        assert_eq!(rt; last, Some(want), "at {octets:?}");
+    }
+    Ok(())
+}
+
+#[test]
+fn no_value_ends_within_a_string(rt: HostRuntime) -> Result<(), Fail> {
+    let ty = WellTyped::new(octet_string())?;
+    let mut reader = Reader::new(rt.alloc(), &ty);
+    let pieces: [&[u8]; 4] = [
+        &[0x24, 0x80],
+        &[0x04, 0x01, 0x41],
+        &[0x24, 0x80],
+        &[0x00, 0x00],
+    ];
+    for piece in pieces {
+        assert_eq!(rt; told(&mut reader, piece), 0, "at {piece:?}");
+        assert_eq!(rt; reader.finish(), Err(Refusal::Truncated), "at {piece:?}");
+    }
+    assert_eq!(rt; told(&mut reader, &[0x00, 0x00]), 2);
+    assert_eq!(rt; reader.finish(), Ok(()));
     Ok(())
 }

@@ -37,7 +37,7 @@ returns-clause-taken c = λ octets there e.
     let counted = c.in-Some.ensures.counted c.requires.sound.counted in
     let popped : IsPopped old mid layer = record { sound = c.requires.sound; layers = c.in-Some.ensures.layers; type = refl; taken = refl; counted = counted } in
     let v = value_view c.in_ok-value.value in
-    step_come old mid c.come.new.self octets layer.type layer.tag v c.args.used c.in_ok-come.field-0 (ready_popped old mid layer octets v c.args.used popped c.in_ok-value.ensures.value there e) c.in_ok-come.ensures.come
+    step_come old mid c.come.new.self octets layer.type layer.tag v c.args.used c.come.new.whole c.in_ok-come.field-0 (ready_popped old mid layer octets v c.args.used popped c.in_ok-value.ensures.value there e) c.in_ok-come.ensures.come
 
 pub returns-clause-sound : goal.returns-clause-sound
 returns-clause-sound c =
@@ -47,5 +47,5 @@ returns-clause-sound c =
     let counted = c.in-Some.ensures.counted c.requires.sound.counted in
     let popped : IsPopped old mid layer = record { sound = c.requires.sound; layers = c.in-Some.ensures.layers; type = refl; taken = refl; counted = counted } in
     let v = value_view c.in_ok-value.value in
-    sound_come_nest mid c.come.new.self layer.type layer.tag v c.args.used c.in_ok-come.field-0 (sound_popped old mid layer popped)
+    sound_come_nest mid c.come.new.self layer.type layer.tag v c.args.used c.come.new.whole c.in_ok-come.field-0 (sound_popped old mid layer popped)
     (room_popped old mid layer c.requires.ends.0 c.args.used popped c.requires.ends.1 c.requires.ends.2) (c.in_ok-come.ensures.counted counted) c.in_ok-come.ensures.come

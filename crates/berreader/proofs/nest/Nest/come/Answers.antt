@@ -1,28 +1,27 @@
-use Rattle.std.proofs.Common.{refl, sym, subst}
+use Rattle.octets.proofs.ResultLemmas.{IfOk-map}
+use Rattle.octets.specs.declared.tag.Tag.{Tag}
+use Rattle.types.specs.Shape.{Shape, Val}
 use Rattle.types.specs.View.{ty_view, value_view}
-use Rattle.berreader.specs.Stack.{layers_of}
-use Rattle.berreader.specs.Nest.{IsWrapped}
-use Rattle.berreader.proofs.NestStepLemmas.{come_inside}
+use Rattle.berreader.specs.Nest.{IsCome, IsWrapped}
 use Rattle.berreader.proofs.nest.Nest.come.Goals as goal
 
-pub returns-in-None-clause-come : goal.returns-in-None-clause-come
-returns-in-None-clause-come c =
-    let put = rw c.in-None.is at c.in_ok-put.ensures.put in
-    record {
-      used_is = refl;
-      type_is = refl;
-      taken = refl;
-      come = come_inside (layers_of c.args.self.now.layers) (layers_of c.put.new.self) (ty_view c.args.ty.now) c.args.tag (value_view c.args.value) (value_view c.in_ok-wrapped.wrapped) c.in_ok-wrapped.ensures put;
-    }
+pub returns-then-is_node-clause-come : goal.returns-then-is_node-clause-come
+returns-then-is_node-clause-come c =
+    let old = c.args.self.now in
+    let new = c.put.new.self in
+    let v = value_view c.args.value in
+    let used = c.args.used in
+    let whole = c.put.new.whole in
+    IfOk-map c.put.result (λ n. (type : Shape) (tag : Tag) (u : Val) → IsWrapped type tag u v → IsCome old new type tag u used whole n) (λ n. IsCome old new (ty_view c.args.ty.now) c.args.tag v used whole n)
+    (λ n h. h (ty_view c.args.ty.now) c.args.tag v (c.is_node.ensures c.if-is_node.true c.args.tag v)) c.put.ensures.come
 
-pub returns-in-Some-clause-come : goal.returns-in-Some-clause-come
-returns-in-Some-clause-come c =
-    let put = rw c.in-Some.is at c.in_ok-put.ensures.put in
-    record {
-      used_is = refl;
-      type_is = refl;
-      wraps = subst (λ w. IsWrapped (ty_view c.args.ty.now) c.args.tag (value_view c.args.value) (value_view w)) (sym put.0) c.in_ok-wrapped.ensures;
-      before = put.1;
-      layers = put.2;
-      taken = refl;
-    }
+pub returns-clause-come : goal.returns-clause-come
+returns-clause-come c =
+    let old = c.args.self.now in
+    let new = c.put-2.new.self in
+    let v = value_view c.args.value in
+    let w = value_view c.in_ok-wrapped.wrapped in
+    let used = c.args.used in
+    let whole = c.put-2.new.whole in
+    IfOk-map c.put-2.result (λ n. (type : Shape) (tag : Tag) (u : Val) → IsWrapped type tag u w → IsCome old new type tag u used whole n) (λ n. IsCome old new (ty_view c.args.ty.now) c.args.tag v used whole n)
+    (λ n h. h (ty_view c.args.ty.now) c.args.tag v c.in_ok-wrapped.ensures) c.put-2.ensures.come

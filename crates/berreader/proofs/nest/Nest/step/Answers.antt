@@ -14,5 +14,5 @@ returns-in-Ok-Some-clause-never c =
     let used = c.in-Ok-Some.used in
     let found = rw c.in-Ok-Some.field-0-is at c.in-Ok-Some.ensures.value in
     IfErr-map c.close.result (λ refusal. IsFinal refusal → (all : List ℕ) → EndsInside (layers_of nest.layers) nest.taken all → CanFinish nest all → ⊥) (λ refusal. IsFinal refusal → (more : List ℕ) → CanFinish nest (octets ++ more) → ⊥)
-    (λ refusal none final more h. none final (octets ++ more) (ends_of (layers_of nest.layers) nest.taken (octets ++ more) (take used octets) (drop used octets ++ more) found.1 (front_of_more used octets more)) h)
+    (λ refusal never final more. never final (octets ++ more) (ends_of (layers_of nest.layers) nest.taken (octets ++ more) (take used octets) (drop used octets ++ more) found.1 (front_of_more used octets more)))
     c.close.ensures.never

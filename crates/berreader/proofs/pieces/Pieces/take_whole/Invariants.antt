@@ -1,5 +1,5 @@
 use Rattle.std.proofs.Common.{◌+◌, ◌*◌, ◌-◌, length}
-use Rattle.berreader.specs.Stack.{layers_of}
+use Rattle.berreader.specs.Cursor.{ends_of}
 use Rattle.berreader.proofs.FeedingLemmas.{IsOnTheWay}
 use Rattle.berreader.proofs.pieces.Pieces.take_whole.Given as goal
 
@@ -7,4 +7,4 @@ abbrev pub invariant-loop-used : goal.invariant-loop-used
 invariant-loop-used l = IsOnTheWay l.initial.self l.self l.octets l.at
 
 abbrev pub decreases-loop-used : goal.decreases-loop-used
-decreases-loop-used l = length (layers_of l.self.nest.layers) + 2 * (length l.octets - l.at)
+decreases-loop-used l = ends_of l.self.cursor + 2 * (length l.octets - l.at)

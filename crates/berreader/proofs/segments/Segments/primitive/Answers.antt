@@ -47,5 +47,5 @@ returns-clause-taken c =
     let end = c.in_ok-start.end in
     let new : Segments = record { frames = old.frames; levels = old.levels; taken = old.taken + end; joined = c.join.new.self } in
     taken_primitive c.args.kind old new c.args.frame c.requires.top.0 octets (slice_range octets start end) end refl c.requires.top.1 c.requires.top.1 refl
-    c.in_ok-start.ensures.bounds.1 c.in_ok-start.ensures.bounds.2 (whole_held c.args.kind old.joined.octets.items old.joined.unused c.requires.whole) c.requires.no_end
-    (c.in_ok-start.ensures.value (segment_of c.args.kind) c.requires.tagged.tagged) c.in_ok-join.ensures.joined
+    c.in_ok-start.ensures.bounds.1 c.in_ok-start.ensures.bounds.2 (whole_held c.args.kind old.joined.octets.items old.joined.unused c.requires.whole)
+    (c.in_ok-start.ensures.value (segment_of c.args.kind) c.requires.tagged.tagged) c.in_ok-join.ensures.joined c.in_ok-join.ensures.light

@@ -1,11 +1,8 @@
-use Rattle.std.proofs.Common.{◌≡◌, ◌≤◌, ◌+◌, ◌∷◌, ◌++◌, All, Err, refl, sym, ap, subst}
-use Rattle.std.proofs.lemmas.List.Elements.{All-tail}
-use Rattle.octets.specs.declared.TheConstants.{MAX_ENCODING}
+use Rattle.std.proofs.Common.{◌≡◌, ◌+◌, ◌++◌, Err, refl, ap}
 use Rattle.types.specs.declared.refusal.Refusal.TheVariants.{Truncated}
-use Rattle.berreader.specs.declared.frame.Frame.{Frame}
 use Rattle.berreader.specs.declared.segments.Segments.{Segments}
 use Rattle.berreader.proofs.EndLemmas.{segment_above}
-use Rattle.berreader.proofs.SegmentsLemmas.{first_of, taken_end}
+use Rattle.berreader.proofs.SegmentsLemmas.{first_of, sound_end, taken_end}
 use Rattle.berreader.proofs.segments.Segments.step.Goals as goal
 
 pub returns-in-Ok-Some-clause-taken : goal.returns-in-Ok-Some-clause-taken
@@ -18,11 +15,11 @@ returns-in-Ok-Some-clause-taken c =
 
 pub returns-in-Ok-Some-clause-sound : goal.returns-in-Ok-Some-clause-sound
 returns-in-Ok-Some-clause-sound c =
-    let within : All (λ (f : Frame). f.end ≤ MAX_ENCODING) (c.args.frame ∷ c.requires.top.0) = subst (All (λ (f : Frame). f.end ≤ MAX_ENCODING)) c.requires.top.1 c.requires.sound.within in
-    record {
-      within = subst (All (λ (f : Frame). f.end ≤ MAX_ENCODING)) (sym (c.close.ensures c.args.frame c.requires.top.0 c.requires.top.1)) (All-tail (λ (f : Frame). f.end ≤ MAX_ENCODING) c.args.frame c.requires.top.0 within);
-      held = c.requires.sound.held;
-    }
+    let old = c.args.self.now in
+    let used = c.in-Ok-Some.used in
+    let new : Segments = record { frames = c.close.new.frames; levels = old.levels; taken = old.taken + used; joined = old.joined } in
+    let found = rw c.in-Ok-Some.field-0-is at c.in-Ok-Some.ensures.value in
+    sound_end c.args.kind old new c.args.frame c.requires.top.0 c.args.octets.now used refl c.requires.top.1 (c.close.ensures c.args.frame c.requires.top.0 c.requires.top.1) refl refl found.0 found.1 c.requires.sound
 
 pub returns-in-Err-clause-truncated : goal.returns-in-Err-clause-truncated
 returns-in-Err-clause-truncated c = λ same h.
