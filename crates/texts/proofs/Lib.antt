@@ -1,4 +1,5 @@
 pub mod TextLemmas
+pub mod AppendLemmas
 pub mod PlainLemmas
 pub mod ShownLemmas
 mod TextInstances

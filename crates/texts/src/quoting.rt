@@ -1,13 +1,17 @@
 //! Texts of strings.
 
-ghost use Rattle.std.specs.Prelude.{◌≡◌, ◌≤◌, ◌<◌, ◌++◌, OnOk, map, string_bytes, take, true};
+ghost use Rattle.std.specs.Prelude.{◌≡◌, ◌≤◌, ◌<◌, ◌++◌, IsAscii, IsTrue, OnOk, flat_map, length, map, string_bytes, take, true};
 ghost use Rattle.primitives.specs.Bits.{bit_of, bits_of_octet, bits_before};
 ghost use Rattle.texts.specs.Leaf.{bit_digit as digit_of_bit, hex_digit as digit_of_hex, bits_text, octets_text, hex_digits, quoted_octet, quoted_text, are_printable, readable_text, text_of_kind};
 
 use octets::NoMemory;
 use primitives::Bits;
+use std::str;
 use std::string::String;
 use strings::TextKind;
+
+// How many octets become digits before these are appended.
+const AT_ONCE: usize = 64;
 
 // The place values of the bits of an octet, bit 8 first.
 const PLACES: [u8; 8] = [128, 64, 32, 16, 8, 4, 2, 1];
@@ -60,28 +64,46 @@ fn bit_digit(octet: u8, place: u8) -> char
 pub(crate) fn put_octets(octets: &[u8], out: &mut String) -> Result<(), NoMemory>
     ensures { OnOk result (string_bytes out.new ≡ string_bytes out.old ++ octets_text octets.now) }
 {
+    out.reserve(octets.len().saturating_mul(2).saturating_add(3))?;
     out.push_str("'")?;
-    for octet in octets {
-        put_octet(*octet, out)?;
+    for chunk in octets.chunks(AT_ONCE) {
+        put_hex_digits(chunk, out)?;
     }
     out.push_str("'H")?;
     Ok(())
 }
 
-fn put_octet(octet: u8, out: &mut String) -> Result<(), NoMemory>
-    ensures { OnOk result (string_bytes out.new ≡ string_bytes out.old ++ hex_digits octet) }
+// Appends the digits of a few octets.
+fn put_hex_digits(octets: &[u8], out: &mut String) -> Result<(), NoMemory>
+    requires { length octets.now ≤ 64 }
+    ensures { OnOk result (string_bytes out.new ≡ string_bytes out.old ++ flat_map hex_digits octets.now) }
 {
-    out.push(hex_digit(octet / 16))?;
-    out.push(hex_digit(octet % 16))?;
-    Ok(())
+    let mut digits = [0u8; 2 * AT_ONCE];
+    for (place, octet) in octets.iter().enumerate() {
+        digits[2 * place] = hex_digit(octet / 16);
+        digits[2 * place + 1] = hex_digit(octet % 16);
+    }
+    put_ascii(&digits[..2 * octets.len()], out)
 }
 
-fn hex_digit(value: u8) -> char
+fn hex_digit(value: u8) -> u8
     requires { value < 16 }
     ensures value { result ≡ digit_of_hex value }
     ensures ascii { result < 128 }
 {
-    char::from(if value < 10 { 48 + value } else { 55 + value })
+    if value < 10 { 48 + value } else { 55 + value }
+}
+
+// Appends characters of ASCII.
+fn put_ascii(octets: &[u8], out: &mut String) -> Result<(), NoMemory>
+    requires { IsAscii octets.now }
+    ensures { OnOk result (string_bytes out.new ≡ string_bytes out.old ++ octets.now) }
+{
+    let Ok(text) = str::from_utf8(octets) else {
+        unreachable!();
+    };
+    out.push_str(text)?;
+    Ok(())
 }
 
 // Appends the characters of a character string in double quotes, or where they are not readable its
@@ -113,34 +135,58 @@ pub(crate) fn put_readable(octets: &[u8], out: &mut String) -> Result<(), NoMemo
 fn is_readable(octets: &[u8]) -> bool
     ensures { result ≡ are_printable octets.now }
 {
+    let mut are_readable = true;
     for octet in octets {
         if *octet < 32 || *octet > 126 {
-            return false;
+            are_readable = false;
         }
     }
-    true
+    are_readable
 }
 
 fn put_quoted(octets: &[u8], out: &mut String) -> Result<(), NoMemory>
     requires { are_printable octets.now ≡ true }
     ensures { OnOk result (string_bytes out.new ≡ string_bytes out.old ++ quoted_text octets.now) }
 {
-    out.push('"')?;
-    for octet in octets {
-        put_character(*octet, out)?;
+    out.reserve(octets.len().saturating_add(2))?;
+    out.push_str("\"")?;
+    for chunk in octets.chunks(AT_ONCE) {
+        put_characters(chunk, out)?;
     }
-    out.push('"')?;
+    out.push_str("\"")?;
     Ok(())
 }
 
-fn put_character(octet: u8, out: &mut String) -> Result<(), NoMemory>
-    requires { octet < 128 }
-    ensures { OnOk result (string_bytes out.new ≡ string_bytes out.old ++ quoted_octet octet) }
+// Appends the characters of a few octets, each quote twice.
+fn put_characters(octets: &[u8], out: &mut String) -> Result<(), NoMemory>
+    requires few { length octets.now ≤ 64 }
+    requires ascii { IsAscii octets.now }
+    ensures { OnOk result (string_bytes out.new ≡ string_bytes out.old ++ flat_map quoted_octet octets.now) }
 {
-    if octet == b'"' {
-        out.push_str("\"\"")?;
-    } else {
-        out.push(char::from(octet))?;
+    if has_no_quote(octets) {
+        return put_ascii(octets, out);
     }
-    Ok(())
+    let mut characters = [0u8; 2 * AT_ONCE];
+    let mut count = 0;
+    for octet in octets {
+        characters[count] = *octet;
+        count += 1;
+        if *octet == b'"' {
+            characters[count] = *octet;
+            count += 1;
+        }
+    }
+    put_ascii(&characters[..count], out)
+}
+
+fn has_no_quote(octets: &[u8]) -> bool
+    ensures { IsTrue result → flat_map quoted_octet octets.now ≡ octets.now }
+{
+    let mut has_none = true;
+    for octet in octets {
+        if *octet == b'"' {
+            has_none = false;
+        }
+    }
+    has_none
 }

@@ -1,6 +1,12 @@
-use Rattle.std.proofs.Common.{◌≡◌, ◌++◌, take, string_bytes, flat_map}
+use Rattle.std.proofs.Common.{◌≡◌, ◌++◌, string_bytes, flat_map}
+use Rattle.std.specs.Slice.Iter.{chunks_rest, chunks_size}
 use Rattle.texts.specs.Leaf.{hex_digits}
 use Rattle.texts.proofs.quoting.put_octets.Given as goal
 
-abbrev pub invariant-loop-octet : goal.invariant-loop-octet
-invariant-loop-octet l = string_bytes l.out ≡ string_bytes l.initial.out ++ flat_map hex_digits (take l.octet-index l.octets)
+-- what is left is appended to what stands
+abbrev pub invariant-loop-chunk : goal.invariant-loop-chunk
+invariant-loop-chunk l =
+    goal.iterator-loop-chunk.can_next l.chunk-iterator
+    × goal.iterator-loop-chunk.is_finite l.chunk-iterator
+    × (chunks_size l.chunk-iterator ≡ 64)
+    × (string_bytes l.out ++ flat_map hex_digits (chunks_rest l.chunk-iterator) ≡ string_bytes l.initial.out ++ flat_map hex_digits l.octets)
