@@ -1,7 +1,11 @@
 -- What type expressions of the code stand for, level by level.
-use Rattle.std.proofs.Common.{◌≡◌, Box, Global, String, string_bytes, rules}
-use Rattle.syntax.specs.Tree.{tagged, of, reference}
-use Rattle.syntax.specs.View.{form}
+use Rattle.std.proofs.Common.{◌≡◌, Box, Global, String, Vec, map, string_bytes, rules}
+use Rattle.syntax.specs.Tree.{tagged, list, of, choice, enumerated, simple, reference}
+use Rattle.syntax.specs.View.{form, component, alternative, entry, components_of, alternatives_of}
+use Rattle.syntax.specs.declared.tree.Component.{Component}
+use Rattle.syntax.specs.declared.tree.Alternative.{Alternative}
+use Rattle.syntax.specs.declared.tree.Item.{Item}
+use Rattle.syntax.specs.declared.tree.Simple.{Simple}
 use Rattle.syntax.specs.declared.tree.Group.{Group}
 use Rattle.syntax.specs.declared.tree.TagPrefix.{TagPrefix}
 use Rattle.syntax.specs.declared.tree.Expr.{Expr}
@@ -15,3 +19,15 @@ form-Of group inner = search (rules, expr.the_lemmas)
 
 pub form-Reference : (name : String Global) → form (expr.Reference name) ≡ reference (string_bytes name)
 form-Reference name = search (rules, expr.the_lemmas)
+
+pub form-List : (group : Group) (components : Vec Component Global) → form (expr.List group components) ≡ list group (components_of (map component components.items))
+form-List group components = search (rules, expr.the_lemmas)
+
+pub form-Choice : (alternatives : Vec Alternative Global) → form (expr.Choice alternatives) ≡ choice (alternatives_of (map alternative alternatives.items))
+form-Choice alternatives = search (rules, expr.the_lemmas)
+
+pub form-Enumerated : (items : Vec Item Global) → form (expr.Enumerated items) ≡ enumerated (map entry items.items)
+form-Enumerated items = search (rules, expr.the_lemmas)
+
+pub form-Simple : (words : Simple) → form (expr.Simple words) ≡ simple words
+form-Simple words = search (rules, expr.the_lemmas)

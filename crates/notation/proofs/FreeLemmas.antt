@@ -1,5 +1,5 @@
 -- The next free number, found by passing the written ones in order.
-use Rattle.std.proofs.Common.{◌≡◌, ◌<◌, ◌≤◌, ◌≤ℤ◌, ◌<ℤ◌, ◌+ℤ◌, ◌+◌, ◌⊎◌, inl, inr, ℕ, zero, suc, ℤ, pos, Bool, true, false, List, [], ◌∷◌, length, get_or, Contains, FitsSigned, to_z, of_z, ◌≢◌, refl, sym, ap, ◌∙◌, subst, arith}
+use Rattle.std.proofs.Common.{◌≡◌, ◌<◌, ◌≤◌, ◌≤ℤ◌, ◌<ℤ◌, ◌+ℤ◌, ◌+◌, inl, inr, ℕ, zero, suc, ℤ, pos, true, false, List, [], ◌∷◌, length, get_or, Contains, FitsSigned, to_z, of_z, refl, sym, ap, ◌∙◌, subst, arith}
 use Rattle.std.specs.List.Sorted.{IsSorted}
 use Rattle.std.specs.declared.cmp.Ordering.{Ordering}
 use Rattle.std.specs.declared.cmp.Ordering.TheVariants.{Less, Equal, Greater}
@@ -12,7 +12,7 @@ use Rattle.std.proofs.lemmas.Int.{ints, by_lt_z, to_z-of_z}
 use Rattle.std.proofs.lemmas.Bool.{cases_lt}
 use Rattle.std.proofs.lemmas.List.Sorted.{sorted_far, ranks_by}
 use Rattle.std.proofs.lemmas.List.Elements.{Contains-get_or}
-use Rattle.notation.specs.Written.{IsPassed, IsFree}
+use Rattle.notation.specs.Written.{IsPassed, IsFree, farthest}
 
 -- all that lies from the start to the next one is written
 pub record IsUnderWay (written : List ℤ) (from : ℤ) (passed : ℕ) (next : ℤ) : Type 0 where
@@ -81,7 +81,7 @@ under_way-equal written from passed next within here h = record {
       subst (λ (n : ℤ). Contains written n) (here ∙ sym same) (Contains-get_or written passed (pos 0) within));
 }
 
-not_below_by : (a b : ℤ) (r : Ordering) → is_lt r ≡ false → MatchOrdering r (a <ℤ b) (a ≡ b) (b <ℤ a) → a <ℤ b → ⊥
+pub not_below_by : (a b : ℤ) (r : Ordering) → is_lt r ≡ false → MatchOrdering r (a <ℤ b) (a ≡ b) (b <ℤ a) → a <ℤ b → ⊥
 not_below_by a b Less never told less = absurd (cc never)
 not_below_by a b Equal never told less = absurd (omega (arith, ints, told, less))
 not_below_by a b Greater never told less = absurd (omega (arith, ints, told, less))
@@ -109,3 +109,10 @@ under_way-passed written from passed next h = record {
   within = h.so_far.within;
   below = λ place d less. let b = h.so_far.below place d less in omega (arith, ints, b);
 }
+
+-- each number that is passed is left to pass no more
+pub farthest-equal : (written : List ℤ) (passed : ℕ) (next most : ℤ) → passed < length written → farthest written passed next ≤ℤ most → farthest written (passed + 1) (next +ℤ pos 1) ≤ℤ most
+farthest-equal written passed next most within h = omega (arith, ints, within, h)
+
+pub farthest-below : (written : List ℤ) (passed : ℕ) (next most : ℤ) → farthest written passed next ≤ℤ most → farthest written (passed + 1) next ≤ℤ most
+farthest-below written passed next most h = omega (arith, ints, h)

@@ -1,27 +1,24 @@
 -- What a scope tells of the names of its module.
-use Rattle.std.proofs.Common.{◌≡◌, ◌<◌, ℕ, Bool, true, false, List, [], ◌∷◌, Option, Some, None, map, slice_get, get_or, position, length, refl, sym, ap, ◌∙◌, subst, Contains}
+use Rattle.std.proofs.Common.{◌≡◌, ℕ, List, [], ◌∷◌, Option, Some, None, map, slice_get, get_or, position, refl, sym, ap, ◌∙◌, subst, Contains}
 use Rattle.std.specs.Str.{bytes_eq}
 use Rattle.std.proofs.lemmas.Slice.Eq.{bytes_eq-Decides}
 use Rattle.std.proofs.lemmas.List.Quantifiers.{position-Some}
 use Rattle.std.proofs.lemmas.Option.{slice_get-map, slice_get-get_or, slice_get_within, get_or_from_slice_get}
 use Rattle.std.proofs.lemmas.List.Elements.{Contains-get_or}
 use Rattle.std.specs.Prelude.{option_map, string_bytes, IfSome}
-use Rattle.octets.specs.declared.tag.Tag.{Tag}
 use Rattle.types.specs.Shape.{Shape}
-use Rattle.syntax.specs.Tree.{Form, reference, Tree}
+use Rattle.syntax.specs.Tree.{Form, reference}
 use Rattle.syntax.specs.View.{form, tree, assignment}
 use Rattle.syntax.specs.declared.tree.Assignment.{Assignment}
 use Rattle.syntax.specs.declared.tree.Module.{Module}
 use Rattle.notation.specs.Meaning.{IsAssigned, IsMeaning}
-use Rattle.notation.specs.Under.{IsRoot, MeansUnder}
+use Rattle.notation.specs.Under.{MeansUnder}
 use Rattle.notation.specs.Known.{LeadsTo, StandsAt, IsScope}
-use Rattle.notation.specs.declared.root.Root.{Root}
 use Rattle.notation.specs.declared.scope.Seen.{Seen}
 use Rattle.notation.specs.declared.scope.Scope.{Scope}
 use Rattle.notation.proofs.NameLemmas.{contains_map}
 use Rattle.notation.proofs.UniqueLemmas.{one_assignment}
 use Rattle.notation.proofs.UnderLemmas.{of_assigned, assigned-of}
-use Rattle.types.proofs.ListLemmas.{contains_first, contains_later}
 
 some-cases : {A : Type 0} {B : Type 0} (f : A → B) (o : Option A) (y : B) → option_map f o ≡ Some y → (a : A) × (o ≡ Some a) × (f a ≡ y)
 some-cases f None y e = absurd cc

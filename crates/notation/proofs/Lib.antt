@@ -18,6 +18,7 @@ pub mod LimitLemmas
 pub mod NeverLemmas
 pub mod KnownLemmas
 pub mod RootLemmas
+mod FittingLemmas
 pub mod FormLemmas
 pub mod ScopeLemmas
 pub mod TagInstances
@@ -30,4 +31,27 @@ pub mod SizeInstances
 pub mod WrittenLemmas
 pub mod ItemLemmas
 pub mod FreeLemmas
+mod AscendingLemmas
 pub mod EntryLemmas
+pub mod EnteredLemmas
+pub mod NewScopeLemmas
+pub mod GatherLemmas
+pub mod SettledLemmas
+pub mod WeighedLemmas
+pub mod WeighingLemmas
+pub mod PlaceLemmas
+pub mod SettlingLemmas
+pub mod LimitedLemmas
+pub mod RefusingLemmas
+pub mod UnresolvedLemmas
+pub mod WrittenTagLemmas
+pub mod ExpandingLemmas
+pub mod NothingLemmas
+pub mod ResolvingLemmas
+pub mod NumberedLemmas
+pub mod StrippedLemmas
+pub mod PackedLemmas
+pub mod BinaryLemmas
+pub mod BitStringLemmas
+pub mod QuoteLemmas
+pub mod TakenLemmas

@@ -15,7 +15,7 @@ use Rattle.syntax.specs.Tree.{Ending, Entry, Form, tagged, list, choice, enumera
 use Rattle.syntax.specs.View.{components_of as written_components, alternatives_of as written_alternatives}
 use Rattle.notation.specs.Universal.{enumerated_tag}
 use Rattle.notation.specs.Tagging.{tag_of, IsUntaggedChoice, tagged_implicitly}
-use Rattle.notation.specs.Numbering.{number_of, written_numbers, AreNumbered}
+use Rattle.notation.specs.Numbering.{number_of, written_numbers, AreWithin, NumbersDiffer, AreNumbered}
 use Rattle.notation.specs.Meaning.{NamesDiffer, list_of, IsMeaning, of_items}
 use Rattle.notation.specs.Parts.{AreFrom}
 use Rattle.notation.specs.Under.{IsUnder, MeansUnder, IsExplicitAt}
@@ -83,10 +83,6 @@ written_differ written from ((name, Some own) ∷ entries) (item ∷ items) h di
     (written_differ written from entries items h.3 (others_differ item.number (numbers items) differ))
 written_differ written from ((name, None) ∷ entries) (item ∷ items) h differ = written_differ written (suc h.1.0) entries items h.1.3 (others_differ item.number (numbers items) differ)
 
--- each written number is within its limits
-abbrev pub AreWithin : List Entry → Type 0
-AreWithin entries = (number : ℤ) → Contains (written_numbers entries) number → FitsSigned w128 number
-
 numbers_within : (written : List ℤ) (from : ℕ) (entries : List Entry) (items : List EnumerationItem) → AreNumbered written from entries items → AreWithin entries
 numbers_within written from [] [] h number c = absurd (not_in_nil number c)
 numbers_within written from [] (item ∷ items) h number c = absurd h
@@ -100,7 +96,7 @@ pub record HasGoodItems (entries : List Entry) : Type 0 where
   pub some : 1 ≤ length entries
   pub few : length entries ≤ 256
   pub names : NamesDiffer (map (λ (entry : Entry). entry.0) entries)
-  pub numbers_differ : AllPairs (λ (a b : ℤ). a ≢ b) (written_numbers entries)
+  pub numbers_differ : NumbersDiffer entries
   pub within : AreWithin entries
 
 good_items : (outer : Option Tag) (items : List EnumerationItem) (whole : Shape) → IsUnder outer (Shape.simple enumerated_tag (SimpleType.enumerated items)) whole → IsWellFormed whole

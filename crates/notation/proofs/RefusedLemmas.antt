@@ -8,7 +8,6 @@ use Rattle.types.specs.WellFormed.{nodes_of, levels_of, IsWellFormed}
 use Rattle.syntax.specs.declared.tree.Group.{Group}
 use Rattle.syntax.specs.declared.tree.Group.TheVariants.{Sequence, Set}
 use Rattle.syntax.specs.declared.tree.TagPrefix.{TagPrefix}
-use Rattle.syntax.specs.declared.tree.TagMode.TheVariants.{Implicit}
 use Rattle.syntax.specs.Tree.{Ending, Form, tagged, list, of, choice, reference, Tree}
 use Rattle.syntax.specs.View.{components_of as written_components, alternatives_of as written_alternatives}
 use Rattle.notation.specs.Tagging.{tag_of, IsUntaggedChoice, context}
@@ -16,7 +15,7 @@ use Rattle.notation.specs.Meaning.{NamesDiffer, component_names, alternative_nam
 use Rattle.notation.specs.Under.{IsUnder, outermost, IsExplicitAt, IsImplicitAt, IsRoot}
 use Rattle.notation.specs.Size.{counted, HaveSize}
 use Rattle.notation.specs.Refused.{HasNoType, NeverHasType, PartHasNoType, ComponentsHaveNoTypes, AlternativesHaveNoTypes}
-use Rattle.notation.proofs.UnderLemmas.{behind_tag, under_implicit, implicit-word, by_default-implicitly, by_default-explicitly}
+use Rattle.notation.proofs.UnderLemmas.{behind_tag, under_implicit, by_default-implicitly, by_default-explicitly}
 use Rattle.notation.proofs.ListLemmas.{automatic_in, automatic_among, list-meaning, choice-meaning, of-meaning}
 use Rattle.notation.proofs.SizeLemmas.{size_under}
 use Rattle.notation.proofs.WellFormedLemmas.{sequence_parts, set_parts, choice_parts, sequence_of_part, set_of_part, explicit_part}
@@ -55,12 +54,11 @@ never-explicit m prefix form explicit h outer whole d good =
 pub never-implicit : (m : Tree) (prefix : TagPrefix) (form : Form) → IsImplicitAt m prefix form → NeverHasType m form → NeverHasType m (tagged prefix form)
 never-implicit m prefix form implicit h outer whole d good = h (Some (outermost outer (tag_of prefix))) whole ((under_implicit m outer prefix form whole implicit).0 d) good
 
--- IMPLICIT in front of an untagged CHOICE means nothing
-pub never-implicit_choice : (m : Tree) (prefix : TagPrefix) (form : Form) → prefix.mode ≡ Implicit → ((type : Shape) → IsMeaning m form type → IsUntaggedChoice type) → NeverHasType m (tagged prefix form)
-never-implicit_choice m prefix form e choices outer whole d good =
+-- an implicit tag in front of an untagged CHOICE means nothing
+pub never-implicit_choice : (m : Tree) (prefix : TagPrefix) (form : Form) → IsImplicitAt m prefix form → ((type : Shape) → IsMeaning m form type → IsUntaggedChoice type) → NeverHasType m (tagged prefix form)
+never-implicit_choice m prefix form implicit choices outer whole d good =
     let b = behind_tag m prefix form d.type d.meaning in
-    let under = (implicit-word m prefix form e b.0 d.type b.1).0 b.2 in
-    under.0 (choices b.0 b.1)
+    ((implicit b.0 d.type b.1).0 b.2).0 (choices b.0 b.1)
 
 -- SEQUENCE OF and SET OF
 under_repeated : (group : Group) (outer : Option Tag) (type whole : Shape) → IsUnder outer (repeated group type) whole → IsWellFormed whole → IsWellFormed type

@@ -1,16 +1,14 @@
 -- What a type expression is at its root.
-use Rattle.std.proofs.Common.{◌≡◌, ◌↔◌, ℕ, Bool, true, false, IsTrue, List, Option, Some, None, refl, sym, ◌∙◌, subst}
+use Rattle.std.proofs.Common.{◌≡◌, ◌↔◌, ℕ, Bool, true, false, IsTrue, List, Option, Some, None, refl, sym, subst}
 use Rattle.std.proofs.lemmas.Bool.{false≢true}
 use Rattle.std.specs.Option.{option_or}
 use Rattle.octets.specs.declared.tag.Tag.{Tag}
 use Rattle.types.specs.Shape.{Shape}
-use Rattle.syntax.specs.declared.tree.Simple.{Simple}
 use Rattle.syntax.specs.declared.tree.TagPrefix.{TagPrefix}
-use Rattle.syntax.specs.declared.tree.TagMode.{TagMode}
 use Rattle.syntax.specs.Tree.{Form, tagged, list, of, choice, enumerated, simple, reference, Tree}
 use Rattle.notation.specs.Tagging.{tag_of, IsUntaggedChoice, tagged_implicitly}
 use Rattle.notation.specs.Meaning.{IsMeaning}
-use Rattle.notation.specs.Under.{IsUnder, MeansUnder, outermost, IsExplicitAt, IsImplicitAt, IsAtRoot, IsRoot}
+use Rattle.notation.specs.Under.{IsUnder, MeansUnder, outermost, IsImplicitAt, IsAtRoot, IsRoot}
 use Rattle.notation.specs.Known.{TellsChoice, IsChoice, IsReferenceTo, IsNoReference}
 use Rattle.notation.proofs.UnderLemmas.{no_choice-implicitly, under_both, both_under, under_implicit}
 use Rattle.notation.proofs.ChoiceLemmas.{choice-untagged, no_choice-tagged, no_choice-list, no_choice-of, no_choice-enumerated, no_choice-simple}

@@ -1,5 +1,5 @@
 -- What a scope tells of type expressions.
-use Rattle.std.proofs.Common.{◌≡◌, Bool, true, false, Option, Some, None, IfSome, refl, sym, ◌∙◌, subst}
+use Rattle.std.proofs.Common.{◌≡◌, Bool, true, false, Option, Some, None, IfSome, sym, ◌∙◌, subst}
 use Rattle.std.specs.Option.{option_or}
 use Rattle.octets.specs.declared.tag.Tag.{Tag}
 use Rattle.syntax.specs.declared.tree.TagPrefix.{TagPrefix}

@@ -12,3 +12,11 @@ pub mod Refused
 pub mod Known
 pub mod Waiting
 pub mod Written
+pub mod Names
+pub mod Settled
+pub mod Weighed
+pub mod Ordering
+pub mod Settling
+pub mod Made
+pub mod Digits
+pub mod Taken

@@ -1,5 +1,6 @@
 -- The numbers of an ENUMERATED's items (X.680 clause 20).
-use Rattle.std.specs.Prelude.{◌≡◌, ◌<◌, ◌≤◌, ⊤, ℕ, suc, ℤ, pos, neg_ℤ, List, [], ◌∷◌, Some, None, FitsSigned, Contains, if◌then◌else◌}
+use Rattle.std.specs.Prelude.{◌≡◌, ◌≢◌, ◌<◌, ◌≤◌, ⊤, ℕ, suc, ℤ, pos, neg_ℤ, List, [], ◌∷◌, Some, None, FitsSigned, Contains, if◌then◌else◌}
+use Rattle.std.specs.List.{AllPairs}
 use Rattle.std.specs.Int.{w128}
 use Rattle.types.specs.Shape.{EnumerationItem}
 use Rattle.syntax.specs.declared.tree.SignedNumber.{SignedNumber}
@@ -13,6 +14,13 @@ abbrev pub written_numbers : List Entry → List ℤ
 written_numbers [] = []
 written_numbers ((name, None) ∷ others) = written_numbers others
 written_numbers ((name, Some number) ∷ others) = number_of number ∷ written_numbers others
+
+-- each of them is of 128 bits in two's complement
+abbrev pub AreWithin : List Entry → Type 0
+AreWithin entries = (number : ℤ) → Contains (written_numbers entries) number → FitsSigned w128 number
+
+abbrev pub NumbersDiffer : List Entry → Type 0
+NumbersDiffer entries = AllPairs (λ number other. number ≢ other) (written_numbers entries)
 
 -- the first number from here on that is not written
 pub record IsNextFree (written : List ℤ) (from number : ℕ) : Type 0 where

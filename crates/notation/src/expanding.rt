@@ -1,6 +1,21 @@
 //! The type that an expression means.
 
+ghost use Rattle.std.specs.Prelude.{◌≢◌, suc, Option, IfOk, IfErr, map, None as Nothing};
+ghost use Rattle.types.specs.View.{ty_view, field_view, requirement_view};
+ghost use Rattle.types.specs.Shape.{Requirement};
+ghost use Rattle.syntax.specs.Tree.{Tree, list, choice, enumerated};
+ghost use Rattle.syntax.specs.View.{form, tree, component, alternative, components_of, alternatives_of, entry, ending};
+ghost use Rattle.notation.specs.Defaults.{IsRequirement};
+ghost use Rattle.notation.specs.Meaning.{IsMeaning};
+ghost use Rattle.notation.specs.Under.{MeansUnder};
+ghost use Rattle.notation.specs.Parts.{IsPart};
+ghost use Rattle.notation.specs.Made.{IsAround, IsRepeated, AreMade};
+ghost use Rattle.notation.specs.Known.{IsScope};
+ghost use Rattle.notation.specs.Settled.{IsSettled, MeansNothing};
+ghost use Rattle.notation.specs.Refused.{HasNoTypeWithin, PartHasNoTypeWithin};
+
 use crate::defaults::default_of;
+use crate::names::{alternatives_differ, components_differ, items_differ};
 use crate::numbering::numbered;
 use crate::root::tag_of;
 use crate::scope::Scope;
@@ -22,7 +37,10 @@ impl<'a> Scope<'a> {
         expr: &'a Expr,
         outer: Option<Tag>,
         depth: usize,
-    ) -> Result<Ty, Stop> {
+    ) -> Result<Ty, Stop>
+        ensures value { IfOk result (λ ty. IsScope self.now.module.now self.now → MeansUnder (tree self.now.module.now) outer (form expr.now) (ty_view ty)) }
+        ensures never { IfErr result (λ stop. stop ≢ Stop.NoMemory → IsSettled self.now.module.now self.now → HasNoTypeWithin (tree self.now.module.now) depth outer (form expr.now)) }
+    {
         let root = self.root_of(expr, outer).ok_or(Cause::UnknownType)?;
         let depth = depth.checked_sub(1).ok_or(Cause::TooLarge)?;
         match root.expr {
@@ -55,7 +73,10 @@ impl<'a> Scope<'a> {
     }
 
     #[cycle(expanding)]
-    fn explicit(&self, alloc: Global, tag: Tag, inner: &'a Expr, depth: usize) -> Result<Ty, Stop> {
+    fn explicit(&self, alloc: Global, tag: Tag, inner: &'a Expr, depth: usize) -> Result<Ty, Stop>
+        ensures value { IfOk result (λ ty. IsScope self.now.module.now self.now → IsAround (tree self.now.module.now) tag (form inner.now) (ty_view ty)) }
+        ensures never { IfErr result (λ stop. stop ≢ Stop.NoMemory → IsSettled self.now.module.now self.now → HasNoTypeWithin (tree self.now.module.now) depth Nothing (form inner.now)) }
+    {
         let inner = self.expand(alloc, inner, None, depth)?;
         Ok(Ty::Explicit(tag, Box::new(alloc, inner)?))
     }
@@ -68,7 +89,10 @@ impl<'a> Scope<'a> {
         tag: Tag,
         inner: &'a Expr,
         depth: usize,
-    ) -> Result<Ty, Stop> {
+    ) -> Result<Ty, Stop>
+        ensures value { IfOk result (λ ty. IsScope self.now.module.now self.now → IsRepeated (tree self.now.module.now) group tag (form inner.now) (ty_view ty)) }
+        ensures never { IfErr result (λ stop. stop ≢ Stop.NoMemory → IsSettled self.now.module.now self.now → HasNoTypeWithin (tree self.now.module.now) depth Nothing (form inner.now)) }
+    {
         let inner = self.expand(alloc, inner, None, depth)?;
         Ok(of_type(group, tag, Box::new(alloc, inner)?))
     }
@@ -79,12 +103,17 @@ impl<'a> Scope<'a> {
         alloc: Global,
         components: &'a [Component],
         depth: usize,
-    ) -> Result<Vec<Field>, Stop> {
+    ) -> Result<Vec<Field>, Stop>
+        ensures value { IfOk result (λ fields. IsScope self.now.module.now self.now → AreMade (tree self.now.module.now) (map component components.now) (map field_view fields.items)) }
+        ensures never { IfErr result (λ stop. stop ≢ Stop.NoMemory → IsSettled self.now.module.now self.now → (group : Group) (under : Option Tag) → HasNoTypeWithin (tree self.now.module.now) (suc depth) under (list group (components_of (map component components.now)))) }
+    {
+        if !components_differ(alloc, components)? {
+            return Err(Stop::Refused(Cause::RepeatedName));
+        }
         let automatic = self.is_automatic(are_components_tagged(components));
         let mut fields = Vec::with_capacity(alloc, components.len())?;
-        for (index, component) in (0u32..).zip(components) {
-            let tag = automatic_tag(automatic, index);
-            let ty = self.part(alloc, &component.body, tag, depth)?;
+        for (place, component) in components.iter().enumerate() {
+            let ty = self.part(alloc, automatic, place, &component.body, depth)?;
             let presence = presence_of(alloc, &ty, &component.presence)?;
             let name = component.name.clone()?;
             fields.push(Field { name, ty, presence })?;
@@ -98,31 +127,41 @@ impl<'a> Scope<'a> {
         alloc: Global,
         alternatives: &'a [Alternative],
         depth: usize,
-    ) -> Result<Ty, Stop> {
+    ) -> Result<Ty, Stop>
+        ensures value { IfOk result (λ ty. IsScope self.now.module.now self.now → IsMeaning (tree self.now.module.now) (choice (alternatives_of (map alternative alternatives.now))) (ty_view ty)) }
+        ensures never { IfErr result (λ stop. stop ≢ Stop.NoMemory → IsSettled self.now.module.now self.now → (under : Option Tag) → HasNoTypeWithin (tree self.now.module.now) (suc depth) under (choice (alternatives_of (map alternative alternatives.now)))) }
+    {
+        if !alternatives_differ(alloc, alternatives)? {
+            return Err(Stop::Refused(Cause::RepeatedName));
+        }
         let automatic = self.is_automatic(are_alternatives_tagged(alternatives));
         let mut found = Vec::with_capacity(alloc, alternatives.len())?;
-        for (index, alternative) in (0u32..).zip(alternatives) {
-            let tag = automatic_tag(automatic, index);
-            let ty = self.part(alloc, &alternative.body, tag, depth)?;
+        for (place, alternative) in alternatives.iter().enumerate() {
+            let ty = self.part(alloc, automatic, place, &alternative.body, depth)?;
             let name = alternative.name.clone()?;
             found.push(types::Alternative { name, ty })?;
         }
         Ok(Ty::Choice(found))
     }
 
-    /// The type of a component or an alternative, with its automatic tag where it has one, which is
-    /// explicit in front of an untagged CHOICE.
+    /// The type of a component or an alternative, in a list that has automatic tags with that of its
+    /// place, which is explicit in front of an untagged CHOICE.
     #[cycle(expanding)]
     fn part(
         &self,
         alloc: Global,
+        automatic: bool,
+        place: usize,
         body: &'a Expr,
-        automatic: Option<Tag>,
         depth: usize,
-    ) -> Result<Ty, Stop> {
-        let Some(tag) = automatic else {
+    ) -> Result<Ty, Stop>
+        ensures value { IfOk result (λ ty. IsScope self.now.module.now self.now → IsPart (tree self.now.module.now) automatic place (form body.now) (ty_view ty)) }
+        ensures never { IfErr result (λ stop. stop ≢ Stop.NoMemory → IsSettled self.now.module.now self.now → PartHasNoTypeWithin (tree self.now.module.now) depth automatic place (form body.now)) }
+    {
+        if !automatic {
             return self.expand(alloc, body, None, depth);
-        };
+        }
+        let tag = automatic_tag(place).ok_or(Cause::TooLarge)?;
         if self.is_untagged_choice(body).ok_or(Cause::UnknownType)? {
             let depth = depth.checked_sub(1).ok_or(Cause::TooLarge)?;
             self.explicit(alloc, tag, body, depth)
@@ -132,12 +171,21 @@ impl<'a> Scope<'a> {
     }
 }
 
-fn enumerated(alloc: Global, outer: Option<Tag>, items: &[Item]) -> Result<Ty, Stop> {
+fn enumerated(alloc: Global, outer: Option<Tag>, items: &[Item]) -> Result<Ty, Stop>
+    ensures value { IfOk result (λ ty. (m : Tree) → MeansUnder m outer (enumerated (map entry items.now)) (ty_view ty)) }
+    ensures never { IfErr result (λ stop. stop ≢ Stop.NoMemory → (m : Tree) → MeansNothing m (enumerated (map entry items.now))) }
+{
+    if !items_differ(alloc, items)? {
+        return Err(Stop::Refused(Cause::RepeatedName));
+    }
     let tag = outer.unwrap_or(enumerated_tag());
     Ok(Ty::Enumerated(tag, numbered(alloc, items)?))
 }
 
-fn presence_of(alloc: Global, ty: &Ty, written: &Presence) -> Result<types::Presence, Stop> {
+fn presence_of(alloc: Global, ty: &Ty, written: &Presence) -> Result<types::Presence, Stop>
+    ensures value { IfOk result (λ presence. IsRequirement (ty_view ty.now) (ending written.now) (requirement_view presence)) }
+    ensures never { IfErr result (λ stop. stop ≢ Stop.NoMemory → (requirement : Requirement) → ¬ IsRequirement (ty_view ty.now) (ending written.now) requirement) }
+{
     match written {
         Presence::Required => Ok(types::Presence::Required),
         Presence::Optional => Ok(types::Presence::Optional),

@@ -1,14 +1,28 @@
 //! Whether the names of a list differ (X.680 20.5, 25.4, 27.2 and 29.3).
 
+ghost use Rattle.std.specs.Prelude.{◌↔◌, IfOk, IsTrue, map};
+ghost use Rattle.syntax.specs.View.{component, alternative, entry};
+ghost use Rattle.notation.specs.Meaning.{NamesDiffer};
+ghost use Rattle.notation.specs.Names.{IsEntered};
+
 use indexmap::IndexSet;
 use std::alloc::{AllocError, Global};
 use syntax::{Alternative, Component, Item};
 
+/// Enters a name behind those that are entered, where it is none of them. Whether it was none.
+pub fn enter<'a>(names: &mut IndexSet<&'a str>, name: &'a str) -> Result<bool, AllocError>
+    ensures { IfOk result (λ new. IsEntered (map (λ k. k.now) names.old.keys) name.now new (map (λ k. k.now) names.new.keys)) }
+{
+    Ok(names.insert(name)?)
+}
+
 /// Whether the names of the components differ.
-pub fn components_differ(alloc: Global, components: &[Component]) -> Result<bool, AllocError> {
+pub fn components_differ(alloc: Global, components: &[Component]) -> Result<bool, AllocError>
+    ensures { IfOk result (λ differ. IsTrue differ ↔ NamesDiffer (map (λ c. c.0) (map component components.now))) }
+{
     let mut names = IndexSet::new(alloc);
     for component in components {
-        if !names.insert(component.name.as_str())? {
+        if !enter(&mut names, component.name.as_str())? {
             return Ok(false);
         }
     }
@@ -16,13 +30,12 @@ pub fn components_differ(alloc: Global, components: &[Component]) -> Result<bool
 }
 
 /// Whether the names of the alternatives differ.
-pub fn alternatives_differ(
-    alloc: Global,
-    alternatives: &[Alternative],
-) -> Result<bool, AllocError> {
+pub fn alternatives_differ(alloc: Global, alternatives: &[Alternative]) -> Result<bool, AllocError>
+    ensures { IfOk result (λ differ. IsTrue differ ↔ NamesDiffer (map (λ c. c.0) (map alternative alternatives.now))) }
+{
     let mut names = IndexSet::new(alloc);
     for alternative in alternatives {
-        if !names.insert(alternative.name.as_str())? {
+        if !enter(&mut names, alternative.name.as_str())? {
             return Ok(false);
         }
     }
@@ -30,10 +43,12 @@ pub fn alternatives_differ(
 }
 
 /// Whether the names of the items differ.
-pub fn items_differ(alloc: Global, items: &[Item]) -> Result<bool, AllocError> {
+pub fn items_differ(alloc: Global, items: &[Item]) -> Result<bool, AllocError>
+    ensures { IfOk result (λ differ. IsTrue differ ↔ NamesDiffer (map (λ c. c.0) (map entry items.now))) }
+{
     let mut names = IndexSet::new(alloc);
     for item in items {
-        if !names.insert(item.name.as_str())? {
+        if !enter(&mut names, item.name.as_str())? {
             return Ok(false);
         }
     }

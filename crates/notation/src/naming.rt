@@ -2,7 +2,7 @@
 
 use crate::references::references_of;
 use crate::scope::Scope;
-use crate::stop::Cause;
+use crate::stop::Unresolved;
 use std::alloc::{AllocError, Global};
 
 /// The assignments that are reached from one.
@@ -29,7 +29,7 @@ impl Reached {
 impl Scope<'_> {
     /// The cause to refuse the assignment at this place, which is not known once all that can be are: a
     /// reference that is not assigned, or else a cycle.
-    pub fn cause_to_refuse(&self, alloc: Global, place: usize) -> Result<Cause, AllocError> {
+    pub fn cause_to_refuse(&self, alloc: Global, place: usize) -> Result<Unresolved, AllocError> {
         let mut reached = Reached {
             marks: Vec::new(alloc),
             places: Vec::new(alloc),
@@ -40,13 +40,13 @@ impl Scope<'_> {
         reached.add(place)?;
         for turn in 0..self.seen.len() {
             let Some(place) = reached.places.get(turn) else {
-                return Ok(Cause::Cycle);
+                return Ok(Unresolved::Cycle);
             };
             if !self.reach(alloc, *place, &mut reached)? {
-                return Ok(Cause::UnknownType);
+                return Ok(Unresolved::NotAssigned);
             }
         }
-        Ok(Cause::Cycle)
+        Ok(Unresolved::Cycle)
     }
 
     /// Adds what the assignment at this place refers to. Whether all of it is assigned.

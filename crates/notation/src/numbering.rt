@@ -1,13 +1,14 @@
 //! The numbers of the items of an ENUMERATED (X.680 clause 20).
 
-ghost use Rattle.std.specs.Prelude.{◌≡◌, IfOk, IfSome, IsNone, FitsSigned, map, ◌↔◌, ℤ, pos, ◌+ℤ◌};
+ghost use Rattle.std.specs.Prelude.{◌≡◌, ◌≢◌, ◌≤ℤ◌, List, IfOk, IfErr, IfSome, IsTrue, IsSome, IsNone, FitsSigned, map, ◌↔◌, ℤ, pos, ◌+ℤ◌};
 ghost use Rattle.std.specs.Int.{w128};
 ghost use Rattle.std.specs.List.Sorted.{IsSorted};
 ghost use Rattle.std.specs.Ordering.{int_cmp};
 ghost use Rattle.syntax.specs.View.{entry};
+ghost use Rattle.types.specs.Shape.{EnumerationItem};
 ghost use Rattle.types.specs.View.{item_view};
-ghost use Rattle.notation.specs.Numbering.{number_of, AreItems};
-ghost use Rattle.notation.specs.Written.{HasWritten, IsFree, IsPassed};
+ghost use Rattle.notation.specs.Numbering.{number_of, AreWithin, NumbersDiffer, AreItems};
+ghost use Rattle.notation.specs.Written.{HasWritten, IsFree, IsPassed, farthest};
 
 use crate::stop::{Cause, Stop};
 use std::alloc::{AllocError, Global};
@@ -31,26 +32,32 @@ pub fn number_of(signed: SignedNumber) -> Option<i128>
 }
 
 /// Whether the numbers that are written are within their limits.
-pub fn are_numbers_within(items: &[Item]) -> bool {
+pub fn are_numbers_within(items: &[Item]) -> bool
+    ensures { IsTrue result ↔ AreWithin (map entry items.now) }
+{
     for item in items {
-        if let Some(signed) = item.number {
-            if number_of(signed).is_none() {
-                return false;
+        match item.number {
+            Some(signed) => {
+                if number_of(signed).is_none() {
+                    return false;
+                }
             }
+            None => {}
         }
     }
     true
 }
 
-/// Whether the numbers that are written differ.
-pub fn numbers_differ(alloc: Global, items: &[Item]) -> Result<bool, AllocError> {
+/// Whether the numbers that are written differ, those beyond their limits left out.
+pub fn numbers_differ(alloc: Global, items: &[Item]) -> Result<bool, AllocError>
+    ensures differ { IfOk result (λ differ. NumbersDiffer (map entry items.now) → IsTrue differ) }
+    ensures within { IfOk result (λ differ. IsTrue differ → AreWithin (map entry items.now) → NumbersDiffer (map entry items.now)) }
+{
     let written = written_numbers(alloc, items)?;
-    let mut last = None;
-    for number in &written {
-        if last == Some(*number) {
+    for place in 1..written.len() {
+        if written[place - 1] == written[place] {
             return Ok(false);
         }
-        last = Some(*number);
     }
     Ok(true)
 }
@@ -77,7 +84,8 @@ fn written_numbers(alloc: Global, items: &[Item]) -> Result<Vec<i128>, AllocErro
 /// The items with their numbers: those that are written, and for the others in order of text the
 /// successive numbers from 0, but for those that are written.
 pub fn numbered(alloc: Global, items: &[Item]) -> Result<Vec<types::Item>, Stop>
-    ensures { IfOk result (λ numbered. AreItems (map entry items.now) (map item_view numbered.items)) }
+    ensures items { IfOk result (λ numbered. AreItems (map entry items.now) (map item_view numbered.items)) }
+    ensures refused { IfErr result (λ stop. stop ≢ Stop.NoMemory → (others : List EnumerationItem) → ¬ AreItems (map entry items.now) others) }
 {
     let written = written_numbers(alloc, items)?;
     let mut free = FreeNumbers {
@@ -118,6 +126,9 @@ impl FreeNumbers<'_> {
             IfSome result (λ number. IsFree self.old.written.now self.old.next number) }
         ensures passed { IsSorted int_cmp self.old.written.now → IsPassed self.old.written.now self.old.passed self.old.next →
             IfSome result (λ number. (self.new.next ≡ number +ℤ pos 1) × IsPassed self.new.written.now self.new.passed self.new.next) }
+        ensures farthest { IsSome result →
+            farthest self.new.written.now self.new.passed self.new.next ≤ℤ (farthest self.old.written.now self.old.passed self.old.next +ℤ pos 1) }
+        ensures none { IsNone result → ¬ FitsSigned w128 (farthest self.old.written.now self.old.passed self.old.next +ℤ pos 1) }
     {
         while self.passed < self.written.len() && self.written[self.passed] <= self.next {
             if self.written[self.passed] == self.next {

@@ -1,17 +1,25 @@
 //! The names that a type expression refers to.
 
+ghost use Rattle.std.specs.Prelude.{◌≡◌, ◌++◌, IfOk, OnOk, map};
+ghost use Rattle.syntax.specs.View.{form, component, alternative, components_of, alternatives_of};
+ghost use Rattle.notation.specs.References.{names_in, names_in_components, names_in_alternatives};
+
 use std::alloc::{AllocError, Global};
 use syntax::{Alternative, Component, Expr};
 
 /// The names in the expression, in order of text, one that stands twice taken twice.
-pub fn references_of<'a>(alloc: Global, expr: &'a Expr) -> Result<Vec<&'a str>, AllocError> {
+pub fn references_of<'a>(alloc: Global, expr: &'a Expr) -> Result<Vec<&'a str>, AllocError>
+    ensures { IfOk result (λ names. map (λ n. n.now) names.items ≡ names_in (form expr.now)) }
+{
     let mut names = Vec::new(alloc);
     gather(expr, &mut names)?;
     Ok(names)
 }
 
 #[cycle(gathering)]
-fn gather<'a>(expr: &'a Expr, names: &mut Vec<&'a str>) -> Result<(), AllocError> {
+fn gather<'a>(expr: &'a Expr, names: &mut Vec<&'a str>) -> Result<(), AllocError>
+    ensures { OnOk result (map (λ n. n.now) names.new.items ≡ map (λ n. n.now) names.old.items ++ names_in (form expr.now)) }
+{
     match expr {
         Expr::Tagged(_, inner) => gather(inner, names),
         Expr::List(_, components) => gather_components(components, names),
@@ -26,7 +34,9 @@ fn gather<'a>(expr: &'a Expr, names: &mut Vec<&'a str>) -> Result<(), AllocError
 fn gather_components<'a>(
     components: &'a [Component],
     names: &mut Vec<&'a str>,
-) -> Result<(), AllocError> {
+) -> Result<(), AllocError>
+    ensures { OnOk result (map (λ n. n.now) names.new.items ≡ map (λ n. n.now) names.old.items ++ names_in_components (components_of (map component components.now))) }
+{
     for component in components {
         gather(&component.body, names)?;
     }
@@ -37,7 +47,9 @@ fn gather_components<'a>(
 fn gather_alternatives<'a>(
     alternatives: &'a [Alternative],
     names: &mut Vec<&'a str>,
-) -> Result<(), AllocError> {
+) -> Result<(), AllocError>
+    ensures { OnOk result (map (λ n. n.now) names.new.items ≡ map (λ n. n.now) names.old.items ++ names_in_alternatives (alternatives_of (map alternative alternatives.now))) }
+{
     for alternative in alternatives {
         gather(&alternative.body, names)?;
     }

@@ -1,12 +1,21 @@
 //! From a name to its type.
 
-ghost use Rattle.std.specs.Prelude.{◌≡◌, IfOk, IfErr};
+ghost use Rattle.std.specs.Prelude.{◌≡◌, ◌≢◌, IfOk, IfErr, None as Nothing};
 ghost use Rattle.types.specs.View.{ty_view};
 ghost use Rattle.types.specs.WellFormed.{IsWellFormed};
+ghost use Rattle.types.specs.Shape.{Shape};
+ghost use Rattle.syntax.specs.Tree.{Form};
+ghost use Rattle.syntax.specs.View.{form, tree};
+ghost use Rattle.notation.specs.Meaning.{NameMeans};
 ghost use Rattle.notation.specs.Fault.{IsResolvingFault};
+ghost use Rattle.notation.specs.Known.{IsScope, LeadsTo};
+ghost use Rattle.notation.specs.Settled.{IsSettled};
+ghost use Rattle.notation.specs.Weighed.{IsWeight};
+ghost use Rattle.notation.specs.Refused.{HasNoType};
+ghost use Rattle.notation.specs.Under.{MeansUnder};
 
-use crate::scope::Scope;
-use crate::stop::{Cause, Stop};
+use crate::scope::{Scope, Seen};
+use crate::stop::{Cause, Stop, Unresolved};
 use lexis::Fault;
 use std::alloc::Global;
 use syntax::Module;
@@ -18,20 +27,32 @@ use types::{MAX_NODES, Ty, TypeFault, WellTyped};
 /// the name reaches is judged, and a fault stands at the name's assignment, or at 1:1 where it has none.
 /// The module is looked at once; no type is made before its nodes and levels are counted.
 pub fn resolve(alloc: Global, module: &Module, name: &str) -> Result<WellTyped, Fault>
+    ensures value { IfOk result (λ resolved. NameMeans (tree «module».now) name.now (ty_view resolved)) }
+    ensures only { IfOk result (λ resolved. (other : Shape) → NameMeans (tree «module».now) name.now other → other ≡ ty_view resolved) }
     ensures well_formed { IfOk result (λ resolved. IsWellFormed (ty_view resolved)) }
     ensures numbers { IfErr result IsResolvingFault }
+    ensures refused { IfErr result (λ fault. fault.number ≢ 33 → (type : Shape) → NameMeans (tree «module».now) name.now type → ¬ IsWellFormed type) }
+    ensures cycle { IfErr result (λ fault. fault.number ≡ 25 → (type : Shape) → NameMeans (tree «module».now) name.now type → ⊥) }
 {
     let mut scope = match Scope::new(alloc, module)? {
         Ok(scope) => scope,
         Err(place) => return Err(fault_at(module, Some(place), 26)),
     };
-    let Some(place) = scope.place_of(name) else {
-        return Err(fault_at(module, None, Cause::UnknownType.number()));
+    let place = match scope.place_of(name) {
+        Some(place) => place,
+        None => return Err(fault_at(module, None, Unresolved::NotAssigned.number())),
     };
-    match scope.resolve_at(alloc, place) {
-        Ok(ty) => Ok(ty),
-        Err(Stop::NoMemory) => Err(fault_at(module, None, 33)),
-        Err(Stop::Refused(cause)) => Err(fault_at(module, Some(place), cause.number())),
+    scope.settle(alloc)?;
+    match scope.seen_at(place) {
+        Some(seen) => match scope.type_of(alloc, seen) {
+            Ok(ty) => Ok(ty),
+            Err(Stop::NoMemory) => Err(fault_at(module, None, 33)),
+            Err(Stop::Refused(cause)) => Err(fault_at(module, Some(place), cause.number())),
+        },
+        None => {
+            let cause = scope.cause_to_refuse(alloc, place)?;
+            Err(fault_at(module, Some(place), cause.number()))
+        }
     }
 }
 
@@ -54,15 +75,14 @@ fn fault_at(module: &Module, place: Option<usize>, number: u32) -> Fault
     }
 }
 
-impl Scope<'_> {
-    /// The type of the assignment at the place.
-    fn resolve_at(&mut self, alloc: Global, place: usize) -> Result<WellTyped, Stop>
+impl<'a> Scope<'a> {
+    /// The type of an assignment of which this is known.
+    fn type_of(&self, alloc: Global, seen: Seen<'a>) -> Result<WellTyped, Stop>
+        ensures value { IfOk result (λ resolved. IsScope self.now.module.now self.now → MeansUnder (tree self.now.module.now) seen.entry.root.tag (form seen.entry.root.expr.now) (ty_view resolved)) }
         ensures well_formed { IfOk result (λ resolved. IsWellFormed (ty_view resolved)) }
+        ensures never { IfErr result (λ stop. stop ≢ Stop.NoMemory → IsSettled self.now.module.now self.now → (f : Form) →
+            LeadsTo (tree self.now.module.now) Nothing f seen.entry.root → IsWeight (tree self.now.module.now) f seen.entry.weight → HasNoType (tree self.now.module.now) Nothing f) }
     {
-        self.settle(alloc)?;
-        let Some(seen) = self.seen_at(place) else {
-            return Err(Stop::Refused(self.cause_to_refuse(alloc, place)?));
-        };
         let weight = seen
             .weight
             .unless(seen.root.is_tag_within(), Cause::TooLarge);
@@ -77,6 +97,7 @@ impl Scope<'_> {
 fn well_typed(ty: Ty) -> Result<WellTyped, Stop>
     ensures value { IfOk result (λ resolved. resolved ≡ ty) }
     ensures well_formed { IfOk result (λ resolved. IsWellFormed (ty_view resolved)) }
+    ensures refused { IfErr result (λ stop. ¬ IsWellFormed (ty_view ty)) }
 {
     match WellTyped::new(ty) {
         Ok(ty) => Ok(ty),

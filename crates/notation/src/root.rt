@@ -1,9 +1,13 @@
 //! What a type expression is at its root, through references and implicit tags (X.680 31.2).
 
 ghost use Rattle.std.specs.Prelude.{◌≡◌, ◌↔◌, IsTrue, IfSome, IsNone, None as Nothing};
+ghost use Rattle.syntax.specs.Tree.{Tree};
 ghost use Rattle.syntax.specs.View.{form, tree};
 ghost use Rattle.notation.specs.Tagging.{tag_of};
-ghost use Rattle.notation.specs.Known.{IsChoice, IsNoReference, IsReferenceTo, IsScope, LeadsTo, TellsChoice, TellsExplicit};
+ghost use Rattle.notation.specs.Settled.{NamesTold, MeansNothing};
+ghost use Rattle.notation.specs.Refused.{HasNoType};
+ghost use Rattle.notation.specs.Under.{IsAtRoot};
+ghost use Rattle.notation.specs.Known.{IsChoice, IsNoReference, IsOuterWithin, IsReferenceTo, IsScope, LeadsTo, TellsChoice, TellsExplicit};
 
 use crate::scope::Scope;
 use octets::{Class, MAX_TAG_NUMBER, Tag};
@@ -28,7 +32,10 @@ impl Root<'_> {
     }
 
     /// Whether the number of the outermost tag is within its limit.
-    pub fn is_tag_within(self) -> bool {
+    pub fn is_tag_within(self) -> bool
+        ensures within { IsTrue result → IsOuterWithin self.entry.tag (form self.entry.expr.now) }
+        ensures refused { (m : Tree) → IsAtRoot m (form self.entry.expr.now) → (IsTrue result → ⊥) → HasNoType m self.entry.tag (form self.entry.expr.now) }
+    {
         match self.tag {
             Some(tag) => tag.number <= MAX_TAG_NUMBER,
             None => is_own_tag_within(self.expr),
@@ -58,7 +65,10 @@ fn name_in(expr: &Expr) -> Option<&str>
     }
 }
 
-fn is_own_tag_within(expr: &Expr) -> bool {
+fn is_own_tag_within(expr: &Expr) -> bool
+    ensures within { IsTrue result → IsOuterWithin Nothing (form expr.now) }
+    ensures refused { (m : Tree) → IsAtRoot m (form expr.now) → (IsTrue result → ⊥) → HasNoType m Nothing (form expr.now) }
+{
     match expr {
         Expr::Tagged(prefix, _) => prefix.number <= MAX_TAG_NUMBER,
         Expr::Choice(_) | Expr::List(_, _) | Expr::Of(_, _) => true,
@@ -84,7 +94,8 @@ impl<'a> Scope<'a> {
     /// What the expression is at its root, `outer` being the tag that replaces its outermost one. None
     /// where it leads to a name of which nothing is known.
     pub fn root_of(&self, expr: &'a Expr, outer: Option<Tag>) -> Option<Root<'a>>
-        ensures { IfSome result (λ root. IsScope self.now.module.now self.now → LeadsTo (tree self.now.module.now) outer (form expr.now) root) }
+        ensures leads { IfSome result (λ root. IsScope self.now.module.now self.now → LeadsTo (tree self.now.module.now) outer (form expr.now) root) }
+        ensures unknown { IsNone result → IsScope self.now.module.now self.now → NamesTold (tree self.now.module.now) self.now.seen.items (form expr.now) → MeansNothing (tree self.now.module.now) (form expr.now) }
     {
         match expr {
             Expr::Tagged(prefix, inner) => {
@@ -109,7 +120,8 @@ impl<'a> Scope<'a> {
     /// without a keyword in a module with EXPLICIT TAGS and in front of an untagged CHOICE.
     #[tactic(auto, using(crate::proofs::ScopeLemmas::default_told, crate::proofs::UnderLemmas::explicit_default))]
     pub fn is_explicit(&self, mode: TagMode, inner: &'a Expr) -> Option<bool>
-        ensures { IfSome result (λ explicit. IsScope self.now.module.now self.now → (prefix : TagPrefix) → prefix.mode ≡ mode → TellsExplicit explicit (tree self.now.module.now) prefix (form inner.now)) }
+        ensures tells { IfSome result (λ explicit. IsScope self.now.module.now self.now → (prefix : TagPrefix) → prefix.mode ≡ mode → TellsExplicit explicit (tree self.now.module.now) prefix (form inner.now)) }
+        ensures unknown { IsNone result → IsScope self.now.module.now self.now → NamesTold (tree self.now.module.now) self.now.seen.items (form inner.now) → MeansNothing (tree self.now.module.now) (form inner.now) }
     {
         match mode {
             TagMode::Explicit => Some(true),
@@ -126,7 +138,8 @@ impl<'a> Scope<'a> {
     /// of which nothing is known.
     #[tactic(auto, using(crate::proofs::RootLemmas::form_tells, crate::proofs::RootLemmas::named_tells))]
     pub fn is_untagged_choice(&self, expr: &'a Expr) -> Option<bool>
-        ensures { IfSome result (λ told. IsScope self.now.module.now self.now → TellsChoice told (tree self.now.module.now) (form expr.now)) }
+        ensures tells { IfSome result (λ told. IsScope self.now.module.now self.now → TellsChoice told (tree self.now.module.now) (form expr.now)) }
+        ensures unknown { IsNone result → IsScope self.now.module.now self.now → NamesTold (tree self.now.module.now) self.now.seen.items (form expr.now) → MeansNothing (tree self.now.module.now) (form expr.now) }
     {
         match name_in(expr) {
             Some(name) => Some(self.seen_of(name)?.root.is_untagged_choice()),

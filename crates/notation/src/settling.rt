@@ -1,33 +1,58 @@
 //! What is known of the names of a module without any type being made.
 
+ghost use Rattle.std.specs.Prelude.{◌≡◌, IfOk, OnOk, IfSome, Some, None as Nothing, slice_get, slice_set, List, ℕ};
+ghost use Rattle.syntax.specs.Tree.{Form, Tree};
+ghost use Rattle.syntax.specs.View.{tree};
+ghost use Rattle.notation.specs.Known.{LeadsTo, IsScope, IsNewScope};
+ghost use Rattle.notation.specs.Settled.{NamesTold, MeansNothing, IsSettled};
+ghost use Rattle.notation.specs.Weighed.{IsWeight, AreWeighed, CanWeigh};
+
 use crate::ordering::Waits;
 use crate::scope::{Scope, Seen};
 use crate::stop::Cause;
+use crate::weight::Weight;
 use std::alloc::{AllocError, Global};
 use types::{MAX_LEVELS, MAX_NODES};
 
 impl<'a> Scope<'a> {
     /// Learns what each name is at its root and how large its type is, but for names that reach a cycle
     /// of references. Each type expression is looked at once, after those of the names in it.
-    pub fn settle(&mut self, alloc: Global) -> Result<(), AllocError> {
+    pub fn settle(&mut self, alloc: Global) -> Result<(), AllocError>
+        ensures module { self.new.module ≡ self.old.module }
+        ensures settled { OnOk result (IsNewScope self.old.module.now self.old → IsSettled self.old.module.now self.new) }
+        ensures weighed { OnOk result (IsNewScope self.old.module.now self.old → AreWeighed self.old.module.now self.new) }
+    {
         let mut waits = self.waits(alloc)?;
         let mut ready = waits.ready(alloc)?;
         for turn in 0..self.seen.len() {
-            let Some(place) = ready.get(turn) else {
-                return Ok(());
+            let place = match ready.get(turn) {
+                Some(place) => *place,
+                None => return Ok(()),
             };
-            let place = *place;
             let seen = self.look(alloc, place)?;
-            if let Some(known) = self.seen.get_mut(place) {
-                *known = seen;
-            }
+            self.tell(place, seen);
             waits.settle(place, &mut ready)?;
         }
         Ok(())
     }
 
+    /// Keeps what is known of the assignment at this place.
+    fn tell(&mut self, place: usize, seen: Option<Seen<'a>>)
+        ensures module { self.new.module ≡ self.old.module }
+        ensures names { self.new.names ≡ self.old.names }
+        ensures seen { self.new.seen.items ≡ slice_set self.old.seen.items place seen.entry }
+    {
+        if let Some(known) = self.seen.get_mut(place) {
+            *known = seen;
+        }
+    }
+
     /// What the assignment at this place is, the names in it being known.
-    fn look(&self, alloc: Global, place: usize) -> Result<Option<Seen<'a>>, AllocError> {
+    fn look(&self, alloc: Global, place: usize) -> Result<Option<Seen<'a>>, AllocError>
+        ensures leads { IfOk result (λ told. IfSome told (λ seen. IsScope self.now.module.now self.now → (a : List ℕ × Form) → slice_get (tree self.now.module.now).assignments place ≡ Some a → LeadsTo (tree self.now.module.now) Nothing a.1 seen.root)) }
+        ensures unknown { IfOk result (λ told. told ≡ Nothing → IsScope self.now.module.now self.now → (a : List ℕ × Form) → slice_get (tree self.now.module.now).assignments place ≡ Some a → NamesTold (tree self.now.module.now) self.now.seen.items a.1 → MeansNothing (tree self.now.module.now) a.1) }
+        ensures weighed { IfOk result (λ told. IfSome told (λ seen. (a : List ℕ × Form) → slice_get (tree self.now.module.now).assignments place ≡ Some a → CanWeigh self.now.module.now self.now a.1 → IsWeight (tree self.now.module.now) a.1 seen.weight)) }
+    {
         let Some(body) = self.body_at(place) else {
             return Ok(None);
         };
@@ -35,10 +60,17 @@ impl<'a> Scope<'a> {
         let Some(root) = self.root_of(body, None) else {
             return Ok(None);
         };
-        let fits = weight.nodes <= MAX_NODES && weight.levels <= MAX_LEVELS;
         Ok(Some(Seen {
             root,
-            weight: weight.unless(fits, Cause::TooLarge),
+            weight: limited(weight),
         }))
     }
+}
+
+/// The same, refused where there are too many nodes or levels.
+fn limited(weight: Weight) -> Weight
+    ensures { (m : Tree) (form : Form) → IsWeight m form weight → IsWeight m form result }
+{
+    let fits = weight.nodes <= MAX_NODES && weight.levels <= MAX_LEVELS;
+    weight.unless(fits, Cause::TooLarge)
 }

@@ -10,8 +10,6 @@ use std::alloc::{AllocError, AllocFailed};
 pub enum Cause {
     /// A reference is not assigned.
     UnknownType,
-    /// A type reaches itself.
-    Cycle,
     /// Two names of one list are equal.
     RepeatedName,
     /// IMPLICIT is written around an untagged CHOICE.
@@ -27,19 +25,40 @@ pub enum Cause {
 }
 
 impl Cause {
-    /// The number of the fault, from 24 to 31.
+    /// The number of the fault, from 24 to 31, but not that of a cycle.
     pub fn number(self) -> u32
         ensures range { (24 ≤ result) × (result ≤ 31) }
+        ensures no_cycle { result ≡ 25 → ⊥ }
     {
         match self {
             Cause::UnknownType => 24,
-            Cause::Cycle => 25,
             Cause::RepeatedName => 26,
             Cause::RepeatedNumber => 27,
             Cause::TagsNotDistinct => 28,
             Cause::ImplicitChoice => 29,
             Cause::BadDefault => 30,
             Cause::TooLarge => 31,
+        }
+    }
+}
+
+/// Why nothing is known of a name.
+#[derive(Clone, Copy, Debug, PartialEq, Eq)]
+pub enum Unresolved {
+    /// It refers to a name that is not assigned, or reaches one.
+    NotAssigned,
+    /// It reaches itself, or a name that does.
+    Cycle,
+}
+
+impl Unresolved {
+    /// The number of the fault.
+    pub fn number(self) -> u32
+        ensures range { (24 ≤ result) × (result ≤ 25) }
+    {
+        match self {
+            Unresolved::NotAssigned => 24,
+            Unresolved::Cycle => 25,
         }
     }
 }

@@ -1,6 +1,12 @@
 //! How large the type of an expression is, and what is wrong with it, as far as its own text and what
 //! is known of the names in it tell.
 
+ghost use Rattle.std.specs.Prelude.{◌↔◌, ◌≤◌, ℕ, IfOk, IsTrue, map};
+ghost use Rattle.syntax.specs.declared.tree.Group.{Group};
+ghost use Rattle.syntax.specs.Tree.{Tree, tagged, list, choice, enumerated};
+ghost use Rattle.syntax.specs.View.{form, tree, component, alternative, entry, components_of, alternatives_of};
+ghost use Rattle.notation.specs.Weighed.{CanWeigh, IsWeight, IsOwnWeight, IsPartWeight};
+
 use crate::names::{alternatives_differ, components_differ, items_differ};
 use crate::numbering::{are_numbers_within, numbers_differ};
 use crate::scope::Scope;
@@ -15,7 +21,9 @@ impl<'a> Scope<'a> {
     /// How large the type is. The tag that a type within it begins with is judged there, its own tag is
     /// not.
     #[cycle(weighing)]
-    pub fn weight_of(&self, alloc: Global, expr: &'a Expr) -> Result<Weight, AllocError> {
+    pub fn weight_of(&self, alloc: Global, expr: &'a Expr) -> Result<Weight, AllocError>
+        ensures { IfOk result (λ weight. CanWeigh self.now.module.now self.now (form expr.now) → IsWeight (tree self.now.module.now) (form expr.now) weight) }
+    {
         match expr {
             Expr::Tagged(prefix, inner) => self.weight_of_tagged(alloc, prefix, inner),
             Expr::List(_, components) => self.weight_of_list(alloc, components),
@@ -36,7 +44,9 @@ impl<'a> Scope<'a> {
         alloc: Global,
         prefix: &TagPrefix,
         inner: &'a Expr,
-    ) -> Result<Weight, AllocError> {
+    ) -> Result<Weight, AllocError>
+        ensures { IfOk result (λ weight. CanWeigh self.now.module.now self.now (form inner.now) → IsWeight (tree self.now.module.now) (tagged prefix.now (form inner.now)) weight) }
+    {
         if self.is_explicit(prefix.mode, inner) == Some(true) {
             return Ok(self.weight_within(alloc, inner)?.as_constructed());
         }
@@ -53,7 +63,9 @@ impl<'a> Scope<'a> {
         &self,
         alloc: Global,
         components: &'a [Component],
-    ) -> Result<Weight, AllocError> {
+    ) -> Result<Weight, AllocError>
+        ensures { IfOk result (λ weight. (group : Group) → CanWeigh self.now.module.now self.now (list group (components_of (map component components.now))) → IsWeight (tree self.now.module.now) (list group (components_of (map component components.now))) weight) }
+    {
         let automatic = self.is_automatic(are_components_tagged(components));
         let mut weight = Weight::NOTHING;
         for component in components {
@@ -72,7 +84,9 @@ impl<'a> Scope<'a> {
         &self,
         alloc: Global,
         alternatives: &'a [Alternative],
-    ) -> Result<Weight, AllocError> {
+    ) -> Result<Weight, AllocError>
+        ensures { IfOk result (λ weight. CanWeigh self.now.module.now self.now (choice (alternatives_of (map alternative alternatives.now))) → IsWeight (tree self.now.module.now) (choice (alternatives_of (map alternative alternatives.now))) weight) }
+    {
         let automatic = self.is_automatic(are_alternatives_tagged(alternatives));
         let mut weight = Weight::NOTHING;
         for alternative in alternatives {
@@ -96,7 +110,9 @@ impl<'a> Scope<'a> {
         alloc: Global,
         automatic: bool,
         body: &'a Expr,
-    ) -> Result<Weight, AllocError> {
+    ) -> Result<Weight, AllocError>
+        ensures { IfOk result (λ weight. CanWeigh self.now.module.now self.now (form body.now) → (place : ℕ) → IsPartWeight (tree self.now.module.now) automatic place (form body.now) weight) }
+    {
         if !automatic {
             return self.weight_within(alloc, body);
         }
@@ -110,7 +126,9 @@ impl<'a> Scope<'a> {
 
     /// How large a type is that stands with its own tag.
     #[cycle(weighing)]
-    pub fn weight_within(&self, alloc: Global, expr: &'a Expr) -> Result<Weight, AllocError> {
+    pub fn weight_within(&self, alloc: Global, expr: &'a Expr) -> Result<Weight, AllocError>
+        ensures { IfOk result (λ weight. CanWeigh self.now.module.now self.now (form expr.now) → IsOwnWeight (tree self.now.module.now) (form expr.now) weight) }
+    {
         let weight = self.weight_of(alloc, expr)?;
         match self.root_of(expr, None) {
             Some(root) => Ok(weight.unless(root.is_tag_within(), Cause::TooLarge)),
@@ -119,7 +137,9 @@ impl<'a> Scope<'a> {
     }
 }
 
-fn weight_of_items(alloc: Global, items: &[Item]) -> Result<Weight, AllocError> {
+fn weight_of_items(alloc: Global, items: &[Item]) -> Result<Weight, AllocError>
+    ensures { IfOk result (λ weight. (m : Tree) → IsWeight m (enumerated (map entry items.now)) weight) }
+{
     let weight = Weight::NOTHING.with_node();
     let within = is_length_within(items.len()) && are_numbers_within(items);
     Ok(
@@ -131,6 +151,8 @@ fn weight_of_items(alloc: Global, items: &[Item]) -> Result<Weight, AllocError> 
 }
 
 /// Whether a CHOICE or an ENUMERATED may have so many alternatives or items.
-fn is_length_within(length: usize) -> bool {
+fn is_length_within(length: usize) -> bool
+    ensures { IsTrue result ↔ ((1 ≤ length) × (length ≤ 256)) }
+{
     1 <= length && length <= MAX_LIST
 }

@@ -1,5 +1,8 @@
 //! How large a type is before it is made, and what is wrong with it.
 
+ghost use Rattle.std.specs.Prelude.{◌≡◌, ◌≢◌, ◌+◌, ◌↔◌, IsTrue, max, None as Nothing};
+ghost use Rattle.notation.specs.Size.{counted};
+
 use crate::stop::Cause;
 
 /// The nodes and levels of a type, and the first cause to refuse it, where there is one. Counts that
@@ -23,7 +26,9 @@ impl Weight {
     };
 
     /// Of a type that is refused.
-    pub fn refused(cause: Cause) -> Weight {
+    pub fn refused(cause: Cause) -> Weight
+        ensures { result.cause ≢ Nothing }
+    {
         Weight {
             cause: Some(cause),
             ..Weight::NOTHING
@@ -31,7 +36,11 @@ impl Weight {
     }
 
     /// Of one node more, which is no constructed encoding.
-    pub fn with_node(self) -> Weight {
+    pub fn with_node(self) -> Weight
+        ensures nodes { result.nodes ≡ counted (self.nodes + 1) }
+        ensures levels { result.levels ≡ self.levels }
+        ensures cause { result.cause ≡ self.cause }
+    {
         Weight {
             nodes: self.nodes.saturating_add(1),
             ..self
@@ -39,7 +48,11 @@ impl Weight {
     }
 
     /// Of a constructed encoding around parts that have this weight.
-    pub fn as_constructed(self) -> Weight {
+    pub fn as_constructed(self) -> Weight
+        ensures nodes { result.nodes ≡ counted (self.nodes + 1) }
+        ensures levels { result.levels ≡ counted (self.levels + 1) }
+        ensures cause { result.cause ≡ self.cause }
+    {
         Weight {
             nodes: self.nodes.saturating_add(1),
             levels: self.levels.saturating_add(1),
@@ -48,7 +61,11 @@ impl Weight {
     }
 
     /// Of this part and another one beside it.
-    pub fn beside(self, other: Weight) -> Weight {
+    pub fn beside(self, other: Weight) -> Weight
+        ensures nodes { result.nodes ≡ counted (self.nodes + other.nodes) }
+        ensures levels { result.levels ≡ max self.levels other.levels }
+        ensures cause { result.cause ≡ Nothing ↔ ((self.cause ≡ Nothing) × (other.cause ≡ Nothing)) }
+    {
         Weight {
             nodes: self.nodes.saturating_add(other.nodes),
             levels: self.levels.max(other.levels),
@@ -57,7 +74,10 @@ impl Weight {
     }
 
     /// The same, refused for this cause too where a condition does not hold.
-    pub fn unless(self, holds: bool, cause: Cause) -> Weight {
+    pub fn unless(self, holds: bool, cause: Cause) -> Weight
+        ensures kept { IsTrue holds → result ≡ self }
+        ensures refused { result.cause ≡ Nothing → IsTrue holds }
+    {
         if holds {
             return self;
         }
@@ -68,7 +88,9 @@ impl Weight {
     }
 }
 
-fn first_of(one: Option<Cause>, other: Option<Cause>) -> Option<Cause> {
+fn first_of(one: Option<Cause>, other: Option<Cause>) -> Option<Cause>
+    ensures { result ≡ Nothing ↔ ((one ≡ Nothing) × (other ≡ Nothing)) }
+{
     match (one, other) {
         (Some(a), Some(b)) => Some(a.min(b)),
         (Some(a), None) => Some(a),

@@ -1,11 +1,11 @@
-use Rattle.std.proofs.Common.{rules, string_bytes, Vec, Global, ◌≡◌, ◌+◌, ◌<◌, ℕ, ℤ, pos, List, [], ◌∷◌, ◌++◌, Some, None, Option, map, take, length, refl, sym, ap, ◌∙◌, subst, arith}
+use Rattle.std.proofs.Common.{string_bytes, Vec, Global, ◌≡◌, ◌+◌, ℤ, List, [], ◌∷◌, ◌++◌, map, take, refl, sym, ap, ◌∙◌, subst, arith}
 use Rattle.std.proofs.lemmas.List.{map_more, take_all}
 use Rattle.syntax.specs.declared.tree.Item.{Item}
-use Rattle.syntax.specs.declared.tree.SignedNumber.{SignedNumber}
 use Rattle.syntax.specs.Tree.{Entry}
 use Rattle.syntax.specs.View.{entry}
-use Rattle.notation.specs.Written.{HasWritten}
-use Rattle.notation.proofs.EntryLemmas.{kept_number, unwritten_item, written_item, great_item, written-moved}
+use Rattle.notation.specs.Numbering.{written_numbers}
+use Rattle.notation.specs.Written.{AreFitting}
+use Rattle.notation.proofs.EntryLemmas.{kept_number, unwritten_item, written_item, great_item}
 use Rattle.notation.proofs.numbering.written_numbers.Goals as goal
 use Rattle.notation.proofs.numbering.written_numbers.Goals.{in-Some+in-Some-number_of+in_ok-push-in-Some-number_of, in-Some+in-None-number_of, in-None}
 
@@ -18,8 +18,8 @@ loop-item-preserved c =
     let name = string_bytes x.name in
     let more : map entry (take (i + 1) items) ≡ map entry (take i items) ++ entry x ∷ [] =
     map_more entry items i x (omega arith) ∙ ap (λ (y : Item). map entry (take i items) ++ entry y ∷ []) (sym c.item-item.is) in
-    subst (λ (es : List Entry). HasWritten es c.match-item.written.items) (sym more) (elim c.match-item.branch [
-      | in-Some+in-Some-number_of+in_ok-push-in-Some-number_of w ↦ written_item (map entry (take i items)) ws c.match-item.written.items name x.number w.in-Some.signed _ w.in-Some.is (ap (λ (v : Vec ℤ Global). v.items) w.written-is ∙ w.in_ok-push-in-Some-number_of.ensures.items) (kept_number _ _ w.in-Some-number_of.ensures.some) c.loop-item.invariant
+    subst (λ (es : List Entry). AreFitting (written_numbers es) c.match-item.written.items) (sym more) (elim c.match-item.branch [
+      | in-Some+in-Some-number_of+in_ok-push-in-Some-number_of w ↦ written_item (map entry (take i items)) ws c.match-item.written.items name x.number w.in-Some.signed _ w.in-Some.is (ap (λ (v : Vec ℤ Global). v.items) w.written-is ∙ w.in_ok-push-in-Some-number_of.ensures.items) (kept_number _ _ w.in-Some-number_of.ensures.some) w.in-Some-number_of.ensures.some.1 c.loop-item.invariant
       | in-Some+in-None-number_of w ↦ great_item (map entry (take i items)) ws c.match-item.written.items name x.number w.in-Some.signed w.in-Some.is (ap (λ (v : Vec ℤ Global). v.items) w.written-is) (w.in-None-number_of.ensures.none refl) c.loop-item.invariant
       | in-None w ↦ unwritten_item (map entry (take i items)) ws c.match-item.written.items name x.number w.in-None.is (ap (λ (v : Vec ℤ Global). v.items) w.written-is) c.loop-item.invariant
     ])
@@ -27,5 +27,8 @@ loop-item-preserved c =
 pub returns-clause-written : goal.returns-clause-written
 returns-clause-written c =
     let items = c.args.items.now in
-    let all : HasWritten (map entry items) c.loop-item.written.items = subst (λ (xs : List Item). HasWritten (map entry xs) c.loop-item.written.items) (take_all c.loop-item.item-index items (omega arith)) c.loop-item.invariant in
-    written-moved (map entry items) c.loop-item.written.items c.sort_unstable.new.self.items c.sort_unstable.ensures.permutation all
+    record {
+      fitting = c.loop-item.written.items;
+      are = subst (λ (xs : List Item). AreFitting (written_numbers (map entry xs)) c.loop-item.written.items) (take_all c.loop-item.item-index items (omega arith)) c.loop-item.invariant;
+      order = c.sort_unstable.ensures.permutation;
+    }

@@ -1,11 +1,9 @@
-use Rattle.std.proofs.Common.{rules, ◌≡◌, ◌≤ℤ◌, ◌<ℤ◌, ◌+ℤ◌, ℕ, ℤ, pos, ◌+◌, ◌<◌, ◌≤◌, List, length, get_or, to_z, of_z, FitsSigned, refl, sym, ap, ◌∙◌, subst, arith}
+use Rattle.std.proofs.Common.{rules, ◌≡◌, ◌≤ℤ◌, ◌<ℤ◌, ◌+ℤ◌, ℤ, pos, ◌+◌, ◌<◌, List, length, get_or, to_z, of_z, FitsSigned, sym, ap, ◌∙◌, subst, arith}
 use Rattle.std.specs.Int.{w128}
-use Rattle.std.specs.List.Sorted.{IsSorted}
-use Rattle.std.specs.Ordering.{int_cmp}
-use Rattle.std.proofs.lemmas.Int.{ints, to_z-of_z}
+use Rattle.std.proofs.lemmas.Int.{to_z-of_z}
 use Rattle.notation.specs.declared.numbering.FreeNumbers.{FreeNumbers}
-use Rattle.notation.specs.Written.{IsFree, IsPassed}
-use Rattle.notation.proofs.FreeLemmas.{IsUnderWay, under_way-start, under_way-below, under_way-equal, under_way-free, under_way-passed, equal_of, below_of, above_of, next_of}
+use Rattle.notation.specs.Written.{IsFree, IsPassed, farthest}
+use Rattle.notation.proofs.FreeLemmas.{IsUnderWay, under_way-below, under_way-equal, under_way-free, under_way-passed, farthest-equal, farthest-below, equal_of, below_of, above_of, next_of}
 use Rattle.notation.proofs.numbering.FreeNumbers.take.Goals as goal
 use Rattle.notation.proofs.numbering.FreeNumbers.take.Goals.{then-self-2+in_ok-self, else-self-2, then-loop-self-test+else-self, else-loop-self-test}
 
@@ -16,6 +14,7 @@ loop-self-preserved c =
     let x = get_or xs c.loop-self.self.passed (pos 0) in
     let n = c.loop-self.self.next in
     let from = c.args.self.now.next in
+    let most = farthest c.args.self.now.written.now c.args.self.now.passed from in
     let fits_x : FitsSigned w128 x = search rules in
     let fits_n : FitsSigned w128 n = search rules in
     elim c.if-self-2.branch [
@@ -28,6 +27,9 @@ loop-self-preserved c =
             subst (λ (s : FreeNumbers). IsUnderWay c.args.self.now.written.now from (s.passed + 1) s.next) (sym w.self-is)
             (subst (λ (z : ℤ). IsUnderWay c.args.self.now.written.now from (c.loop-self.self.passed + 1) z) (sym next)
             (subst (λ (l : List ℤ). IsUnderWay l from (c.loop-self.self.passed + 1) (n +ℤ pos 1)) same more)),
+        let next : to_z w128 (of_z w128 w.in_ok-self.field-0) ≡ n +ℤ pos 1 = next_of n w.in_ok-self.field-0 fits_n w.in_ok-self.ensures.0 w.in_ok-self.ensures.1 in
+            subst (λ (s : FreeNumbers). farthest s.written.now (s.passed + 1) s.next ≤ℤ most) (sym w.self-is)
+            (subst (λ (z : ℤ). farthest xs (c.loop-self.self.passed + 1) z ≤ℤ most) (sym next) (farthest-equal xs c.loop-self.self.passed n most c.loop-self-test.true c.loop-self.invariant.2)),
       )
       | else-self-2 w ↦ (
         ap (λ (s : FreeNumbers). s.written.now) w.self-is ∙ same,
@@ -36,6 +38,7 @@ loop-self-preserved c =
             let more : IsUnderWay xs from (c.loop-self.self.passed + 1) n = under_way-below xs from c.loop-self.self.passed n c.loop-self-test.true (below_of x n fits_x fits_n c.if-self.true w.if-self-2.false) way in
             subst (λ (s : FreeNumbers). IsUnderWay c.args.self.now.written.now from (s.passed + 1) s.next) (sym w.self-is)
             (subst (λ (l : List ℤ). IsUnderWay l from (c.loop-self.self.passed + 1) n) same more),
+        subst (λ (s : FreeNumbers). farthest s.written.now (s.passed + 1) s.next ≤ℤ most) (sym w.self-is) (farthest-below xs c.loop-self.self.passed n most c.loop-self.invariant.2),
       )
     ]
 

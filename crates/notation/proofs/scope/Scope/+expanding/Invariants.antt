@@ -1,4 +1,8 @@
-use Rattle.std.proofs.Common.{ℕ, ◌+◌, ◌*◌}
+use Rattle.std.proofs.Common.{◌+◌, ◌*◌, map, take}
+use Rattle.types.specs.View.{field_view, alternative_view}
+use Rattle.syntax.specs.View.{tree, component, alternative}
+use Rattle.notation.specs.Known.{IsScope}
+use Rattle.notation.specs.Parts.{AreComponents, AreAlternatives}
 use Rattle.notation.proofs.scope.Scope.+expanding.Given as goal
 
 abbrev pub decreases-expand : goal.decreases-expand
@@ -18,3 +22,9 @@ decreases-fields l = 3 * l.depth + 2
 
 abbrev pub decreases-choice : goal.decreases-choice
 decreases-choice l = 3 * l.depth + 2
+
+abbrev pub invariant-fields-loop-place : goal.invariant-fields-loop-place
+invariant-fields-loop-place l = IsScope l.self.module.now l.self → AreComponents (tree l.self.module.now) l.automatic 0 (map component (take l.place l.components)) (map field_view l.fields.items)
+
+abbrev pub invariant-choice-loop-place : goal.invariant-choice-loop-place
+invariant-choice-loop-place l = IsScope l.self.module.now l.self → AreAlternatives (tree l.self.module.now) l.automatic 0 (map alternative (take l.place l.alternatives)) (map alternative_view l.found.items)

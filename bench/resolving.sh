@@ -1,0 +1,36 @@
+#!/usr/bin/env bash
+# Prints what resolving a name costs, on modules that are made in code.
+#
+#     bench/resolving.sh
+#
+# The program is bench/resolving/main.txt, which `rt run` proves and builds in a folder of its own beside
+# copies of the libraries that it calls. A first run takes some minutes, since these are proved again
+# unless their `out` folders are there.
+set -euo pipefail
+shopt -s inherit_errexit
+
+command -v rt >/dev/null || { echo 'resolving: rt is missing: install the kit' >&2; exit 1; }
+
+top=$(cd "$(dirname "${BASH_SOURCE[0]}")/.." && pwd)
+readonly top
+work=$(mktemp -d)
+readonly work
+trap 'rm -rf "$work"' EXIT
+
+mkdir -p "$work/crates/resolving/src"
+for crate in octets primitives strings types lexis syntax notation; do
+    cp -r "$top/crates/$crate" "$work/crates"
+done
+cp "$top/bench/resolving/main.txt" "$work/crates/resolving/src/main.rt"
+cat >"$work/crates.txt" <<'END'
+octets:
+primitives: octets
+strings: simdutf8
+lexis:
+types: octets primitives strings
+syntax: lexis
+notation: lexis syntax octets primitives strings types indexmap
+resolving: notation
+END
+cd "$work/crates/resolving"
+rt run

@@ -1,0 +1,14 @@
+use Rattle.std.proofs.Common.{◌≡◌, ◌++◌, map, take}
+use Rattle.syntax.specs.View.{component, alternative, components_of, alternatives_of}
+use Rattle.notation.specs.References.{names_in_components, names_in_alternatives}
+use Rattle.notation.proofs.references.+gathering.Given as goal
+
+abbrev pub invariant-gather_alternatives-loop-alternative :
+    goal.invariant-gather_alternatives-loop-alternative
+invariant-gather_alternatives-loop-alternative l =
+    map (λ n. n.now) l.names.items ≡ map (λ n. n.now) l.fn.names.items ++ names_in_alternatives (alternatives_of (map alternative (take l.alternative-index l.alternatives)))
+
+abbrev pub invariant-gather_components-loop-component :
+    goal.invariant-gather_components-loop-component
+invariant-gather_components-loop-component l =
+    map (λ n. n.now) l.names.items ≡ map (λ n. n.now) l.fn.names.items ++ names_in_components (components_of (map component (take l.component-index l.components)))
