@@ -1,0 +1,894 @@
+/*
+ * What asn1x is measured against: a converter from BER to DER for some types, each written by hand for its type
+ * alone. It makes its own inputs, and measures programs.
+ *
+ *     floor make WORK              writes about 16 MB of values under BER
+ *     floor convert WORK FILE      writes the values of the file under DER
+ *     floor module WORK            writes the module that has the type, whose name is Value
+ *     floor measure RUNS WORD..    runs the command of these words so many times, its standard output unread, and
+ *                                  prints the median of its processor time in microseconds, and the most memory
+ *                                  that was resident, in KiB
+ *
+ * It reads and writes by buffers. It takes the definite and the indefinite form, lengths in
+ * more octets than needed, and at most 1,048,576 octets a value, checks all that BER asks of these types, and
+ * ends with status 1 at the first octet that is wrong.
+ */
+#include <fcntl.h>
+#include <stdint.h>
+#include <stdio.h>
+#include <stdlib.h>
+#include <string.h>
+#include <sys/resource.h>
+#include <sys/time.h>
+#include <sys/wait.h>
+#include <unistd.h>
+
+typedef uint8_t octet;
+
+#define MOST 1048576
+#define INDEFINITE SIZE_MAX
+#define INPUT 16000000
+#define LEVELS 60
+#define ITEMS 1000
+
+static void die(const char *why)
+{
+    fprintf(stderr, "floor: %s\n", why);
+    exit(1);
+}
+
+/* Output. */
+
+static octet sent[1 << 16];
+static size_t held;
+
+static void flush(void)
+{
+    size_t at = 0;
+    while (at < held) {
+        ssize_t count = write(1, sent + at, held - at);
+        if (count <= 0)
+            die("cannot write");
+        at += (size_t)count;
+    }
+    held = 0;
+}
+
+static void send(const octet *octets, size_t count)
+{
+    while (count > sizeof sent - held) {
+        size_t some = sizeof sent - held;
+        memcpy(sent + held, octets, some);
+        held += some;
+        octets += some;
+        count -= some;
+        flush();
+    }
+    memcpy(sent + held, octets, count);
+    held += count;
+}
+
+/* Input. The window has the whole of the value that is converted. */
+
+static octet window[4 * MOST];
+static const octet *at = window, *file_end = window;
+static int input, all_read;
+
+static void open_input(const char *path)
+{
+    input = open(path, O_RDONLY);
+    if (input < 0)
+        die("cannot open the input");
+}
+
+/* Whether a value stands next. */
+static int has_value(void)
+{
+    size_t left = (size_t)(file_end - at);
+    if (left < MOST && !all_read) {
+        memmove(window, at, left);
+        at = window;
+        while (left < sizeof window && !all_read) {
+            size_t room = sizeof window - left;
+            ssize_t count = read(input, window + left, room < 65536 ? room : 65536);
+            if (count < 0)
+                die("cannot read the input");
+            all_read = count == 0;
+            left += (size_t)count;
+        }
+        file_end = window + left;
+    }
+    return at < file_end;
+}
+
+/* Takes the identifier octet. */
+static inline void take_tag(octet tag, const octet *end)
+{
+    if (at == end || *at != tag)
+        die("another identifier");
+    at++;
+}
+
+/* The length octets: how many contents octets follow up to `end`, or INDEFINITE. */
+static inline size_t take_length(const octet *end)
+{
+    if (at == end)
+        die("truncated");
+    size_t length = *at++;
+    if (length == 0x80)
+        return INDEFINITE;
+    if (length > 0x80) {
+        size_t count = length - 0x80;
+        if (count == 0x7f || count > (size_t)(end - at))
+            die("bad length");
+        for (length = 0; count > 0; count--) {
+            length = length << 8 | *at++;
+            if (length > MOST)
+                die("too long");
+        }
+    }
+    if (length > (size_t)(end - at))
+        die("bad length");
+    return length;
+}
+
+static inline size_t take_definite(const octet *end)
+{
+    size_t length = take_length(end);
+    if (length == INDEFINITE)
+        die("a primitive encoding of the indefinite form");
+    return length;
+}
+
+/* The end of a constructed encoding's contents octets, or of what holds it. */
+static inline const octet *take_opening(size_t *length, const octet *end)
+{
+    *length = take_length(end);
+    return *length == INDEFINITE ? end : at + *length;
+}
+
+/* Whether the contents octets end here; takes the end-of-contents octets. */
+static inline int ends(size_t length, const octet *end)
+{
+    if (length != INDEFINITE)
+        return at == end;
+    if (end - at < 2)
+        die("truncated");
+    if (at[0] != 0)
+        return 0;
+    if (at[1] != 0)
+        die("bad end of contents");
+    at += 2;
+    return 1;
+}
+
+static void must_end(size_t length, const octet *end)
+{
+    if (!ends(length, end))
+        die("more than is allowed");
+}
+
+/* What is being written of a value: contents octets with room for what stands before them. */
+
+static octet value[MOST + 64];
+static octet *put;
+
+static inline void begin(void)
+{
+    put = value + 16;
+}
+
+static inline void put_octets(const octet *octets, size_t count)
+{
+    if (count > (size_t)(value + sizeof value - put))
+        die("too long");
+    memcpy(put, octets, count);
+    put += count;
+}
+
+static inline size_t size_of_length(size_t length)
+{
+    return length < 0x80 ? 1 : length < 0x100 ? 2 : length < 0x10000 ? 3 : 4;
+}
+
+static inline void put_length(octet *to, size_t length, size_t size)
+{
+    if (size == 1) {
+        to[0] = (octet)length;
+        return;
+    }
+    to[0] = (octet)(0x7f + size);
+    for (size_t i = size; --i > 0; length >>= 8)
+        to[i] = (octet)length;
+}
+
+static inline void put_head(octet tag, size_t length)
+{
+    size_t size = size_of_length(length);
+    if (size + 1 > (size_t)(value + sizeof value - put))
+        die("too long");
+    put[0] = tag;
+    put_length(put + 1, length, size);
+    put += 1 + size;
+}
+
+/* Sends what began with `begin`, with its head before it. */
+static void send_value(octet tag)
+{
+    size_t length = (size_t)(put - (value + 16)), size = size_of_length(length);
+    octet *head = value + 16 - size - 1;
+    if (length + size + 1 > MOST)
+        die("too long");
+    head[0] = tag;
+    put_length(head + 1, length, size);
+    send(head, 1 + size + length);
+}
+
+/* Parts without parts. Each takes its identifier octets too. */
+
+static inline void boolean(octet tag, const octet *end)
+{
+    take_tag(tag, end);
+    if (take_definite(end) != 1)
+        die("bad BOOLEAN");
+    octet truth = *at++ ? 0xff : 0;
+    put_head(tag, 1);
+    put_octets(&truth, 1);
+}
+
+static inline size_t integer_length(const octet *end)
+{
+    size_t length = take_definite(end);
+    if (length == 0 || length > 16)
+        die("bad INTEGER");
+    if (length > 1 && ((at[0] == 0 && at[1] < 0x80) || (at[0] == 0xff && at[1] >= 0x80)))
+        die("bad INTEGER");
+    return length;
+}
+
+static inline void integer(octet tag, const octet *end)
+{
+    take_tag(tag, end);
+    size_t length = integer_length(end);
+    put_head(tag, length);
+    put_octets(at, length);
+    at += length;
+}
+
+static inline void enumerated(const octet *end)
+{
+    take_tag(0x0a, end);
+    if (take_definite(end) != 1 || *at > 2)
+        die("bad ENUMERATED");
+    put_head(0x0a, 1);
+    put_octets(at++, 1);
+}
+
+static inline void object_identifier(const octet *end)
+{
+    take_tag(0x06, end);
+    size_t length = take_definite(end);
+    if (length == 0 || at[length - 1] >= 0x80)
+        die("bad OBJECT IDENTIFIER");
+    size_t digits = 0;
+    for (size_t i = 0; i < length; i++) {
+        if (digits == 0 && at[i] == 0x80)
+            die("bad OBJECT IDENTIFIER");
+        digits = at[i] < 0x80 ? 0 : digits + 1;
+        if (digits > 17)
+            die("bad OBJECT IDENTIFIER");
+    }
+    put_head(0x06, length);
+    put_octets(at, length);
+    at += length;
+}
+
+static inline void bit_string(const octet *end)
+{
+    take_tag(0x03, end);
+    size_t length = take_definite(end);
+    if (length == 0 || at[0] > 7 || (length == 1 && at[0] != 0))
+        die("bad BIT STRING");
+    put_head(0x03, length);
+    put_octets(at, length);
+    put[-1] &= (octet)(0xff << at[0]);
+    at += length;
+}
+
+enum { OF_OCTETS, OF_UTF8, OF_PRINTABLE, OF_ASCII, OF_VISIBLE };
+static octet alphabets[256];
+
+static void make_alphabets(void)
+{
+    for (int c = 0; c < 256; c++) {
+        int is_letter = (c >= 'A' && c <= 'Z') || (c >= 'a' && c <= 'z');
+        int is_printable = is_letter || (c >= '0' && c <= '9') || (c && strchr(" '()+,-./:=?", c));
+        alphabets[c] = (octet)((is_printable ? 1 << OF_PRINTABLE : 0) | (c < 128 ? 1 << OF_ASCII : 0)
+            | (c >= 32 && c < 127 ? 1 << OF_VISIBLE : 0) | 1 << OF_OCTETS);
+    }
+}
+
+static void check_utf8(const octet *s, size_t length)
+{
+    const octet *end = s + length;
+    while (s < end) {
+        octet c = *s++;
+        if (c < 0x80)
+            continue;
+        size_t more = c >= 0xf0 ? 3 : c >= 0xe0 ? 2 : 1;
+        if (c < 0xc2 || c > 0xf4 || more > (size_t)(end - s))
+            die("bad UTF-8");
+        octet low = c == 0xe0 ? 0xa0 : c == 0xf0 ? 0x90 : 0x80, high = c == 0xed ? 0x9f : c == 0xf4 ? 0x8f : 0xbf;
+        if (s[0] < low || s[0] > high)
+            die("bad UTF-8");
+        for (size_t i = 1; i < more; i++)
+            if (s[i] >> 6 != 2)
+                die("bad UTF-8");
+        s += more;
+    }
+}
+
+static inline void string(octet tag, int kind, const octet *end)
+{
+    take_tag(tag, end);
+    size_t length = take_definite(end);
+    if (kind == OF_UTF8) {
+        check_utf8(at, length);
+    } else if (kind != OF_OCTETS) {
+        for (size_t i = 0; i < length; i++)
+            if (!(alphabets[at[i]] >> kind & 1))
+                die("a character that the type does not have");
+    }
+    put_head(tag, length);
+    put_octets(at, length);
+    at += length;
+}
+
+static inline unsigned two(const octet *digits)
+{
+    return (unsigned)(digits[0] - '0') * 10 + (unsigned)(digits[1] - '0');
+}
+
+static inline void generalized_time(const octet *end)
+{
+    static const octet days[] = {31, 28, 31, 30, 31, 30, 31, 31, 30, 31, 30, 31};
+    take_tag(0x18, end);
+    size_t length = take_definite(end);
+    if (length != 15 || at[14] != 'Z')
+        die("bad GeneralizedTime");
+    for (int i = 0; i < 14; i++)
+        if (at[i] < '0' || at[i] > '9')
+            die("bad GeneralizedTime");
+    unsigned year = two(at) * 100 + two(at + 2), month = two(at + 4), day = two(at + 6);
+    if (month < 1 || month > 12 || day < 1 || two(at + 8) > 23 || two(at + 10) > 59 || two(at + 12) > 59)
+        die("bad GeneralizedTime");
+    unsigned leap = month == 2 && year % 4 == 0 && (year % 100 != 0 || year % 400 == 0);
+    if (day > days[month - 1] + leap)
+        die("bad GeneralizedTime");
+    put_head(0x18, length);
+    put_octets(at, length);
+    at += length;
+}
+
+/* Records. */
+
+static const char records_module[] =
+    "Records DEFINITIONS IMPLICIT TAGS ::= BEGIN\n"
+    "  Value ::= SEQUENCE {\n"
+    "    number INTEGER,\n"
+    "    active BOOLEAN,\n"
+    "    kind ENUMERATED { local (0), mobile (1), relay (2) },\n"
+    "    name UTF8String,\n"
+    "    label PrintableString,\n"
+    "    started GeneralizedTime,\n"
+    "    service OBJECT IDENTIFIER,\n"
+    "    key OCTET STRING,\n"
+    "    flags BIT STRING,\n"
+    "    called CHOICE { digits [0] IA5String, code [1] INTEGER, none [2] NULL },\n"
+    "    marks SEQUENCE OF INTEGER,\n"
+    "    note [3] VisibleString OPTIONAL,\n"
+    "    level [4] INTEGER DEFAULT 0\n"
+    "  }\n"
+    "END\n";
+
+static void called(const octet *end)
+{
+    if (at == end)
+        die("truncated");
+    switch (*at) {
+    case 0x80:
+        string(0x80, OF_ASCII, end);
+        break;
+    case 0x81:
+        integer(0x81, end);
+        break;
+    default:
+        take_tag(0x82, end);
+        if (take_definite(end) != 0)
+            die("bad NULL");
+        put_head(0x82, 0);
+    }
+}
+
+static void marks(const octet *end)
+{
+    size_t length;
+    take_tag(0x30, end);
+    const octet *last = take_opening(&length, end);
+    put_head(0x30, 0);
+    octet *start = put;
+    while (!ends(length, last))
+        integer(0x02, last);
+    size_t count = (size_t)(put - start), size = size_of_length(count);
+    if (size > 1) {
+        if (size > (size_t)(value + sizeof value - put))
+            die("too long");
+        memmove(start - 1 + size, start, count);
+        put += size - 1;
+    }
+    put_length(start - 1, count, size);
+}
+
+static void record(void)
+{
+    size_t length;
+    begin();
+    take_tag(0x30, file_end);
+    const octet *end = take_opening(&length, file_end);
+    integer(0x02, end);
+    boolean(0x01, end);
+    enumerated(end);
+    string(0x0c, OF_UTF8, end);
+    string(0x13, OF_PRINTABLE, end);
+    generalized_time(end);
+    object_identifier(end);
+    string(0x04, OF_OCTETS, end);
+    bit_string(end);
+    called(end);
+    marks(end);
+    if (at < end && *at == 0x83)
+        string(0x83, OF_VISIBLE, end);
+    if (at < end && *at == 0x84) {
+        octet *before = put;
+        integer(0x84, end);
+        if (put - before == 3 && before[2] == 0)
+            put = before;
+    }
+    must_end(length, end);
+    send_value(0x30);
+}
+
+/* Strings in segments. */
+
+static void segments(int nested, size_t length, const octet *end)
+{
+    if (nested == 64)
+        die("too many open encodings");
+    while (!ends(length, end)) {
+        if (at < end && *at == 0x24) {
+            size_t inside;
+            at++;
+            const octet *last = take_opening(&inside, end);
+            segments(nested + 1, inside, last);
+        } else {
+            take_tag(0x04, end);
+            size_t count = take_definite(end);
+            put_octets(at, count);
+            at += count;
+        }
+    }
+}
+
+static void octet_string(void)
+{
+    begin();
+    if (at < file_end && *at == 0x24) {
+        size_t length;
+        at++;
+        const octet *end = take_opening(&length, file_end);
+        segments(1, length, end);
+    } else {
+        take_tag(0x04, file_end);
+        size_t count = take_definite(file_end);
+        put_octets(at, count);
+        at += count;
+    }
+    send_value(0x04);
+}
+
+/* SET OF INTEGER. An item is ordered by its length and contents octets. */
+
+struct item {
+    uint64_t front;
+    const octet *contents;
+    size_t length;
+};
+
+static struct item *items, *others;
+static size_t room;
+
+static inline int is_behind(const struct item *a, const struct item *b)
+{
+    if (a->front != b->front)
+        return a->front > b->front;
+    return a->length > 7 && memcmp(a->contents + 7, b->contents + 7, a->length - 7) > 0;
+}
+
+static void sort_items(struct item *xs, struct item *spare, size_t count)
+{
+    if (count <= 16) {
+        for (size_t i = 1; i < count; i++) {
+            struct item x = xs[i];
+            size_t j = i;
+            for (; j > 0 && is_behind(&xs[j - 1], &x); j--)
+                xs[j] = xs[j - 1];
+            xs[j] = x;
+        }
+        return;
+    }
+    size_t half = count / 2, i = 0, j = half, k = 0;
+    sort_items(xs, spare, half);
+    sort_items(xs + half, spare, count - half);
+    memcpy(spare, xs, half * sizeof *xs);
+    while (i < half && j < count)
+        xs[k++] = is_behind(&spare[i], &xs[j]) ? xs[j++] : spare[i++];
+    memcpy(xs + k, spare + i, (half - i) * sizeof *xs);
+}
+
+static void set_of_integer(void)
+{
+    size_t length, count = 0;
+    begin();
+    take_tag(0x31, file_end);
+    const octet *end = take_opening(&length, file_end);
+    while (!ends(length, end)) {
+        if (count == room) {
+            room = room ? 2 * room : 1024;
+            items = realloc(items, room * sizeof *items);
+            others = realloc(others, room * sizeof *others);
+            if (items == NULL || others == NULL)
+                die("out of memory");
+        }
+        take_tag(0x02, end);
+        struct item *item = &items[count++];
+        item->length = integer_length(end);
+        item->contents = at;
+        item->front = (uint64_t)item->length << 56;
+        for (size_t i = 0; i < item->length && i < 7; i++)
+            item->front |= (uint64_t)at[i] << (48 - 8 * i);
+        at += item->length;
+    }
+    sort_items(items, others, count);
+    for (size_t i = 0; i < count; i++) {
+        put_head(0x02, items[i].length);
+        put_octets(items[i].contents, items[i].length);
+    }
+    send_value(0x31);
+}
+
+/* An INTEGER within sixty explicit tags, [0] to [29] twice. */
+
+static octet chain_tag(size_t level)
+{
+    return (octet)(0xa0 + level % 30);
+}
+
+static void chain(void)
+{
+    size_t lengths[LEVELS];
+    const octet *last[LEVELS], *end = file_end;
+    for (size_t level = 0; level < LEVELS; level++) {
+        take_tag(chain_tag(level), end);
+        end = last[level] = take_opening(&lengths[level], end);
+    }
+    take_tag(0x02, end);
+    size_t length = integer_length(end);
+    const octet *contents = at;
+    at += length;
+    for (size_t level = LEVELS; level-- > 0;)
+        must_end(lengths[level], last[level]);
+    /* From the last octet to the first. */
+    octet turned[LEVELS * 5 + 32], *to = turned + sizeof turned, *stop = to;
+    to -= length;
+    memcpy(to, contents, length);
+    *--to = (octet)length;
+    *--to = 0x02;
+    for (size_t level = LEVELS; level-- > 0;) {
+        size_t inside = (size_t)(stop - to), size = size_of_length(inside);
+        to -= size;
+        put_length(to, inside, size);
+        *--to = chain_tag(level);
+    }
+    send(to, (size_t)(stop - to));
+}
+
+static void chain_module(void)
+{
+    printf("Chain DEFINITIONS EXPLICIT TAGS ::= BEGIN\n  Value ::=");
+    for (int level = 0; level < LEVELS; level++)
+        printf(" [%d]", level % 30);
+    printf(" INTEGER\nEND\n");
+}
+
+/* SEQUENCE OF NULL. */
+
+static void sequence_of_null(void)
+{
+    size_t length;
+    begin();
+    take_tag(0x30, file_end);
+    const octet *end = take_opening(&length, file_end);
+    while (!ends(length, end)) {
+        take_tag(0x05, end);
+        if (take_definite(end) != 0)
+            die("bad NULL");
+        put_head(0x05, 0);
+    }
+    send_value(0x30);
+}
+
+/* BOOLEANs. */
+
+static void one_boolean(void)
+{
+    take_tag(0x01, file_end);
+    if (take_definite(file_end) != 1)
+        die("bad BOOLEAN");
+    octet encoding[3] = {0x01, 0x01, *at++ ? 0xff : 0};
+    send(encoding, sizeof encoding);
+}
+
+/* Inputs. */
+
+static uint64_t state = 0x9e3779b97f4a7c15;
+
+static uint64_t any(void)
+{
+    state ^= state << 13;
+    state ^= state >> 7;
+    state ^= state << 17;
+    return state;
+}
+
+static size_t made;
+
+static void give(const void *octets, size_t count)
+{
+    send(octets, count);
+    made += count;
+}
+
+#define GIVE(...) give((const octet[]){__VA_ARGS__}, sizeof((const octet[]){__VA_ARGS__}))
+
+/* An INTEGER under a tag, of about so many bits. */
+static void give_integer(octet tag, int bits)
+{
+    int64_t number = (int64_t)any() >> (64 - bits);
+    octet contents[8];
+    size_t length = 8;
+    for (int i = 0; i < 8; i++)
+        contents[i] = (octet)(number >> (56 - 8 * i));
+    const octet *front = contents;
+    while (length > 1 && ((front[0] == 0 && front[1] < 0x80) || (front[0] == 0xff && front[1] >= 0x80))) {
+        front++;
+        length--;
+    }
+    GIVE(tag, (octet)length);
+    give(front, length);
+}
+
+static void give_text(octet tag, const char *letters, size_t length)
+{
+    size_t count = strlen(letters);
+    if (any() % 4 == 0)
+        GIVE(tag, 0x81, (octet)length);
+    else
+        GIVE(tag, (octet)length);
+    while (length-- > 0)
+        GIVE((octet)letters[any() % count]);
+}
+
+static void give_record(void)
+{
+    static const char letters[] = "abcdefghijklmnopqrstuvwxyz ABCDEFGHIJKLMNOPQRSTUVWXYZ0123456789";
+    char time[32];
+    GIVE(0x30, 0x80);
+    give_integer(0x02, 24);
+    GIVE(0x01, 0x01, (octet)any());
+    GIVE(0x0a, 0x01, (octet)(any() % 3));
+    give_text(0x0c, letters, 6 + any() % 6);
+    give_text(0x13, letters, any() % 6);
+    sprintf(time, "\x18\x0f""2026%02u%02u%02u%02u%02uZ", (unsigned)(1 + any() % 12), (unsigned)(1 + any() % 28),
+        (unsigned)(any() % 24), (unsigned)(any() % 60), (unsigned)(any() % 60));
+    give(time, 17);
+    GIVE(0x06, 0x04, 0x2a, 0x03, (octet)(0x81 + any() % 8), (octet)(any() % 128));
+    give_text(0x04, letters, 4);
+    GIVE(0x03, 0x02, 0x04, (octet)any());
+    switch (any() % 3) {
+    case 0:
+        give_text(0x80, "0123456789", 7);
+        break;
+    case 1:
+        give_integer(0x81, 16);
+        break;
+    default:
+        GIVE(0x82, 0x00);
+    }
+    GIVE(0x30, 0x80);
+    for (uint64_t left = any() % 5; left > 0; left--)
+        give_integer(0x02, 12);
+    GIVE(0x00, 0x00);
+    if (any() % 2)
+        give_text(0x83, letters, any() % 10);
+    switch (any() % 4) {
+    case 0:
+        GIVE(0x84, 0x01, 0x00);
+        break;
+    case 1:
+        give_integer(0x84, 8);
+    }
+    GIVE(0x00, 0x00);
+}
+
+/* One string of as many segments of so many octets as a value can have. */
+static void give_segments(size_t size)
+{
+    size_t whole = size < 128 ? size + 2 : size + 4;
+    GIVE(0x24, 0x80);
+    for (size_t count = (MOST - 16) / whole; count > 0; count--) {
+        if (size < 128)
+            GIVE(0x04, (octet)size);
+        else
+            GIVE(0x04, 0x82, (octet)(size >> 8), (octet)size);
+        for (size_t i = 0; i < size; i++)
+            GIVE((octet)any());
+    }
+    GIVE(0x00, 0x00);
+}
+
+static void give_set(void)
+{
+    GIVE(0x31, 0x80);
+    for (int i = 0; i < ITEMS; i++)
+        give_integer(0x02, 32);
+    GIVE(0x00, 0x00);
+}
+
+static void give_chain(void)
+{
+    for (size_t level = 0; level < LEVELS; level++)
+        GIVE(chain_tag(level), 0x80);
+    give_integer(0x02, 16);
+    for (size_t level = 0; level < LEVELS; level++)
+        GIVE(0x00, 0x00);
+}
+
+static void give_nulls(void)
+{
+    GIVE(0x30, 0x80);
+    for (int i = 0; i < (MOST - 16) / 2; i++)
+        GIVE(0x05, 0x00);
+    GIVE(0x00, 0x00);
+}
+
+static void give_boolean(void)
+{
+    GIVE(0x01, 0x01, (octet)(any() % 4));
+}
+
+static void give_long_segments(void)
+{
+    give_segments(1000);
+}
+
+static void give_short_segments(void)
+{
+    give_segments(1);
+}
+
+/* The works. */
+
+struct work {
+    const char *name;
+    void (*convert)(void);
+    void (*give)(void);
+    /* How many values, or 0 for INPUT octets. */
+    size_t values;
+    const char *module;
+};
+
+static const struct work works[] = {
+    {"records", record, give_record, 200000, records_module},
+    {"segments_of_1000", octet_string, give_long_segments, 0,
+        "Strings DEFINITIONS ::= BEGIN Value ::= OCTET STRING END\n"},
+    {"segments_of_1", octet_string, give_short_segments, 0,
+        "Strings DEFINITIONS ::= BEGIN Value ::= OCTET STRING END\n"},
+    {"sets", set_of_integer, give_set, 0, "Sets DEFINITIONS ::= BEGIN Value ::= SET OF INTEGER END\n"},
+    {"chains", chain, give_chain, 0, NULL},
+    {"nulls", sequence_of_null, give_nulls, 1, "Nulls DEFINITIONS ::= BEGIN Value ::= SEQUENCE OF NULL END\n"},
+    {"booleans", one_boolean, give_boolean, 2000000, "Booleans DEFINITIONS ::= BEGIN Value ::= BOOLEAN END\n"},
+};
+
+static const struct work *work_of(const char *name)
+{
+    for (size_t i = 0; i < sizeof works / sizeof *works; i++)
+        if (strcmp(works[i].name, name) == 0)
+            return &works[i];
+    die("no such work");
+    return NULL;
+}
+
+/* Measuring. */
+
+static int ascending(const void *a, const void *b)
+{
+    const int64_t *x = a, *y = b;
+    return (*x > *y) - (*x < *y);
+}
+
+static int64_t micros(struct timeval time)
+{
+    return (int64_t)time.tv_sec * 1000000 + time.tv_usec;
+}
+
+static int measure(int runs, char **words)
+{
+    int64_t processor[100], memory = 0;
+    if (runs < 1 || runs > 100)
+        die("1 to 100 runs");
+    for (int run = 0; run < runs; run++) {
+        pid_t child = fork();
+        if (child < 0)
+            die("cannot start a process");
+        if (child == 0) {
+            int nowhere = open("/dev/null", O_WRONLY);
+            if (nowhere < 0 || dup2(nowhere, 1) < 0)
+                _exit(126);
+            execv(words[0], words);
+            _exit(127);
+        }
+        int status;
+        struct rusage usage;
+        if (wait4(child, &status, 0, &usage) < 0)
+            die("cannot wait");
+        processor[run] = micros(usage.ru_utime) + micros(usage.ru_stime);
+        if (usage.ru_maxrss > memory)
+            memory = usage.ru_maxrss;
+        if (!WIFEXITED(status) || WEXITSTATUS(status) != 0)
+            die("the command did not end with status 0");
+    }
+    qsort(processor, (size_t)runs, sizeof *processor, ascending);
+    printf("%lld %lld\n", (long long)processor[runs / 2], (long long)memory);
+    return 0;
+}
+
+int main(int count, char **words)
+{
+    if (count >= 4 && strcmp(words[1], "measure") == 0)
+        return measure(atoi(words[2]), words + 3);
+    if (count < 3) {
+        fprintf(stderr, "usage: floor make WORK | convert WORK FILE | module WORK | measure RUNS WORD..\n");
+        return 64;
+    }
+    const struct work *work = work_of(words[2]);
+    if (strcmp(words[1], "module") == 0) {
+        if (work->module == NULL)
+            chain_module();
+        else
+            fputs(work->module, stdout);
+        return 0;
+    }
+    if (strcmp(words[1], "make") == 0) {
+        for (size_t i = 0; work->values ? i < work->values : made < INPUT; i++)
+            work->give();
+    } else if (count == 4 && strcmp(words[1], "convert") == 0) {
+        make_alphabets();
+        open_input(words[3]);
+        while (has_value())
+            work->convert();
+    } else {
+        die("make, convert, module or measure");
+    }
+    flush();
+    return 0;
+}

@@ -1,0 +1,115 @@
+#!/usr/bin/env bash
+# Prints what asn1x takes beside a converter written by hand in C, bench/floor.c, and holds it to bounds.
+#
+#     bench/throughput.sh [PROGRAM]
+#
+# PROGRAM is crates/asn1x/out/asn1x unless given, which `rt run` in crates/asn1x builds. The inputs are made
+# anew, about 16 MB each, and both must write the same octets. From BER to DER asn1x may take, of what
+# floor takes:
+#
+#     records           200,000 SEQUENCEs of a dozen components, indefinite lengths                    5
+#     segments_of_1000  OCTET STRINGs of about 1 MiB in segments of 1,000 octets                       3
+#     segments_of_1     the same in segments of one octet                                              3
+#     sets              SET OF INTEGER, a thousand items each in no order                              4
+#     chains            an INTEGER within sixty explicit tags                                          5
+#     booleans          2,000,000 BOOLEANs                                                             3
+#
+# Of each, CER may take 1.5 times the time that DER takes, `check` no more than it, and `show` 3 times it.
+# A run over one NULL may take 2 ms. At most 3 MiB may be resident over values of at most 4 KiB, and 30 MiB over
+# a string or a SEQUENCE OF NULL of 1 MiB; a list of values that have parts takes more.
+#
+# A time is processor time, the median of five runs, and of a hundred over one NULL.
+set -euo pipefail
+shopt -s inherit_errexit
+
+readonly runs=5
+
+top=$(cd "$(dirname "${BASH_SOURCE[0]}")/.." && pwd)
+readonly top
+program=$(realpath "${1-$top/crates/asn1x/out/asn1x}")
+readonly program
+
+fail() {
+    echo "throughput: $1" >&2
+    exit 1
+}
+
+[[ -x $program ]] || fail "$program is missing: run 'rt run' in crates/asn1x"
+command -v cc >/dev/null || fail 'cc is missing'
+
+work=$(mktemp -d)
+readonly work
+trap 'rm -rf "$work"' EXIT
+readonly floor=$work/floor
+cc -O2 -Wall -o "$floor" "$top/bench/floor.c"
+
+held=0
+
+# Prints a line on what is measured: $1, at most $2, of $3 over $4 in hundredths.
+hold() {
+    local ratio=$((100 * $3 / ($4 > 0 ? $4 : 1))) verdict=held
+    if ((ratio > $2)); then
+        verdict='NOT HELD'
+        held=1
+    fi
+    printf '%-32s %9d / %9d = %3d.%02d, at most %d.%02d  %s\n' "$1" "$3" "$4" \
+        $((ratio / 100)) $((ratio % 100)) $(($2 / 100)) $(($2 % 100)) "$verdict"
+}
+
+# Sets `took` and `resident` to what the command of these words needs.
+measure() {
+    read -r took resident < <("$floor" measure "$@")
+}
+
+# Makes the input of a work, and compares what the two programs write.
+prepare() {
+    "$floor" make "$1" >"$work/$1.ber"
+    "$floor" module "$1" >"$work/$1.asn"
+    "$floor" convert "$1" "$work/$1.ber" >"$work/want"
+    "$program" convert "$work/$1.asn" Value "$work/$1.ber" --to der >"$work/out"
+    cmp "$work/want" "$work/out" || fail "$1: other octets"
+    rm "$work/want" "$work/out"
+}
+
+# Measures a work, which may take $2 hundredths of what floor takes.
+row() {
+    local input=("$work/$1.asn" Value "$work/$1.ber") theirs der
+    prepare "$1"
+    measure $runs "$floor" convert "$1" "$work/$1.ber"
+    theirs=$took
+    measure $runs "$program" convert "${input[@]}" --to der
+    der=$took
+    residents[$1]=$resident
+    hold "$1" "$2" "$der" "$theirs"
+    measure $runs "$program" convert "${input[@]}" --to cer
+    hold "  to CER over to DER" 150 "$took" "$der"
+    measure $runs "$program" check "${input[@]}"
+    hold "  check over convert" 100 "$took" "$der"
+    measure $runs "$program" show "${input[@]}"
+    hold "  show over convert" 300 "$took" "$der"
+}
+
+declare -A residents=()
+echo 'microseconds:'
+row records 500
+row segments_of_1000 300
+row segments_of_1 300
+row sets 400
+row chains 500
+row booleans 300
+
+printf '\5\0' >"$work/null"
+measure 100 "$program" convert @builtin NULL "$work/null" --to der
+hold 'one NULL, over 1 ms' 200 "$took" 1000
+
+echo 'KiB resident:'
+echo "one NULL                         $resident"
+hold 'records, over 1 MiB' 300 "${residents[records]}" 1024
+hold 'chains, over 1 MiB' 300 "${residents[chains]}" 1024
+hold 'booleans, over 1 MiB' 300 "${residents[booleans]}" 1024
+hold 'segments_of_1000, over 1 MiB' 3000 "${residents[segments_of_1000]}" 1024
+hold 'segments_of_1, over 1 MiB' 3000 "${residents[segments_of_1]}" 1024
+prepare nulls
+measure 1 "$program" convert "$work/nulls.asn" Value "$work/nulls.ber" --to der
+hold 'SEQUENCE OF NULL, over 1 MiB' 3000 "$resident" 1024
+exit $held
