@@ -19,7 +19,7 @@ readonly work
 trap 'rm -rf "$work"' EXIT
 
 mkdir -p "$work/crates/reader/src"
-for crate in octets primitives strings types berreader; do
+for crate in octets primitives strings types contents berreader; do
     cp -r "$top/crates/$crate" "$work/crates"
 done
 cp "$top/bench/reader/main.txt" "$work/crates/reader/src/main.rt"
@@ -28,7 +28,8 @@ octets:
 primitives: octets
 strings: simdutf8
 types: octets primitives strings
-berreader: octets primitives strings types smallvec
+contents: octets primitives strings types smallvec
+berreader: octets primitives strings types contents smallvec
 reader: octets strings types berreader
 END
 cd "$work/crates/reader"

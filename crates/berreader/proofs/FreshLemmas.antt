@@ -11,7 +11,8 @@ use Rattle.types.specs.View.{value_view}
 use Rattle.types.proofs.ApartInstances.{of_no_octets}
 use Rattle.berreader.specs.declared.pieces.Pieces.{Pieces}
 use Rattle.berreader.specs.declared.reader.Step as answer
-use Rattle.berreader.specs.Nest.{CanComplete, IsPartWithin, StandsAt}
+use Rattle.contents.specs.Parts.{IsPartWithin}
+use Rattle.berreader.specs.Nest.{CanComplete, StandsAt}
 use Rattle.berreader.specs.Feeding.{HasBeenFed, HasValue, IsDone, IsFedStep, IsFinished, IsFresh, IsMore, shape_of}
 use Rattle.berreader.proofs.AcceptedLemmas.{within_of_accepted}
 use Rattle.berreader.proofs.CursorLemmas.{finishes, no_octets, none_begun, taken_by_nest, taken_of_nest}

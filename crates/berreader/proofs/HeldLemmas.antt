@@ -10,10 +10,10 @@ use Rattle.types.specs.Shape.{Shape, Val}
 use Rattle.types.specs.View.{value_view}
 use Rattle.types.specs.Weight.{weight_of}
 use Rattle.types.specs.WellFormed.{nodes_of}
-use Rattle.berreader.specs.declared.frame.Frame.{Frame}
+use Rattle.contents.specs.declared.frame.Frame.{Frame}
 use Rattle.berreader.specs.declared.pieces.Pieces.{Pieces}
 use Rattle.berreader.specs.declared.reader.Step as answer
-use Rattle.berreader.specs.Completing.{IsOpening}
+use Rattle.contents.specs.Completing.{IsOpening}
 use Rattle.berreader.specs.Feeding.{HasBeenFed, IsFedStep, shape_of}
 use Rattle.berreader.specs.Nest.{IsDueInside, StandsAt, levels_inside}
 use Rattle.berreader.specs.Stack.{Layer, layers_of}

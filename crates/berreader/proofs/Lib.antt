@@ -1,15 +1,4 @@
-pub mod LeafLemmas
-pub mod ContentsLengthLemmas
-pub mod HeadLemmas
-pub mod DepthLemmas
-pub mod CompletingLemmas
-pub mod StepLemmas
-pub mod JoinedLemmas
-pub mod SegmentsLemmas
-pub mod WithinLemmas
 pub mod AcceptedLemmas
-pub mod TypedLemmas
-pub mod ReadingLemmas
 pub mod PartsOrderLemmas
 pub mod PartsForthLemmas
 pub mod PartsDueLemmas
@@ -17,8 +6,6 @@ pub mod PartsPutLemmas
 pub mod PartsValueLemmas
 pub mod PartsOpenLemmas
 pub mod PartsBeginLemmas
-pub mod ChoiceLemmas
-pub mod EndLemmas
 pub mod NestLemmas
 pub mod NestBackLemmas
 pub mod FeedingLemmas
@@ -29,5 +16,3 @@ pub mod HeldLemmas
 pub mod NestStepLemmas
 pub mod StringLemmas
 pub mod CursorLemmas
-pub mod SeatLemmas
-pub mod HoldingLemmas

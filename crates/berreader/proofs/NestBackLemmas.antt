@@ -5,13 +5,13 @@ use Rattle.octets.specs.declared.tag.Tag.{Tag}
 use Rattle.octets.specs.Rule.{ber}
 use Rattle.types.specs.Shape.{Val, Shape}
 use Rattle.types.specs.Encoding.{IsAccepted, most_nested}
-use Rattle.berreader.specs.declared.frame.Frame.{Frame}
-use Rattle.berreader.specs.Completing.{IsEndOf, IsOpening}
-use Rattle.berreader.specs.Parts.{IsPartOf, IsNodeFor, ArePartsOf, AreNone, IsGoodType, IsValueOf}
+use Rattle.contents.specs.declared.frame.Frame.{Frame}
+use Rattle.contents.specs.Completing.{IsEndOf, IsOpening}
+use Rattle.contents.specs.Parts.{IsPartOf, IsNodeFor, ArePartsOf, AreNone, IsGoodType, IsValueOf, IsWrapped}
 use Rattle.berreader.specs.Stack.{Layer, with_which}
-use Rattle.berreader.specs.Nest.{StandsAt, IsDueInside, IsDueNext, IsWrapped, IsComeInside, AreSound, AreInside, levels_inside, levels_left, end_inside}
-use Rattle.berreader.proofs.ChoiceLemmas.{node_good, node_own}
-use Rattle.berreader.proofs.CompletingLemmas.{constructed_of_frame}
+use Rattle.berreader.specs.Nest.{StandsAt, IsDueInside, IsDueNext, IsComeInside, AreSound, AreInside, levels_inside, levels_left, end_inside}
+use Rattle.contents.proofs.ChoiceLemmas.{node_good, node_own}
+use Rattle.contents.proofs.CompletingLemmas.{constructed_of_frame}
 use Rattle.berreader.proofs.PartsDueLemmas.{due_good}
 use Rattle.berreader.proofs.PartsOpenLemmas.{none_holds, parts_good}
 use Rattle.berreader.proofs.PartsPutLemmas.{put_holds, put_good, put_parts_of}

@@ -7,7 +7,7 @@ use Rattle.types.specs.View.{ComponentView, components_of}
 use Rattle.types.specs.FirstTags.{first_tags, AreDistinct, RunsAreDistinct, tags_of_components, tags_of_run}
 use Rattle.types.proofs.ListLemmas.{contains_left, contains_right, distinct_apart, distinct_right}
 use Rattle.types.proofs.SlotLemmas.{run_is}
-use Rattle.berreader.specs.Parts.{Parts, Seat, IsDue, IsNextOf, IsVacant, once_come, IsGoodType, IsGoodComponent, AreGood}
+use Rattle.contents.specs.Parts.{Parts, Seat, IsDue, IsNextOf, IsVacant, once_come, IsGoodType, IsGoodComponent, AreGood}
 
 -- the same part, as far as more may come, of the same type; the parts of an explicit tag and items are not counted
 pub record IsSameDue (parts : Parts) (i j : ℕ) (T U : Shape) : Type 0 where

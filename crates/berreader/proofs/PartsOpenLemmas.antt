@@ -16,8 +16,8 @@ use Rattle.types.proofs.ListLemmas.{all_append}
 use Rattle.types.proofs.FormLemmas.{definite_unique}
 use Rattle.types.proofs.NestingLemmas.{parts_unique, definite_not_indefinite, indefinite_opening}
 use Rattle.types.proofs.BeginningLemmas.{IsOneNested, all_zip, all_permutation, absent_value, encoding_is_nested, slots_are_nested, explicit_parts, one_nested_above, one_nested_unique}
-use Rattle.berreader.specs.Parts.{Parts, Seat, IsPart, IsLeft, IsLeftOfSeat, CanFill, IsSeated, Holds, ArePartsOf, AreNone, IsGoodType, IsGoodComponent, AreGood}
-use Rattle.berreader.proofs.DepthLemmas.{deeper}
+use Rattle.contents.specs.Parts.{Parts, Seat, IsPart, IsLeft, IsLeftOfSeat, CanFill, IsSeated, Holds, ArePartsOf, AreNone, IsGoodType, IsGoodComponent, AreGood}
+use Rattle.contents.proofs.DepthLemmas.{deeper}
 
 -- one constructed encoding has one list of parts
 same_parts : (t u : Tag) (ps qs : List (List ℕ)) (octets : List ℕ) → AllByRecursion IsOneNested ps → AllByRecursion IsOneNested qs → IsConstructed ber t (concat ps) octets → IsConstructed ber u (concat qs) octets → ps ≡ qs

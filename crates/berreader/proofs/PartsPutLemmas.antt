@@ -10,7 +10,7 @@ use Rattle.types.specs.Conforms.{MayBeAbsent}
 use Rattle.types.specs.FirstTags.{RunsAreDistinct, AreDistinct, tags_of_components}
 use Rattle.types.specs.Encoding.{standing}
 use Rattle.types.proofs.ListLemmas.{all_append}
-use Rattle.berreader.specs.Parts.{Parts, Seat, IsPartOf, IsNextOf, IsVacant, IsDue, IsLeftOfSeat, AreItemsLeft, IsRunLeft, CanFill, taken_seat, once_come, IsCome, AreCome, IsSeated, Holds, ArePartsOf, IsSlotOf, IsPassed, IsPutInto, IsSeatTaken, IsPut, IsGoodComponent, AreGood}
+use Rattle.contents.specs.Parts.{Parts, Seat, IsPartOf, IsNextOf, IsVacant, IsDue, IsLeftOfSeat, AreItemsLeft, IsRunLeft, CanFill, taken_seat, once_come, IsCome, AreCome, IsSeated, Holds, ArePartsOf, IsSlotOf, IsPassed, IsPutInto, IsSeatTaken, IsPut, IsGoodComponent, AreGood}
 
 pub standing_append : (xs ys : List (Option (List ℕ))) → standing (xs ++ ys) ≡ standing xs ++ standing ys
 standing_append [] ys = refl

@@ -15,7 +15,7 @@ use Rattle.types.proofs.ViewLemmas.{listed-items_of}
 use Rattle.types.proofs.ZipLemmas.{zip_map}
 use Rattle.types.proofs.BeginningLemmas.{all_zip, all_permutation, explicit_parts}
 use Rattle.types.proofs.DepthLemmas.{nested_around}
-use Rattle.berreader.specs.Parts.{Parts, Seat, IsPartOf, IsCome, AreCome, IsSeated, AreItemsCome, Holds, ArePartsOf, IsValueOf, IsGoodType}
+use Rattle.contents.specs.Parts.{Parts, Seat, IsPartOf, IsCome, AreCome, IsSeated, AreItemsCome, Holds, ArePartsOf, IsValueOf, IsGoodType}
 use Rattle.berreader.proofs.PartsPutLemmas.{standing_append}
 
 -- nothing stands for a component that may be absent

@@ -8,7 +8,7 @@ use Rattle.types.specs.View.{ComponentView, components_of, items_of, slots_of}
 use Rattle.types.specs.Weight.{weight_of_items, weight_of_slots}
 use Rattle.types.specs.WellFormed.{nodes_of, nodes_of_alternatives, nodes_of_components}
 use Rattle.types.specs.Encoding.{standing}
-use Rattle.berreader.specs.Parts.{Parts, Seat, IsPartOf, IsNextOf, IsVacant, IsDue, IsCome, AreCome, IsSeated, Holds, ArePartsOf, IsNodeFor, IsNodeForOneOf}
+use Rattle.contents.specs.Parts.{Parts, Seat, IsPartOf, IsNextOf, IsVacant, IsDue, IsCome, AreCome, IsSeated, Holds, ArePartsOf, IsNodeFor, IsNodeForOneOf}
 use Rattle.berreader.specs.Weight.{weight_of_parts}
 use Rattle.berreader.proofs.WeightLemmas.{light, items_light, more_of, size_of_order, some_nodes, some_part}
 

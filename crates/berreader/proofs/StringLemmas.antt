@@ -12,27 +12,27 @@ use Rattle.types.specs.declared.value.Value.{Value}
 use Rattle.types.specs.Shape.{Shape, Val}
 use Rattle.types.specs.View.{ty_view}
 use Rattle.types.proofs.NestingLemmas.{identifier_above}
-use Rattle.berreader.specs.declared.joined.Kind.{Kind}
+use Rattle.contents.specs.declared.joined.Kind.{Kind}
 use Rattle.berreader.specs.declared.nest.Nest.{Nest}
 use Rattle.berreader.specs.declared.nest.Next.{Next}
 use Rattle.berreader.specs.declared.nest.OpenString.{OpenString}
-use Rattle.berreader.specs.declared.segments.Segments.{Segments}
-use Rattle.berreader.specs.Head.{IsReadTag}
-use Rattle.berreader.specs.Joined.{string_of, string_shape, string_value, value_of}
+use Rattle.contents.specs.declared.segments.Segments.{Segments}
+use Rattle.contents.specs.Head.{IsReadTag}
+use Rattle.contents.specs.Joined.{string_of, string_shape, string_value, value_of}
 use Rattle.berreader.specs.Nest.{CanFinish, EndsInside, IsCome, IsReadNext, IsSoundNest, IsStep, end_inside, levels_left}
-use Rattle.berreader.specs.Parts.{IsGoodType, IsPartOf}
-use Rattle.berreader.specs.Segments.{stack, CanComplete, IsSound, IsTaken}
+use Rattle.contents.specs.Parts.{IsGoodType, IsPartOf}
+use Rattle.contents.specs.Segments.{stack, CanComplete, IsSound, IsTaken, IsPassed, IsBegun}
 use Rattle.berreader.specs.Stack.{Layer, layers_of}
-use Rattle.berreader.specs.Strings.{IsBegun, IsClosed, IsOpenedString, IsPassed, IsSoundString, IsString}
-use Rattle.berreader.proofs.ChoiceLemmas.{node_good}
-use Rattle.berreader.proofs.LeafLemmas.{conforms_of_encoding}
+use Rattle.berreader.specs.Strings.{IsClosed, IsOpenedString, IsSoundString, IsString}
+use Rattle.contents.proofs.ChoiceLemmas.{node_good}
+use Rattle.contents.proofs.LeafLemmas.{conforms_of_encoding}
 use Rattle.berreader.proofs.NestBackLemmas.{good_next}
 use Rattle.berreader.proofs.NestLemmas.{own_tag}
 use Rattle.berreader.proofs.NestStepLemmas.{IsNoted, IsReady, leaf_own, part_next, ready_noted}
-use Rattle.berreader.proofs.ReadingLemmas.{IsReadPart, passed_completes, passed_more, passed_read}
-use Rattle.berreader.proofs.StepLemmas.{end_alone}
-use Rattle.berreader.proofs.TypedLemmas.{part_of_joined, same_string, string_front}
-use Rattle.berreader.proofs.WithinLemmas.{usable_tag}
+use Rattle.contents.proofs.ReadingLemmas.{IsReadPart, passed_completes, passed_more, passed_read}
+use Rattle.contents.proofs.StepLemmas.{end_alone}
+use Rattle.contents.proofs.TypedLemmas.{part_of_joined, same_string, string_front}
+use Rattle.contents.proofs.WithinLemmas.{usable_tag}
 
 -- the identifier octets stay at the front
 pub read_more : (nest : Nest) (passed more : List ℕ) (next : Next) → IsReadNext nest passed next → IsReadNext nest (passed ++ more) next

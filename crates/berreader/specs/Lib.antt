@@ -1,11 +1,3 @@
-pub mod Contents
-pub mod Lengths
-pub mod Head
-pub mod Joined
-pub mod Completing
-pub mod Segments
-pub mod Parts
-pub mod Holding
 pub mod Stack
 pub mod Nest
 pub mod Strings

@@ -9,14 +9,14 @@ use Rattle.types.specs.declared.value.Value.{Value}
 use Rattle.types.specs.Shape.{Shape, Val}
 use Rattle.types.specs.View.{ty_view, value_view}
 use Rattle.types.specs.FirstTags.{first_tags}
-use Rattle.types.specs.Encoding.{IsEncoding, IsAccepted, most_nested}
-use Rattle.berreader.specs.declared.frame.Frame.{Frame}
+use Rattle.types.specs.Encoding.{IsAccepted, most_nested}
+use Rattle.contents.specs.declared.frame.Frame.{Frame}
 use Rattle.berreader.specs.declared.nest.Nest.{Nest}
 use Rattle.berreader.specs.declared.nest.Next.{Next}
-use Rattle.berreader.specs.Completing.{IsEndOf, IsOpening}
-use Rattle.berreader.specs.Head.{IsReadTag}
-use Rattle.berreader.specs.Parts.{Parts, IsPart, CanFill, once_come, IsDue, IsPut, IsNodeFor, ArePartsOf, Holds, AreGood, IsGoodType}
-use Rattle.berreader.specs.Segments.{EndsAt}
+use Rattle.contents.specs.Completing.{IsEndOf, IsOpening}
+use Rattle.contents.specs.Head.{IsReadTag}
+use Rattle.contents.specs.Parts.{Parts, IsPart, CanFill, once_come, IsDue, IsPut, IsNodeFor, ArePartsOf, Holds, AreGood, IsGoodType, IsPartWithin, IsWrapped}
+use Rattle.contents.specs.Segments.{EndsAt}
 use Rattle.berreader.specs.Stack.{Layer, layers_of, with_which, with_parts, IsCounted}
 
 -- how many constructed encodings may nest inside this one, by how many it is inside of
@@ -37,11 +37,6 @@ pub record CanEnd (levels : ℕ) (parts : Parts) (frame : Frame) (Follow : ℕ �
 abbrev pub CanFollow : List Layer → ℕ → List ℕ → Type 0
 CanFollow [] taken octets = ⊤
 CanFollow (layer ∷ others) taken octets = CanEnd (levels_inside others) (once_come layer.parts layer.which) layer.frame (CanFollow others) taken octets
-
--- an encoding of the type that ends within what holds it, after so many octets
-pub record IsPartWithin (levels : ℕ) (type : Shape) (end taken : ℕ) (octets : List ℕ) : Type 0 where
-  pub part : IsPart levels type octets
-  pub fits : taken + length octets ≤ end
 
 -- the octets begin with some that complete an encoding of the type of which these encodings are open
 abbrev pub CanComplete : Shape → List Layer → ℕ → List ℕ → Type 0
@@ -170,10 +165,6 @@ pub record IsReadNext (nest : Nest) (octets : List ℕ) (next : Next) : Type 0 w
   pub due : IsDueNext (ty_view nest.ty.now) (layers_of nest.layers) next.which (ty_view next.ty.now)
   pub begins : Contains (first_tags (ty_view next.ty.now)) next.tag
   pub node : IsNodeFor next.tag (ty_view next.ty.now) (ty_view next.node.now)
-
--- what encodes the value of the node encodes that of the type
-abbrev pub IsWrapped : Shape → Tag → Val → Val → Type 0
-IsWrapped type tag value wrapped = (node : Shape) (octets : List ℕ) → IsNodeFor tag type node → IsEncoding ber node value octets → IsEncoding ber type wrapped octets
 
 -- the value, of a node of the type, has come for the part that was open in the innermost
 pub record IsComeInto (layer : Layer) (others : List Layer) (type : Shape) (tag : Tag) (value : Val) (new : List Layer) : Type 0 where

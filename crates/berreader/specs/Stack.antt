@@ -3,11 +3,11 @@ use Rattle.std.specs.Prelude.{◌≡◌, ⊤, ℕ, List, [], ◌∷◌, length, 
 use Rattle.octets.specs.declared.tag.Tag.{Tag}
 use Rattle.types.specs.Shape.{Shape, Val}
 use Rattle.types.specs.View.{ty_view}
-use Rattle.berreader.specs.declared.frame.Frame.{Frame}
+use Rattle.contents.specs.declared.frame.Frame.{Frame}
 use Rattle.berreader.specs.declared.stack.Open.{Open}
 use Rattle.berreader.specs.declared.stack.Stack.{Stack}
-use Rattle.berreader.specs.Holding.{parts_view}
-use Rattle.berreader.specs.Parts.{Parts, IsDue, IsPut}
+use Rattle.contents.specs.Holding.{parts_view}
+use Rattle.contents.specs.Parts.{Parts, IsDue, IsPut}
 
 -- an open encoding: where it ends, its tag, the type that it is of, its parts, and which of them is the open encoding
 -- inside it, if one is

@@ -1,43 +1,14 @@
 -- A constructed string of which some octets have come, in the nest that it belongs to.
-use Rattle.std.specs.Prelude.{◌≡◌, ◌+◌, ◌≤◌, ℕ, true, List, [], ◌∷◌, ◌++◌, length, take, drop, Option, None, Some}
+use Rattle.std.specs.Prelude.{◌≡◌, ◌≤◌, ℕ, true, List, length, take, Option, None, Some}
 use Rattle.types.specs.Leaf.{IsLeaf}
 use Rattle.types.specs.declared.value.Value.{Value}
-use Rattle.types.specs.Shape.{Shape}
 use Rattle.types.specs.View.{ty_view}
-use Rattle.berreader.specs.declared.frame.Frame.{Frame}
-use Rattle.berreader.specs.declared.joined.Kind.{Kind}
 use Rattle.berreader.specs.declared.nest.Nest.{Nest}
 use Rattle.berreader.specs.declared.nest.OpenString.{OpenString}
-use Rattle.berreader.specs.declared.segments.Segments.{Segments}
-use Rattle.berreader.specs.Completing.{Opens}
-use Rattle.berreader.specs.Joined.{Element, IsStringOf}
+use Rattle.contents.specs.Joined.{IsStringOf}
 use Rattle.berreader.specs.Nest.{IsReadNext, IsStep, end_inside, levels_left}
-use Rattle.berreader.specs.Segments.{CompletesBy, Completion, IsSound}
+use Rattle.contents.specs.Segments.{IsPassed, IsSound}
 use Rattle.berreader.specs.Stack.{layers_of}
-
--- these octets are the front of a constructed string, up to the segments that have been joined: the outermost
--- encoding opens behind its identifier octets, and what completes the string behind its length octets begins with them
-pub record IsPassed (kind : Kind) (levels end taken identifier : ℕ) (segments : Segments) (passed : List ℕ) : Type 0 where
-  pub size : ℕ
-  pub frame : Frame
-  pub there : identifier + size ≤ length passed
-  pub nested : 1 ≤ levels
-  pub opens : Opens end (taken + identifier) frame (take size (drop identifier passed))
-  pub place : segments.taken ≡ taken + length passed
-  pub light : length segments.joined.octets.items ≤ length passed
-  pub forth : (more : List ℕ) (total : List (Element kind)) (rest : List ℕ) → CompletesBy kind levels (frame ∷ []) (taken + (identifier + size)) [] (drop (identifier + size) passed ++ more) total rest → Completion kind segments more total rest
-  pub back : (more : List ℕ) (total : List (Element kind)) (rest : List ℕ) → Completion kind segments more total rest → CompletesBy kind levels (frame ∷ []) (taken + (identifier + size)) [] (drop (identifier + size) passed ++ more) total rest
-
--- a constructed string of the type begins with so many of the octets, and they were taken
-pub record IsBegun (shape : Shape) (end taken identifier levels : ℕ) (octets : List ℕ) (kind : Kind) (segments : Segments) (used : ℕ) : Type 0 where
-  pub of : IsStringOf kind shape
-  pub there : used ≤ length octets
-  pub some : 2 ≤ used
-  pub heads : identifier ≤ used
-  pub deepest : segments.levels ≡ levels
-  pub frames : length segments.frames.items ≡ 1
-  pub sound : IsSound kind segments
-  pub passed : IsPassed kind levels end taken identifier segments (take used octets)
 
 -- these octets are the front of a constructed string that may come next in the nest
 pub record IsString (nest : Nest) (string : OpenString) (passed : List ℕ) : Type 0 where

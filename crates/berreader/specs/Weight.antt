@@ -7,7 +7,7 @@ use Rattle.types.specs.WellFormed.{nodes_of}
 use Rattle.berreader.specs.declared.pieces.Pieces.{Pieces}
 use Rattle.berreader.specs.declared.reader.Step as step
 use Rattle.berreader.specs.Cursor.{depth_of, octets_in}
-use Rattle.berreader.specs.Parts.{Parts}
+use Rattle.contents.specs.Parts.{Parts}
 use Rattle.berreader.specs.Stack.{Layer, layers_of}
 
 -- the values that have come, and the slots of all components, as of a value

@@ -5,22 +5,11 @@
 //! appended to one vector, and open encodings are held on a stack, so that no call nests.
 #![tactic(auto)]
 
-mod choices;
-mod contents;
 mod cursor;
-mod frame;
-mod head;
-mod holding;
-mod joined;
-mod leaf;
-mod lengths;
 mod nest;
-mod parts;
 mod pieces;
 mod reader;
 mod reading;
-mod seats;
-mod segments;
 mod stack;
 
 pub use reader::{Reader, Step};

@@ -10,22 +10,17 @@ ghost use Rattle.types.specs.Refusal.{IsFinal, IsOfReading};
 ghost use Rattle.types.specs.Shape.{Shape, Val};
 ghost use Rattle.types.specs.View.{ty_view, value_view};
 ghost use Rattle.berreader.specs.Stack.{layers_of, IsCounted};
-ghost use Rattle.berreader.specs.Holding.{IsOfDue};
-ghost use Rattle.berreader.specs.Nest.{end_inside, CanFinish, EndsInside, IsEndInside, IsCome, IsDueInside, IsDueNext, IsReadNext, IsSoundNest, IsStep, IsTaken, IsWrapped};
-ghost use Rattle.berreader.specs.Parts.{IsGoodType};
+ghost use Rattle.contents.specs.Holding.{IsOfDue};
+ghost use Rattle.berreader.specs.Nest.{end_inside, CanFinish, EndsInside, IsEndInside, IsCome, IsDueInside, IsDueNext, IsReadNext, IsSoundNest, IsStep, IsTaken};
+ghost use Rattle.contents.specs.Parts.{IsGoodType, IsWrapped};
 ghost use Rattle.berreader.specs.Strings.{IsClosed, IsFound, IsOpenedString, IsSoundString, IsString};
 
 use crate::MAX_NESTED;
-use crate::choices::{begins, is_node, node_of, wrap};
-use crate::frame::OUTSIDE;
-use crate::head::{named, read_head_tag};
-use crate::holding::holding_of;
-use crate::joined::Kind;
-use crate::leaf::{begin_string, read_leaf};
-use crate::parts::read_opening;
-use crate::seats::not_due;
-use crate::segments::{Segments, read_end};
 use crate::stack::{Open, Stack};
+use contents::{
+    Kind, OUTSIDE, Segments, begin_string, begins, holding_of, is_node, named, node_of, not_due,
+    read_end, read_head_tag, read_leaf, read_opening, wrap,
+};
 use octets::{NoMemory, Tag};
 use std::alloc::Global;
 use types::{Refusal, Ty, Value};

@@ -3,11 +3,10 @@
 ghost use Rattle.std.specs.Prelude.{◌≡◌, ◌∷◌, [], List, None, length, OnOk, MatchOption};
 ghost use Rattle.types.specs.Shape.{Shape};
 ghost use Rattle.types.specs.View.{value_view};
-ghost use Rattle.berreader.specs.Parts.{Parts, IsDue, IsPut};
+ghost use Rattle.contents.specs.Parts.{Parts, IsDue, IsPut};
 ghost use Rattle.berreader.specs.Stack.{Layer, layer_view, layers_of, with_parts, with_which, IsCounted, IsOpenDue, IsPutInside};
 
-use crate::frame::{Frame, INLINE};
-use crate::holding::Holding;
+use contents::{Frame, Holding, INLINE};
 use octets::{NoMemory, Tag};
 use smallvec::SmallVec;
 use std::alloc::Global;

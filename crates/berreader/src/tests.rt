@@ -1,9 +1,6 @@
-mod holdings;
-mod leaves;
 mod nests;
 mod readers;
 
-use crate::head::read_head_tag;
 use crate::read;
 use octets::{Class, Tag};
 use readers::comes_as_read;
@@ -387,35 +384,4 @@ fn longest_length_octets(rt: HostRuntime) -> Result<(), Fail> {
     octets.extend_from_slice(&[0x01, 0xAA])?;
     assert!(rt; is_read(rt.alloc(), octet_string(), octets.as_slice(), &[0xAA], 0));
     Ok(())
-}
-
-#[test]
-fn any_tags(rt: HostRuntime) {
-    let context = Tag {
-        class: Class::Context,
-        number: 1,
-    };
-    // (end, octets before it), octets, the tag, whether it is constructed and how many octets it has
-    let cases: [((usize, usize), &[u8], Result<(Tag, bool, usize), u8>); 9] = [
-        ((10, 5), &[0xA1, 0x03], Ok((context, true, 1))),
-        ((10, 5), &[0x00], Ok((universal(0), false, 1))),
-        ((8, 5), &[0x1F, 0x81, 0x00], Ok((universal(128), false, 3))),
-        ((7, 5), &[0x1F, 0x81, 0x00], Err(11)),
-        ((5, 5), &[0x02], Err(11)),
-        ((6, 5), &[], Err(1)),
-        ((10, 5), &[0x1F, 0x80], Err(2)),
-        (
-            (10, 5),
-            &[0x3F, 0xFF, 0xFF, 0xFF, 0x7F],
-            Ok((universal(268_435_455), true, 5)),
-        ),
-        ((10, 5), &[0x1F, 0x81, 0x80, 0x80, 0x80], Err(2)),
-    ];
-    for ((end, taken), octets, want) in cases {
-        let found = match read_head_tag(end, taken, octets) {
-            Ok(found) => Ok(found),
-            Err(refusal) => Err(refusal.number()),
-        };
-        assert_eq!(rt; found, want, "at {octets:?}");
-    }
 }

@@ -4,7 +4,7 @@ use Rattle.types.specs.Encoding.{most_nested}
 use Rattle.types.specs.Leaf.{tag_of}
 use Rattle.types.specs.Refusal.{IsFinal}
 use Rattle.types.specs.View.{ty_view}
-use Rattle.berreader.specs.Head.{IsReadTag}
+use Rattle.contents.specs.Head.{IsReadTag}
 use Rattle.berreader.specs.Nest.{CanFinish, end_inside, levels_left}
 use Rattle.berreader.specs.Stack.{layers_of}
 use Rattle.berreader.proofs.NestStepLemmas.{part_next, part_next_whole}

@@ -2,7 +2,8 @@ use Rattle.octets.proofs.ResultLemmas.{IfOk-map}
 use Rattle.octets.specs.declared.tag.Tag.{Tag}
 use Rattle.types.specs.Shape.{Shape, Val}
 use Rattle.types.specs.View.{ty_view, value_view}
-use Rattle.berreader.specs.Nest.{IsCome, IsWrapped}
+use Rattle.contents.specs.Parts.{IsWrapped}
+use Rattle.berreader.specs.Nest.{IsCome}
 use Rattle.berreader.proofs.nest.Nest.come.Goals as goal
 
 pub returns-then-is_node-clause-come : goal.returns-then-is_node-clause-come

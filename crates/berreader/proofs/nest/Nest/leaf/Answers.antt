@@ -4,10 +4,10 @@ use Rattle.types.specs.Leaf.{tag_of}
 use Rattle.types.specs.Refusal.{IsFinal}
 use Rattle.types.specs.View.{ty_view, value_view}
 use Rattle.berreader.specs.declared.nest.Nest.{Nest}
-use Rattle.berreader.specs.Head.{IsReadTag}
+use Rattle.contents.specs.Head.{IsReadTag}
 use Rattle.berreader.specs.Nest.{CanFinish, end_inside, levels_left}
 use Rattle.berreader.specs.Stack.{layers_of}
-use Rattle.berreader.proofs.ChoiceLemmas.{node_good}
+use Rattle.contents.proofs.ChoiceLemmas.{node_good}
 use Rattle.berreader.proofs.NestLemmas.{own_tag}
 use Rattle.berreader.proofs.NestBackLemmas.{good_next}
 use Rattle.berreader.proofs.NestStepLemmas.{IsNoted, leaf_own, part_next, part_next_whole, sound_noted, ready_noted, step_come, sound_come_nest}

@@ -4,10 +4,10 @@ use Rattle.types.specs.FirstTags.{first_tags}
 use Rattle.types.specs.Refusal.{IsFinal}
 use Rattle.types.specs.View.{ty_view}
 use Rattle.types.proofs.BeginningLemmas.{begins_once}
-use Rattle.berreader.specs.Head.{IsTagWithin}
+use Rattle.contents.specs.Head.{IsTagWithin}
 use Rattle.berreader.specs.Nest.{CanFinish, EndsInside}
 use Rattle.berreader.specs.Stack.{layers_of}
-use Rattle.berreader.proofs.ChoiceLemmas.{begins_node}
+use Rattle.contents.proofs.ChoiceLemmas.{begins_node}
 use Rattle.berreader.proofs.NestStepLemmas.{tag_next, read_begins}
 use Rattle.berreader.proofs.nest.Nest.next.Goals as goal
 

@@ -4,9 +4,9 @@ use Rattle.octets.proofs.ResultLemmas.{IfErr-from, Err-known}
 use Rattle.types.specs.Refusal.{IsFinal}
 use Rattle.types.specs.View.{ty_view}
 use Rattle.berreader.specs.declared.nest.Nest.{Nest}
-use Rattle.berreader.specs.Completing.{Opens}
-use Rattle.berreader.specs.Head.{IsExtentWithin}
-use Rattle.berreader.specs.Holding.{parts_view}
+use Rattle.contents.specs.Completing.{Opens}
+use Rattle.contents.specs.Head.{IsExtentWithin}
+use Rattle.contents.specs.Holding.{parts_view}
 use Rattle.berreader.specs.Nest.{CanFinish}
 use Rattle.berreader.specs.Stack.{Layer, layers_of}
 use Rattle.berreader.proofs.NestLemmas.{form_next, extent_next, own_tag}

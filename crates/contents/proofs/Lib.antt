@@ -1,0 +1,15 @@
+pub mod LeafLemmas
+pub mod ContentsLengthLemmas
+pub mod HeadLemmas
+pub mod DepthLemmas
+pub mod CompletingLemmas
+pub mod StepLemmas
+pub mod JoinedLemmas
+pub mod SegmentsLemmas
+pub mod WithinLemmas
+pub mod TypedLemmas
+pub mod ReadingLemmas
+pub mod ChoiceLemmas
+pub mod EndLemmas
+pub mod SeatLemmas
+pub mod HoldingLemmas

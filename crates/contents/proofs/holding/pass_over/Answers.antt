@@ -1,0 +1,11 @@
+use Rattle.std.proofs.Common.{◌∙◌, ap, sym, map, option_map, append-nil}
+use Rattle.types.specs.View.{value_view}
+use Rattle.contents.proofs.HoldingLemmas.{pass_more}
+use Rattle.contents.proofs.holding.pass_over.Goals as goal
+
+pub loop-init : goal.loop-init
+loop-init c = sym (append-nil (map (option_map value_view) c.args.slots.now.items))
+
+pub loop-preserved : goal.loop-preserved
+loop-preserved c =
+    ap (map (option_map value_view)) c.in_ok-push.ensures.items ∙ pass_more c.loop.slots.items (map (option_map value_view) c.args.slots.now.items) c.loop.counter c.loop.invariant

@@ -1,0 +1,24 @@
+use Rattle.std.proofs.Common.{◌≡◌, ◌∙◌, map, option_map, length, subst, sym, arith}
+use Rattle.types.specs.View.{value_view}
+use Rattle.contents.proofs.HoldingLemmas.{IsPlace, place_of, put_at}
+use Rattle.contents.proofs.holding.put_in_order.Goals as goal
+
+pub offset_bounds-fields-len : goal.offset_bounds-fields-len
+offset_bounds-fields-len c =
+    let at = place_of c.args.fields.now (map (option_map value_view) c.args.slots.now.items) c.pass_over.new.slots.items c.args.which c.requires.0 c.in_ok-pass_over.ensures c.requires.1 in
+    omega (arith, at.below, c.len.ensures, c.pass_over.new.slots.ok.0)
+
+pub bounds-fields-len : goal.bounds-fields-len
+bounds-fields-len c =
+    let at = place_of c.args.fields.now (map (option_map value_view) c.args.slots.now.items) c.pass_over.new.slots.items c.args.which c.requires.0 c.in_ok-pass_over.ensures c.requires.1 in
+    omega (arith, at.below, c.len.ensures, c.pass_over.new.slots.ok.0)
+
+pub returns : goal.returns
+returns c =
+    let fields = c.args.fields.now in
+    let slots = map (option_map value_view) c.args.slots.now.items in
+    let passed = c.pass_over.new.slots.items in
+    let at = place_of fields slots passed c.args.which c.requires.0 c.in_ok-pass_over.ensures c.requires.1 in
+    let many : c.len.result ≡ length passed = c.len.ensures ∙ c.pass_over.new.slots.ok.0 in
+    put_at fields slots passed c.push.new.self.items c.args.which c.len.result c.requires.0 c.index-fields-len.result c.slot_of.result (value_view c.args.value) c.requires.1
+    (subst (IsPlace fields slots c.args.which) (sym many) at) c.index-fields-len.is c.slot_of.ensures c.in_ok-pass_over.ensures c.in_ok-push.ensures.items

@@ -1,0 +1,82 @@
+//! Which type within a CHOICE an encoding is of (X.690 8.13): tags tell the alternatives apart.
+
+ghost use Rattle.std.specs.Prelude.{◌≡◌, ◌↔◌, ℕ, List, true, false, Contains, IsTrue, IfOk, MatchOption};
+ghost use Rattle.octets.specs.declared.tag.Tag.{Tag};
+ghost use Rattle.octets.specs.Rule.{ber};
+ghost use Rattle.types.specs.Encoding.{IsEncoding};
+ghost use Rattle.types.specs.FirstTags.{first_tags};
+ghost use Rattle.types.specs.Shape.{Shape, Val};
+ghost use Rattle.types.specs.View.{ty_view, value_view};
+ghost use Rattle.contents.specs.Parts.{IsGoodType, IsNodeFor, IsWrapped};
+
+use octets::{NoMemory, Tag};
+use std::alloc::Global;
+use types::{Ty, Value};
+
+/// Whether encodings of the type can begin with the tag. Takes no memory.
+pub fn begins(ty: &Ty, tag: Tag) -> bool
+    ensures { IsTrue result ↔ Contains (first_tags (ty_view ty.now)) tag }
+{
+    let Ty::Choice(alternatives) = ty else {
+        return ty.tag() == Some(tag);
+    };
+    for alternative in alternatives {
+        if begins(&alternative.ty, tag) {
+            return true;
+        }
+    }
+    false
+}
+
+/// The type, which is no CHOICE, of the encodings of `ty` that begin with the tag: `ty` itself, or, of a CHOICE,
+/// the node of an alternative. None where no encoding of `ty` begins so. Takes no memory.
+pub fn node_of<'a>(ty: &'a Ty, tag: Tag) -> Option<&'a Ty>
+    ensures { MatchOption result ((node : Shape) → ¬ IsNodeFor tag (ty_view ty.now) node)
+        (λ node. IsNodeFor tag (ty_view ty.now) (ty_view node.now)) }
+{
+    let Ty::Choice(alternatives) = ty else {
+        return if ty.tag() == Some(tag) {
+            Some(ty)
+        } else {
+            None
+        };
+    };
+    for alternative in alternatives {
+        if let Some(node) = node_of(&alternative.ty, tag) {
+            return Some(node);
+        }
+    }
+    None
+}
+
+/// Whether the value of a node of the type (`node_of`) is one of the type itself, as it is unless that is a
+/// CHOICE. Takes no memory.
+pub fn is_node(ty: &Ty) -> bool
+    ensures { IsTrue result → (tag : Tag) (value : Val) → IsWrapped (ty_view ty.now) tag value value }
+{
+    let Ty::Choice(_) = ty else {
+        return true;
+    };
+    false
+}
+
+/// The value of the type that an encoding has which begins with the tag, by the value of that node (`node_of`):
+/// `value` itself, or that value in the alternative of each CHOICE around it.
+///
+/// Asks for a type whose tags tell alternatives apart. Refused where memory runs out; each CHOICE takes some.
+pub fn wrap(alloc: Global, ty: &Ty, tag: Tag, value: Value) -> Result<Value, NoMemory>
+    requires { IsGoodType (ty_view ty.now) }
+    ensures { IfOk result (λ wrapped. (node : Shape) (octets : List ℕ) → IsNodeFor tag (ty_view ty.now) node →
+        IsEncoding ber node (value_view value) octets → IsEncoding ber (ty_view ty.now) (value_view wrapped) octets) }
+{
+    let Ty::Choice(alternatives) = ty else {
+        return Ok(value);
+    };
+    for (which, alternative) in alternatives.iter().enumerate() {
+        if begins(&alternative.ty, tag) {
+            let chosen = wrap(alloc, &alternative.ty, tag, value)?;
+            return Ok(Value::Chosen(which, Box::new(alloc, chosen)?));
+        }
+    }
+    Ok(value)
+}

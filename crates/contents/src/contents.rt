@@ -1,0 +1,126 @@
+//! Values of the contents octets of primitive encodings.
+
+ghost use Rattle.std.specs.Prelude.{◌≡◌, IfOk, IfErr, IsErr};
+ghost use Rattle.octets.specs.Rule.{ber};
+ghost use Rattle.types.specs.Conforms.{Conforms};
+ghost use Rattle.types.specs.Leaf.{IsLeaf};
+ghost use Rattle.types.specs.Refusal.{IsFinal};
+ghost use Rattle.types.specs.Shape.{Val};
+ghost use Rattle.types.specs.View.{ty_view, value_view};
+ghost use Rattle.contents.specs.Contents.{HoldsContents, IsEnumerated, IsOfContents, IsTextual, refusal_of_fault, text_view};
+
+use primitives::{
+    Fault, read_bits, read_boolean, read_integer, read_null, read_oid, read_relative_oid,
+};
+use std::alloc::Global;
+use types::{Refusal, Ty, Value, conforms};
+
+// The value of `ty` that the contents octets are.
+pub fn read_contents(alloc: Global, ty: &Ty, contents: &[u8]) -> Result<Value, Refusal>
+    requires { IsLeaf (ty_view ty.now) }
+    ensures value { IfOk result (λ value. Conforms (ty_view ty.now) (value_view value)
+        × HoldsContents ber (ty_view ty.now) (value_view value) contents.now) }
+    ensures none { IfErr result (λ refusal. IsFinal refusal → (v : Val) → Conforms (ty_view ty.now) v →
+        ¬ HoldsContents ber (ty_view ty.now) v contents.now) }
+    ensures numbers { IfErr result IsOfContents }
+{
+    match ty {
+        Ty::Boolean(_) => match read_boolean(contents) {
+            Some(truth) => Ok(Value::Boolean(truth)),
+            None => Err(Refusal::Contents),
+        },
+        Ty::Integer(_) => match read_integer(contents) {
+            Some(number) => Ok(Value::Integer(number)),
+            None => Err(Refusal::Contents),
+        },
+        Ty::Enumerated(_, _) => read_item(ty, contents),
+        Ty::Null(_) => match read_null(contents) {
+            Some(()) => Ok(Value::Null),
+            None => Err(Refusal::Contents),
+        },
+        Ty::Oid(_) => match read_oid(alloc, contents) {
+            Ok(arcs) => Ok(Value::Oid(arcs)),
+            Err(fault) => Err(refusal_of(fault)),
+        },
+        Ty::RelativeOid(_) => match read_relative_oid(alloc, contents) {
+            Ok(arcs) => Ok(Value::RelativeOid(arcs)),
+            Err(fault) => Err(refusal_of(fault)),
+        },
+        Ty::Bits(_) => match read_bits(alloc, contents) {
+            Ok(bits) => Ok(Value::Bits(bits)),
+            Err(fault) => Err(refusal_of(fault)),
+        },
+        Ty::Octets(_) => match Vec::from_slice(alloc, contents) {
+            Ok(octets) => Ok(Value::Octets(octets)),
+            Err(_) => Err(Refusal::NoMemory),
+        },
+        Ty::Text(_, _) => read_text(alloc, ty, contents),
+        Ty::Time(_, _) => read_text(alloc, ty, contents),
+        Ty::Sequence(_, _) => Err(Refusal::Form),
+        Ty::Set(_, _) => Err(Refusal::Form),
+        Ty::SequenceOf(_, _) => Err(Refusal::Form),
+        Ty::SetOf(_, _) => Err(Refusal::Form),
+        Ty::Choice(_) => Err(Refusal::Form),
+        Ty::Explicit(_, _) => Err(Refusal::Form),
+    }
+}
+
+// The item of an ENUMERATED whose number the contents octets are.
+fn read_item(ty: &Ty, contents: &[u8]) -> Result<Value, Refusal>
+    requires { IsEnumerated ty.now }
+    ensures value { IfOk result (λ value. Conforms (ty_view ty.now) (value_view value)
+        × HoldsContents ber (ty_view ty.now) (value_view value) contents.now) }
+    ensures none { IsErr result → (v : Val) → Conforms (ty_view ty.now) v →
+        ¬ HoldsContents ber (ty_view ty.now) v contents.now }
+    ensures numbers { IfErr result (λ refusal. refusal ≡ Refusal.Contents) }
+{
+    let Some(number) = read_integer(contents) else {
+        return Err(Refusal::Contents);
+    };
+    let value = Value::Enumerated(number);
+    if conforms(ty, &value) {
+        Ok(value)
+    } else {
+        Err(Refusal::Contents)
+    }
+}
+
+// The text of a character string or a time that the contents octets are.
+fn read_text(alloc: Global, ty: &Ty, contents: &[u8]) -> Result<Value, Refusal>
+    requires { IsTextual ty.now }
+    ensures value { IfOk result (λ value. Conforms (ty_view ty.now) (value_view value)
+        × HoldsContents ber (ty_view ty.now) (value_view value) contents.now) }
+    ensures none { IfErr result (λ refusal. IsFinal refusal → (v : Val) → Conforms (ty_view ty.now) v →
+        ¬ HoldsContents ber (ty_view ty.now) v contents.now) }
+    ensures numbers { IfErr result IsOfContents }
+{
+    match Vec::from_slice(alloc, contents) {
+        Ok(octets) => text_of(ty, octets),
+        Err(_) => Err(Refusal::NoMemory),
+    }
+}
+
+// The text of a character string or a time whose octets these are, if the type allows them.
+pub fn text_of(ty: &Ty, octets: Vec<u8>) -> Result<Value, Refusal>
+    requires { IsTextual ty.now }
+    ensures value { IfOk result (λ value. (value_view value ≡ text_view octets.items)
+        × Conforms (ty_view ty.now) (value_view value)) }
+    ensures none { IsErr result → ¬ Conforms (ty_view ty.now) (text_view octets.items) }
+    ensures numbers { IfErr result (λ refusal. refusal ≡ Refusal.Alphabet) }
+{
+    let value = Value::Text(octets);
+    if conforms(ty, &value) {
+        Ok(value)
+    } else {
+        Err(Refusal::Alphabet)
+    }
+}
+
+fn refusal_of(fault: Fault) -> Refusal
+    ensures { result ≡ refusal_of_fault fault }
+{
+    match fault {
+        Fault::Contents => Refusal::Contents,
+        Fault::NoMemory => Refusal::NoMemory,
+    }
+}

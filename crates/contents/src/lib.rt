@@ -1,0 +1,33 @@
+//! What one encoding is made of under the basic encoding rules (X.690 clause 8), and where its contents octets
+//! begin and end.
+//!
+//! Identifier octets and length octets are read within what holds the encoding. The contents octets are those of
+//! a value without parts (`read_leaf`), the segments of a string, at whatever depth (`Segments`), or the
+//! encodings of parts, whose values are put where they belong as they come (`Holding`). What stands around the
+//! encoding is known by its end alone; the limits are this project's own (`docs/PROFILE.md`).
+#![tactic(auto)]
+
+mod choices;
+mod contents;
+mod frame;
+mod head;
+mod holding;
+mod joined;
+mod leaf;
+mod lengths;
+mod parts;
+mod seats;
+mod segments;
+
+pub use choices::{begins, is_node, node_of, wrap};
+pub use frame::{Frame, INLINE, OUTSIDE};
+pub use head::{named, read_head_tag};
+pub use holding::{Holding, holding_of};
+pub use joined::{Joined, Kind};
+pub use leaf::{begin_string, read_leaf};
+pub use parts::read_opening;
+pub use seats::{Seat, Seats, not_due};
+pub use segments::{Segments, read_end};
+
+#[cfg(test)]
+mod tests;
