@@ -18,7 +18,7 @@ readonly work
 trap 'rm -rf "$work"' EXIT
 
 mkdir -p "$work/crates/resolving/src"
-for crate in octets primitives strings types lexis syntax notation; do
+for crate in octets primitives strings types lexis syntax builtin notation; do
     cp -r "$top/crates/$crate" "$work/crates"
 done
 cp "$top/bench/resolving/main.txt" "$work/crates/resolving/src/main.rt"
@@ -29,7 +29,8 @@ strings: simdutf8
 lexis:
 types: octets primitives strings
 syntax: lexis
-notation: lexis syntax octets primitives strings types indexmap
+builtin: lexis syntax octets primitives strings types indexmap
+notation: lexis syntax octets primitives strings types builtin indexmap
 resolving: notation
 END
 cd "$work/crates/resolving"

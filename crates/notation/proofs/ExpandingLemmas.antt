@@ -10,12 +10,13 @@ use Rattle.syntax.specs.declared.tree.TagPrefix.{TagPrefix}
 use Rattle.syntax.specs.declared.tree.Simple.{Simple}
 use Rattle.syntax.specs.Tree.{Ending, Entry, Form, tagged, list, of, choice, enumerated, simple, Tree}
 use Rattle.syntax.specs.View.{components_of as written_components, alternatives_of as written_alternatives}
-use Rattle.notation.specs.Universal.{enumerated_tag, named_by_words}
-use Rattle.notation.specs.Tagging.{tag_of, IsUntaggedChoice, tagged_implicitly}
-use Rattle.notation.specs.Numbering.{AreItems}
-use Rattle.notation.specs.Meaning.{NamesDiffer, list_of, repeated, IsMeaning, of_words, of_tag, of_items, of_item_type}
+use Rattle.builtin.specs.Universal.{enumerated_tag, named_by_words, list_of, repeated}
+use Rattle.builtin.specs.Tagging.{tag_of, IsUntaggedChoice, tagged_implicitly}
+use Rattle.builtin.specs.Numbering.{AreItems}
+use Rattle.builtin.specs.Names.{NamesDiffer}
+use Rattle.builtin.specs.Defaults.{IsRequirement}
+use Rattle.notation.specs.Meaning.{IsMeaning, of_words, of_tag, of_items, of_item_type}
 use Rattle.notation.specs.Under.{MeansUnder, IsExplicitAt, IsAtRoot, IsRoot}
-use Rattle.notation.specs.Defaults.{IsRequirement}
 use Rattle.notation.specs.Parts.{IsPart, IsComponent, IsAlternative, AreComponents, AreAlternatives}
 use Rattle.notation.specs.Made.{IsAround, IsRepeated, AreMade}
 use Rattle.notation.proofs.PartsLemmas.{parts_push}

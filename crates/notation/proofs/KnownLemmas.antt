@@ -11,12 +11,12 @@ use Rattle.syntax.specs.Tree.{Form, reference}
 use Rattle.syntax.specs.View.{form, tree, assignment}
 use Rattle.syntax.specs.declared.tree.Assignment.{Assignment}
 use Rattle.syntax.specs.declared.tree.Module.{Module}
+use Rattle.builtin.proofs.NameLemmas.{contains_map}
 use Rattle.notation.specs.Meaning.{IsAssigned, IsMeaning}
 use Rattle.notation.specs.Under.{MeansUnder}
 use Rattle.notation.specs.Known.{LeadsTo, StandsAt, IsScope}
 use Rattle.notation.specs.declared.scope.Seen.{Seen}
 use Rattle.notation.specs.declared.scope.Scope.{Scope}
-use Rattle.notation.proofs.NameLemmas.{contains_map}
 use Rattle.notation.proofs.UniqueLemmas.{one_assignment}
 use Rattle.notation.proofs.UnderLemmas.{of_assigned, assigned-of}
 

@@ -1,13 +1,7 @@
-pub mod SpellingLemmas
-pub mod NameLemmas
-pub mod NumberingLemmas
-pub mod DefaultLemmas
-pub mod TaggingLemmas
 pub mod UniqueLemmas
 pub mod UnderLemmas
 pub mod ChoiceLemmas
 pub mod ReferenceLemmas
-pub mod DigitLemmas
 pub mod PartsLemmas
 pub mod ListLemmas
 pub mod SizeLemmas
@@ -18,22 +12,14 @@ pub mod LimitLemmas
 pub mod NeverLemmas
 pub mod KnownLemmas
 pub mod RootLemmas
-mod FittingLemmas
 pub mod FormLemmas
 pub mod ScopeLemmas
 pub mod TagInstances
 pub mod ReferenceInstances
 pub mod AutomaticInstances
-pub mod NumberInstances
-pub mod DefaultInstances
 pub mod WaitingLemmas
 pub mod SizeInstances
 pub mod WrittenLemmas
-pub mod ItemLemmas
-pub mod FreeLemmas
-mod AscendingLemmas
-pub mod EntryLemmas
-pub mod EnteredLemmas
 pub mod NewScopeLemmas
 pub mod GatherLemmas
 pub mod SettledLemmas
@@ -44,14 +30,6 @@ pub mod SettlingLemmas
 pub mod LimitedLemmas
 pub mod RefusingLemmas
 pub mod UnresolvedLemmas
-pub mod WrittenTagLemmas
 pub mod ExpandingLemmas
 pub mod NothingLemmas
 pub mod ResolvingLemmas
-pub mod NumberedLemmas
-pub mod StrippedLemmas
-pub mod PackedLemmas
-pub mod BinaryLemmas
-pub mod BitStringLemmas
-pub mod QuoteLemmas
-pub mod TakenLemmas

@@ -13,10 +13,11 @@ use Rattle.syntax.specs.declared.tree.Group.TheVariants.{Sequence, Set}
 use Rattle.syntax.specs.declared.tree.TagPrefix.{TagPrefix}
 use Rattle.syntax.specs.Tree.{Ending, Entry, Form, tagged, list, choice, enumerated, Tree}
 use Rattle.syntax.specs.View.{components_of as written_components, alternatives_of as written_alternatives}
-use Rattle.notation.specs.Universal.{enumerated_tag}
-use Rattle.notation.specs.Tagging.{tag_of, IsUntaggedChoice, tagged_implicitly}
-use Rattle.notation.specs.Numbering.{number_of, written_numbers, AreWithin, NumbersDiffer, AreNumbered}
-use Rattle.notation.specs.Meaning.{NamesDiffer, list_of, IsMeaning, of_items}
+use Rattle.builtin.specs.Universal.{enumerated_tag, list_of}
+use Rattle.builtin.specs.Tagging.{tag_of, IsUntaggedChoice, tagged_implicitly}
+use Rattle.builtin.specs.Numbering.{number_of, written_numbers, AreWithin, NumbersDiffer, AreNumbered}
+use Rattle.builtin.specs.Names.{NamesDiffer}
+use Rattle.notation.specs.Meaning.{IsMeaning, of_items}
 use Rattle.notation.specs.Parts.{AreFrom}
 use Rattle.notation.specs.Under.{IsUnder, MeansUnder, IsExplicitAt}
 use Rattle.notation.specs.Refused.{HasNoType, NeverHasType}

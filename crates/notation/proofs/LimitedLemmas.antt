@@ -8,13 +8,13 @@ use Rattle.syntax.specs.Tree.{Form, Tree}
 use Rattle.syntax.specs.View.{form, tree, assignment}
 use Rattle.syntax.specs.declared.tree.Assignment.{Assignment}
 use Rattle.syntax.specs.declared.tree.Module.{Module}
+use Rattle.builtin.specs.declared.stop.Cause.{Cause}
 use Rattle.notation.specs.Size.{HaveSize}
 use Rattle.notation.specs.Refused.{NeverHasType}
 use Rattle.notation.specs.Known.{IsNewScope}
 use Rattle.notation.specs.Weighed.{IsWeight, AreWeighed, CanWeigh}
 use Rattle.notation.specs.declared.scope.Seen.{Seen}
 use Rattle.notation.specs.declared.scope.Scope.{Scope}
-use Rattle.notation.specs.declared.stop.Cause.{Cause}
 use Rattle.notation.specs.declared.weight.Weight.{Weight}
 use Rattle.notation.proofs.RefusedLemmas.{never-large}
 use Rattle.notation.proofs.WeighedLemmas.{weighs_unless}

@@ -12,10 +12,11 @@ use Rattle.syntax.specs.declared.tree.Group.TheVariants.{Sequence, Set}
 use Rattle.syntax.specs.declared.tree.TagPrefix.{TagPrefix}
 use Rattle.syntax.specs.Tree.{Ending, Form, tagged, list, of, choice, Tree}
 use Rattle.syntax.specs.View.{components_of as written_components, alternatives_of as written_alternatives}
-use Rattle.notation.specs.Universal.{sequence_tag, set_tag}
-use Rattle.notation.specs.Tagging.{tag_of, IsUntaggedChoice, tagged_by_default, context}
-use Rattle.notation.specs.Defaults.{IsRequirement}
-use Rattle.notation.specs.Meaning.{NamesDiffer, list_of, repeated, IsMeaning}
+use Rattle.builtin.specs.Universal.{sequence_tag, set_tag, list_of, repeated}
+use Rattle.builtin.specs.Tagging.{tag_of, IsUntaggedChoice, tagged_by_default, context}
+use Rattle.builtin.specs.Defaults.{IsRequirement}
+use Rattle.builtin.specs.Names.{NamesDiffer}
+use Rattle.notation.specs.Meaning.{IsMeaning}
 use Rattle.notation.specs.Parts.{IsPart, IsComponent, IsAlternative}
 use Rattle.notation.specs.Under.{IsUnder, IsExplicitAt, IsRoot}
 use Rattle.notation.specs.Refused.{NeverHasType, HasNoTypeWithin, PartHasNoTypeWithin, ComponentsNever, AlternativesNever, IsSmall}

@@ -11,9 +11,10 @@ use Rattle.syntax.specs.declared.tree.Component.{Component}
 use Rattle.syntax.specs.declared.tree.Alternative.{Alternative}
 use Rattle.syntax.specs.Tree.{Ending, Entry, Form, tagged, list, of, choice, enumerated, reference, Tree}
 use Rattle.syntax.specs.View.{component, alternative, components_of as written_components, alternatives_of as written_alternatives}
-use Rattle.notation.specs.Tagging.{tagged_by_default, context}
-use Rattle.notation.specs.Meaning.{NamesDiffer, of_items}
-use Rattle.notation.specs.Numbering.{AreItems}
+use Rattle.builtin.specs.Tagging.{tagged_by_default, context}
+use Rattle.builtin.specs.Names.{NamesDiffer}
+use Rattle.builtin.specs.Numbering.{AreItems}
+use Rattle.notation.specs.Meaning.{of_items}
 use Rattle.types.specs.Shape.{EnumerationItem}
 use Rattle.notation.specs.Parts.{IsPart, IsComponent, IsAlternative, AreComponents, AreAlternatives}
 use Rattle.notation.specs.Under.{IsAtRoot, IsRoot}

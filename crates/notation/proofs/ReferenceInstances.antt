@@ -7,11 +7,13 @@ use Rattle.syntax.specs.declared.tree.Simple.TheVariants.{Boolean}
 use Rattle.syntax.specs.declared.tree.Tagging.{Tagging}
 use Rattle.syntax.specs.declared.tree.Tagging.TheVariants.{Implicit as ImplicitTags}
 use Rattle.syntax.specs.Tree.{required, optional, Form, list, of, enumerated, simple, reference, no_component as no_written_component, next_component, Tree}
-use Rattle.notation.specs.Universal.{universal}
-use Rattle.notation.specs.Meaning.{NamesDiffer, IsAssigned, IsMeaning, of_words, of_reference, of_items, of_components, no_more, one_more, NameMeans}
+use Rattle.builtin.specs.Universal.{universal}
+use Rattle.builtin.specs.Names.{NamesDiffer}
+use Rattle.builtin.proofs.NameInstances.{a, apart, one_name, two_names}
+use Rattle.notation.specs.Meaning.{IsAssigned, IsMeaning, of_words, of_reference, of_items, of_components, no_more, one_more, NameMeans}
 use Rattle.notation.specs.References.{names_in, IsClosed}
 use Rattle.notation.proofs.ReferenceLemmas.{name_means_nothing}
-use Rattle.notation.proofs.TagInstances.{with_assignments, a, t-name, u-name, v-name, apart, one_name, two_names, null, null_type, null_meaning}
+use Rattle.notation.proofs.TagInstances.{with_assignments, t-name, u-name, v-name, null, null_type, null_meaning}
 
 -- the only assignment of a module
 only_one : (environment : Tagging) (name : List ℕ) (form other : Form) → IsAssigned (with_assignments environment ((name, form) ∷ [])) name other → form ≡ other

@@ -8,8 +8,9 @@ use Rattle.types.specs.WellFormed.{IsWellFormed}
 use Rattle.syntax.specs.Tree.{Form, reference, Tree}
 use Rattle.syntax.specs.View.{form, tree}
 use Rattle.syntax.specs.declared.tree.Module.{Module}
-use Rattle.notation.specs.Meaning.{NamesDiffer, NameMeans}
-use Rattle.notation.specs.Names.{IsFirstRepeat}
+use Rattle.builtin.specs.Names.{NamesDiffer, IsFirstRepeat}
+use Rattle.builtin.specs.declared.stop.Cause.{Cause}
+use Rattle.notation.specs.Meaning.{NameMeans}
 use Rattle.notation.specs.Under.{MeansUnder, IsAtRoot}
 use Rattle.notation.specs.Size.{HaveSize}
 use Rattle.notation.specs.Refused.{HasNoType, HasNoTypeWithin}
@@ -19,7 +20,6 @@ use Rattle.notation.specs.Weighed.{IsWeight, AreWeighed}
 use Rattle.notation.specs.declared.root.Root.{Root}
 use Rattle.notation.specs.declared.scope.Seen.{Seen}
 use Rattle.notation.specs.declared.scope.Scope.{Scope}
-use Rattle.notation.specs.declared.stop.Cause.{Cause}
 use Rattle.notation.specs.declared.weight.Weight.{Weight}
 use Rattle.notation.proofs.RefusedLemmas.{no_type-root}
 use Rattle.notation.proofs.UniqueLemmas.{one_type}

@@ -8,11 +8,12 @@ use Rattle.syntax.specs.declared.tree.TagPrefix.{TagPrefix}
 use Rattle.syntax.specs.declared.tree.TagMode.TheVariants.{Unmarked}
 use Rattle.syntax.specs.declared.tree.Tagging.TheVariants.{Explicit as ExplicitTags}
 use Rattle.syntax.specs.Tree.{Ending, required, Form, tagged, list, reference, no_component as no_written_component, next_component, Tree}
+use Rattle.builtin.proofs.NameInstances.{a, b}
 use Rattle.notation.specs.Meaning.{IsAssigned}
 use Rattle.notation.specs.Size.{HaveSize, ComponentsHaveSize}
 use Rattle.notation.proofs.UnderLemmas.{explicit_default}
 use Rattle.notation.proofs.SizeLemmas.{size-simple, size-explicit_tag, size-reference, size-list, part_size-plain, components_size-none, components_size-more}
-use Rattle.notation.proofs.TagInstances.{with_assignments, a, b, u-name, null}
+use Rattle.notation.proofs.TagInstances.{with_assignments, u-name, null}
 
 -- `SEQUENCE { a U, b U }`, where U is `[0] NULL` under EXPLICIT TAGS
 abbrev zero_tag : TagPrefix

@@ -11,9 +11,9 @@ use Rattle.syntax.specs.declared.tree.Group.TheVariants.{Sequence, Set}
 use Rattle.syntax.specs.declared.tree.TagPrefix.{TagPrefix}
 use Rattle.syntax.specs.Tree.{Ending, Entry, Form, tagged, list, of, enumerated, simple, reference, Tree}
 use Rattle.syntax.specs.View.{components_of as written_components}
-use Rattle.notation.specs.Universal.{named_by_words}
-use Rattle.notation.specs.Tagging.{tag_of, IsUntaggedChoice, tagged_implicitly, context}
-use Rattle.notation.specs.Meaning.{list_of, repeated, IsAssigned, IsMeaning, of_words, of_reference, of_items}
+use Rattle.builtin.specs.Universal.{named_by_words, list_of, repeated}
+use Rattle.builtin.specs.Tagging.{tag_of, IsUntaggedChoice, tagged_implicitly, context}
+use Rattle.notation.specs.Meaning.{IsAssigned, IsMeaning, of_words, of_reference, of_items}
 use Rattle.notation.specs.Parts.{IsPart, IsComponent}
 use Rattle.notation.specs.Under.{IsUnder, IsExplicitAt, IsImplicitAt}
 use Rattle.notation.specs.Size.{counted, HasSize, HaveSize, PartHasSize, AreOfSize, ComponentsHaveSize}

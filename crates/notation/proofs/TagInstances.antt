@@ -10,10 +10,11 @@ use Rattle.syntax.specs.declared.tree.TagMode.TheVariants.{Unmarked, Implicit, E
 use Rattle.syntax.specs.declared.tree.Tagging.{Tagging}
 use Rattle.syntax.specs.declared.tree.Tagging.TheVariants.{Explicit as ExplicitTags, Implicit as ImplicitTags, Automatic as AutomaticTags}
 use Rattle.syntax.specs.Tree.{Form, tagged, choice, simple, reference, no_alternative as no_written_alternative, next_alternative, Tree}
-use Rattle.notation.specs.Universal.{universal}
-use Rattle.notation.specs.Tagging.{context, IsUntaggedChoice}
-use Rattle.notation.specs.Meaning.{NamesDiffer, IsMeaning, of_words, of_reference, of_tag, of_alternatives, no_other, one_other}
-use Rattle.notation.proofs.SpellingLemmas.{heads}
+use Rattle.builtin.specs.Universal.{universal}
+use Rattle.builtin.specs.Tagging.{context, IsUntaggedChoice}
+use Rattle.builtin.specs.Names.{NamesDiffer}
+use Rattle.builtin.proofs.NameInstances.{a, no_names, one_name}
+use Rattle.notation.specs.Meaning.{IsMeaning, of_words, of_reference, of_tag, of_alternatives, no_other, one_other}
 use Rattle.notation.proofs.UniqueLemmas.{one_meaning}
 
 -- the module with this tag default and these assignments
@@ -24,12 +25,6 @@ abbrev pub alone : Tagging → Tree
 alone environment = with_assignments environment []
 
 -- names
-abbrev pub a : List ℕ
-a = 97 ∷ []
-
-abbrev pub b : List ℕ
-b = 98 ∷ []
-
 abbrev pub t-name : List ℕ
 t-name = 84 ∷ []
 
@@ -38,21 +33,6 @@ u-name = 85 ∷ []
 
 abbrev pub v-name : List ℕ
 v-name = 86 ∷ []
-
-pub apart : (x y : ℕ) → (x ≡ y → ⊥) → x ∷ [] ≢ y ∷ []
-apart x y other same = other (heads x y [] [] same)
-
-pub no_names : NamesDiffer []
-no_names = AllPairs-nil (λ x y. x ≢ y)
-
-pub one_name : (name : List ℕ) → NamesDiffer (name ∷ [])
-one_name name = all_differ-cons name [] (λ c. not_in_nil name c) no_names
-
-pub not_alone : (name other : List ℕ) → name ≢ other → Contains (other ∷ []) name → ⊥
-not_alone name other differ c = elim (contains_cases other name [] c) [ inl same ↦ differ (sym same) | inr none ↦ not_in_nil name none ]
-
-pub two_names : (name other : List ℕ) → name ≢ other → NamesDiffer (name ∷ other ∷ [])
-two_names name other differ = all_differ-cons name (other ∷ []) (λ c. not_alone name other differ c) (one_name other)
 
 -- `NULL`, and `[number]` with a keyword or none
 abbrev pub null : Form

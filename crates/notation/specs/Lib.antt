@@ -1,7 +1,3 @@
-pub mod Universal
-pub mod Tagging
-pub mod Numbering
-pub mod Defaults
 pub mod Meaning
 pub mod Under
 pub mod Parts
@@ -11,12 +7,8 @@ pub mod Size
 pub mod Refused
 pub mod Known
 pub mod Waiting
-pub mod Written
-pub mod Names
 pub mod Settled
 pub mod Weighed
 pub mod Ordering
 pub mod Settling
 pub mod Made
-pub mod Digits
-pub mod Taken

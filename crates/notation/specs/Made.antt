@@ -1,13 +1,14 @@
 -- Types that are made of expressions, each under the tag that the expression stands under.
-use Rattle.std.specs.Prelude.{◌≡◌, ℕ, Bool, List}
+use Rattle.std.specs.Prelude.{◌≡◌, ℕ, List}
 use Rattle.octets.specs.declared.tag.Tag.{Tag}
 use Rattle.types.specs.Shape.{Shape}
 use Rattle.types.specs.View.{ComponentView, components_of}
 use Rattle.syntax.specs.declared.tree.Group.{Group}
 use Rattle.syntax.specs.Tree.{Ending, Form, list, Tree}
-use Rattle.syntax.specs.View.{components_of as written_components, alternatives_of as written_alternatives}
-use Rattle.notation.specs.Tagging.{tagged_implicitly, is_component_tagged, is_alternative_tagged}
-use Rattle.notation.specs.Meaning.{list_of, repeated, IsMeaning}
+use Rattle.syntax.specs.View.{components_of as written_components}
+use Rattle.builtin.specs.Tagging.{tagged_implicitly}
+use Rattle.builtin.specs.Universal.{list_of, repeated}
+use Rattle.notation.specs.Meaning.{IsMeaning}
 
 -- the whole is a node with the tag around a meaning of the expression
 abbrev pub IsAround : Tree → Tag → Form → Shape → Type 0
@@ -20,10 +21,3 @@ IsRepeated m group tag form whole = (type : Shape) × IsMeaning m form type × (
 -- in a SEQUENCE and in a SET the components are what is written
 abbrev pub AreMade : Tree → List (List ℕ × Form × Ending) → List ComponentView → Type 0
 AreMade m written views = (group : Group) → IsMeaning m (list group (written_components written)) (list_of group (components_of views))
-
--- whether one of the components, or of the alternatives, is written with a tag
-abbrev pub are_written_with_tag : List (List ℕ × Form × Ending) → Bool
-are_written_with_tag written = is_component_tagged (written_components written)
-
-abbrev pub are_alternatives_written_with_tag : List (List ℕ × Form) → Bool
-are_alternatives_written_with_tag written = is_alternative_tagged (written_alternatives written)

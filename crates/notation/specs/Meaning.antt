@@ -1,19 +1,15 @@
 -- What a type expression means in a module (X.680 clauses 17 to 31).
-use Rattle.std.specs.Prelude.{◌≡◌, ◌≢◌, ℕ, List, [], ◌∷◌, map, Contains}
-use Rattle.std.specs.List.{AllPairs}
+use Rattle.std.specs.Prelude.{◌≡◌, ℕ, List, [], ◌∷◌, map, Contains}
 use Rattle.types.specs.Shape.{EnumerationItem, SimpleType, Requirement, Shape, Components, no_component, component, Alternatives, no_alternative, alternative}
 use Rattle.syntax.specs.declared.tree.Simple.{Simple}
 use Rattle.syntax.specs.declared.tree.Group.{Group}
-use Rattle.syntax.specs.declared.tree.Group.TheVariants.{Sequence, Set}
 use Rattle.syntax.specs.declared.tree.TagPrefix.{TagPrefix}
 use Rattle.syntax.specs.Tree.{Ending, Entry, Form, tagged, list, of, choice, enumerated, simple, reference, Components as WrittenComponents, no_component as no_written_component, next_component, Alternatives as WrittenAlternatives, no_alternative as no_written_alternative, next_alternative, Tree}
-use Rattle.notation.specs.Universal.{enumerated_tag, sequence_tag, set_tag, named_by_words}
-use Rattle.notation.specs.Tagging.{tag_of, IsTagged, components_in, alternatives_in}
-use Rattle.notation.specs.Numbering.{AreItems}
-use Rattle.notation.specs.Defaults.{IsRequirement}
-
-abbrev pub NamesDiffer : List (List ℕ) → Type 0
-NamesDiffer names = AllPairs (λ name other. name ≢ other) names
+use Rattle.builtin.specs.Universal.{enumerated_tag, named_by_words, list_of, repeated}
+use Rattle.builtin.specs.Tagging.{tag_of, IsTagged, components_in, alternatives_in}
+use Rattle.builtin.specs.Names.{NamesDiffer}
+use Rattle.builtin.specs.Numbering.{AreItems}
+use Rattle.builtin.specs.Defaults.{IsRequirement}
 
 abbrev pub component_names : WrittenComponents → List (List ℕ)
 component_names no_written_component = []
@@ -22,14 +18,6 @@ component_names (next_component name form ending others) = name ∷ component_na
 abbrev pub alternative_names : WrittenAlternatives → List (List ℕ)
 alternative_names no_written_alternative = []
 alternative_names (next_alternative name form others) = name ∷ alternative_names others
-
-abbrev pub list_of : Group → Components → Shape
-list_of Sequence components = Shape.sequence sequence_tag components
-list_of Set components = Shape.set set_tag components
-
-abbrev pub repeated : Group → Shape → Shape
-repeated Sequence type = Shape.sequence_of sequence_tag type
-repeated Set type = Shape.set_of set_tag type
 
 -- one of the module's assignments gives the name this expression
 abbrev pub IsAssigned : Tree → List ℕ → Form → Type 0

@@ -4,8 +4,8 @@ use Rattle.std.specs.Prelude.{◌≡◌, ⊤, ℕ, suc, Bool, true, false, List,
 use Rattle.types.specs.Shape.{Shape}
 use Rattle.types.specs.View.{ComponentView, AlternativeView}
 use Rattle.syntax.specs.Tree.{Ending, Form, Tree}
-use Rattle.notation.specs.Tagging.{context, tagged_by_default}
-use Rattle.notation.specs.Defaults.{IsRequirement}
+use Rattle.builtin.specs.Tagging.{context, tagged_by_default}
+use Rattle.builtin.specs.Defaults.{IsRequirement}
 use Rattle.notation.specs.Meaning.{IsMeaning}
 
 -- the type of the part at this place of its list

@@ -5,7 +5,7 @@ ghost use Rattle.types.specs.View.{ty_view, field_view, requirement_view};
 ghost use Rattle.types.specs.Shape.{Requirement};
 ghost use Rattle.syntax.specs.Tree.{Tree, list, choice, enumerated};
 ghost use Rattle.syntax.specs.View.{form, tree, component, alternative, components_of, alternatives_of, entry, ending};
-ghost use Rattle.notation.specs.Defaults.{IsRequirement};
+ghost use Rattle.builtin.specs.Defaults.{IsRequirement};
 ghost use Rattle.notation.specs.Meaning.{IsMeaning};
 ghost use Rattle.notation.specs.Under.{MeansUnder};
 ghost use Rattle.notation.specs.Parts.{IsPart};
@@ -14,14 +14,12 @@ ghost use Rattle.notation.specs.Known.{IsScope};
 ghost use Rattle.notation.specs.Settled.{IsSettled, MeansNothing};
 ghost use Rattle.notation.specs.Refused.{HasNoTypeWithin, PartHasNoTypeWithin};
 
-use crate::defaults::default_of;
-use crate::names::{alternatives_differ, components_differ, items_differ};
-use crate::numbering::numbered;
-use crate::root::tag_of;
 use crate::scope::Scope;
-use crate::stop::{Cause, Stop};
-use crate::tagging::{are_alternatives_tagged, are_components_tagged, automatic_tag};
-use crate::universal::{enumerated_tag, group_tag, list_type, of_type, simple_tag, simple_type};
+use builtin::{
+    Cause, Stop, alternatives_differ, are_alternatives_tagged, are_components_tagged,
+    automatic_tag, components_differ, default_of, enumerated_tag, group_tag, items_differ,
+    list_type, numbered, of_type, simple_tag, simple_type, tag_of,
+};
 use octets::Tag;
 use std::alloc::Global;
 use syntax::{Alternative, Component, Expr, Group, Item, Presence};

@@ -1,21 +1,14 @@
 //! Modules as trees, and the types that their names mean (X.680, in this project's profile).
 #![tactic(auto)]
 
-mod defaults;
-mod digits;
 mod expanding;
-mod names;
 mod naming;
-mod numbering;
 mod ordering;
 mod references;
 mod resolving;
 mod root;
 mod scope;
 mod settling;
-mod stop;
-mod tagging;
-mod universal;
 mod weighing;
 mod weight;
 

@@ -1,9 +1,31 @@
 //! The cause to refuse a name that reaches a cycle of references.
 
+ghost use Rattle.std.specs.Prelude.{◌≤◌};
+
 use crate::references::references_of;
 use crate::scope::Scope;
-use crate::stop::Unresolved;
 use std::alloc::{AllocError, Global};
+
+/// Why nothing is known of a name.
+#[derive(Clone, Copy, Debug, PartialEq, Eq)]
+pub enum Unresolved {
+    /// It refers to a name that is not assigned, or reaches one.
+    NotAssigned,
+    /// It reaches itself, or a name that does.
+    Cycle,
+}
+
+impl Unresolved {
+    /// The number of the fault.
+    pub fn number(self) -> u32
+        ensures range { (24 ≤ result) × (result ≤ 25) }
+    {
+        match self {
+            Unresolved::NotAssigned => 24,
+            Unresolved::Cycle => 25,
+        }
+    }
+}
 
 /// The assignments that are reached from one.
 #[derive(Drop)]

@@ -3,15 +3,16 @@
 ghost use Rattle.std.specs.Prelude.{◌≡◌, ◌↔◌, IsTrue, IfSome, IsNone, None as Nothing};
 ghost use Rattle.syntax.specs.Tree.{Tree};
 ghost use Rattle.syntax.specs.View.{form, tree};
-ghost use Rattle.notation.specs.Tagging.{tag_of};
+ghost use Rattle.builtin.specs.Tagging.{tag_of};
 ghost use Rattle.notation.specs.Settled.{NamesTold, MeansNothing};
 ghost use Rattle.notation.specs.Refused.{HasNoType};
 ghost use Rattle.notation.specs.Under.{IsAtRoot};
 ghost use Rattle.notation.specs.Known.{IsChoice, IsNoReference, IsOuterWithin, IsReferenceTo, IsScope, LeadsTo, TellsChoice, TellsExplicit};
 
 use crate::scope::Scope;
-use octets::{Class, MAX_TAG_NUMBER, Tag};
-use syntax::{Expr, TagClass, TagMode, TagPrefix, Tagging};
+use builtin::tag_of;
+use octets::{MAX_TAG_NUMBER, Tag};
+use syntax::{Expr, TagMode, TagPrefix, Tagging};
 
 /// A type expression that is neither a reference nor tagged implicitly, and the tag that replaces its
 /// outermost one.
@@ -73,20 +74,6 @@ fn is_own_tag_within(expr: &Expr) -> bool
         Expr::Tagged(prefix, _) => prefix.number <= MAX_TAG_NUMBER,
         Expr::Choice(_) | Expr::List(_, _) | Expr::Of(_, _) => true,
         Expr::Enumerated(_) | Expr::Simple(_) | Expr::Reference(_) => true,
-    }
-}
-
-/// The tag that is written in front of a type.
-pub fn tag_of(prefix: &TagPrefix) -> Tag
-    ensures { result ≡ tag_of prefix.now }
-{
-    Tag {
-        class: match prefix.class {
-            TagClass::ContextSpecific => Class::Context,
-            TagClass::Application => Class::Application,
-            TagClass::Private => Class::Private,
-        },
-        number: prefix.number,
     }
 }
 

@@ -3,13 +3,14 @@
 ghost use Rattle.std.specs.Prelude.{◌≡◌, IfOk, IfErr, IfSome, Some, map, slice_get, option_map, None as Nothing};
 ghost use Rattle.syntax.specs.View.{form, tree};
 ghost use Rattle.syntax.specs.Tree.{reference};
+ghost use Rattle.builtin.specs.Names.{IsFirstRepeat};
+ghost use Rattle.builtin.specs.Tagging.{has_automatic_tags};
 ghost use Rattle.notation.specs.Known.{LeadsTo, StandsAt, IsScope, IsNewScope};
 ghost use Rattle.notation.specs.Settled.{place_in, known_at, known_of};
-ghost use Rattle.notation.specs.Names.{IsFirstRepeat};
 
-use crate::names::enter;
 use crate::root::Root;
 use crate::weight::Weight;
+use builtin::{enter, is_automatic};
 use indexmap::IndexSet;
 use std::alloc::{AllocError, Global};
 use syntax::{Expr, Module};
@@ -54,6 +55,14 @@ impl<'a> Scope<'a> {
             names,
             seen,
         }))
+    }
+
+    /// Whether a list is tagged automatically: in a module with AUTOMATIC TAGS, where no part of it is
+    /// written with a tag.
+    pub fn is_automatic(&self, tagged: bool) -> bool
+        ensures { result ≡ has_automatic_tags self.now.module.now.tagging tagged }
+    {
+        is_automatic(self.module.tagging, tagged)
     }
 
     /// The place of the assignment of the name.

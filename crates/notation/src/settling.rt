@@ -9,8 +9,8 @@ ghost use Rattle.notation.specs.Weighed.{IsWeight, AreWeighed, CanWeigh};
 
 use crate::ordering::Waits;
 use crate::scope::{Scope, Seen};
-use crate::stop::Cause;
 use crate::weight::Weight;
+use builtin::Cause;
 use std::alloc::{AllocError, Global};
 use types::{MAX_LEVELS, MAX_NODES};
 

@@ -7,12 +7,12 @@ ghost use Rattle.syntax.specs.Tree.{Tree, tagged, list, choice, enumerated};
 ghost use Rattle.syntax.specs.View.{form, tree, component, alternative, entry, components_of, alternatives_of};
 ghost use Rattle.notation.specs.Weighed.{CanWeigh, IsWeight, IsOwnWeight, IsPartWeight};
 
-use crate::names::{alternatives_differ, components_differ, items_differ};
-use crate::numbering::{are_numbers_within, numbers_differ};
 use crate::scope::Scope;
-use crate::stop::Cause;
-use crate::tagging::{are_alternatives_tagged, are_components_tagged};
 use crate::weight::Weight;
+use builtin::{
+    Cause, alternatives_differ, are_alternatives_tagged, are_components_tagged, are_numbers_within,
+    components_differ, items_differ, numbers_differ,
+};
 use std::alloc::{AllocError, Global};
 use syntax::{Alternative, Component, Expr, Item, TagMode, TagPrefix};
 use types::MAX_LIST;

@@ -2,10 +2,10 @@ use Rattle.std.proofs.Common.{◌≡◌, Some, Result, IfOk, IfErr, map, sym, su
 use Rattle.types.specs.View.{ty_view}
 use Rattle.syntax.specs.View.{tree}
 use Rattle.syntax.specs.declared.tree.Module.{Module}
+use Rattle.builtin.specs.Names.{IsFirstRepeat}
 use Rattle.notation.specs.Known.{StandsAt, IsScope, IsNewScope}
 use Rattle.notation.specs.Settled.{place_in, IsSettled}
 use Rattle.notation.specs.Weighed.{AreWeighed}
-use Rattle.notation.specs.Names.{IsFirstRepeat}
 use Rattle.notation.specs.declared.scope.Scope.{Scope}
 use Rattle.notation.proofs.ResolvingLemmas.{name_means}
 use Rattle.notation.proofs.UniqueLemmas.{one_type_of_name}

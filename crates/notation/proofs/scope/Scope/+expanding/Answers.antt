@@ -12,9 +12,9 @@ use Rattle.syntax.specs.declared.tree.Alternative.{Alternative}
 use Rattle.syntax.specs.declared.tree.Item.{Item}
 use Rattle.syntax.specs.Tree.{Ending, Form, list, choice, enumerated}
 use Rattle.syntax.specs.View.{form, tree, component, alternative, entry, components_of, alternatives_of}
+use Rattle.builtin.specs.Tagging.{has_automatic_tags}
 use Rattle.notation.specs.declared.root.Root.{Root}
 use Rattle.notation.specs.Known.{IsScope, LeadsTo, TellsChoice}
-use Rattle.notation.specs.Tagging.{has_automatic_tags}
 use Rattle.notation.specs.Meaning.{IsMeaning}
 use Rattle.notation.specs.Parts.{AreComponents, AreAlternatives}
 use Rattle.notation.proofs.FormLemmas.{form-Tagged, form-List, form-Of, form-Choice, form-Enumerated, form-Simple}

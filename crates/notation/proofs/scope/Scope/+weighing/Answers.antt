@@ -9,7 +9,7 @@ use Rattle.syntax.specs.declared.tree.Item.{Item}
 use Rattle.syntax.specs.declared.tree.TagPrefix.{TagPrefix}
 use Rattle.syntax.specs.Tree.{Ending, Form, tagged, list, of, choice, enumerated, simple, reference}
 use Rattle.syntax.specs.View.{form, tree, component, alternative, entry, components_of, alternatives_of}
-use Rattle.notation.specs.Tagging.{has_automatic_tags}
+use Rattle.builtin.specs.Tagging.{has_automatic_tags}
 use Rattle.notation.specs.Under.{IsImplicitAt}
 use Rattle.notation.specs.Known.{IsScope, TellsChoice, TellsExplicit}
 use Rattle.notation.specs.Settled.{MeansNothing, NamesTold}
