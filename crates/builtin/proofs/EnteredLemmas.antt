@@ -34,7 +34,7 @@ module _ {K : Type 0} (text : K → List ℕ) (name : List ℕ) where
   enter_told ks after key new named added keys = by_mark (list_any (λ (k : K). bytes_eq name (text k)) ks) refl
     where
       by_mark : (mark : Bool) → list_any (λ (k : K). bytes_eq name (text k)) ks ≡ mark → IsEntered (map text ks) name new (map text after)
-      by_mark true e = subst (λ (b : Bool). IsEntered (map text ks) name b (map text after)) (sym (added ∙ ap not e)) (old_name ks e)
+      by_mark true e = subst (λ (b : Bool). IsEntered (map text ks) name b (map text after)) (sym (added ∙ ap not e)) (old_name ks e, ap (map text) (keys ∙ ap (λ (b : Bool). if b then ks else ks ++ key ∷ []) e))
       by_mark false e = subst (λ (b : Bool). IsEntered (map text ks) name b (map text after)) (sym (added ∙ ap not e)) (
         new_name ks e,
         ap (map text) (keys ∙ ap (λ (b : Bool). if b then ks else ks ++ key ∷ []) e) ∙ map-append text ks (key ∷ []) ∙ ap (λ (n : List ℕ). map text ks ++ n ∷ []) named,
@@ -80,7 +80,7 @@ module _ {W X : Type 0} (p : W → List ℕ) (q : X → W) (xs : List X) where
       → IsTrue false ↔ NamesDiffer (map p (map q xs))
   repeat_told i x name true entered after within is named t h e = absurd (false≢true (sym t))
   repeat_told i x name false entered after within is named t h e =
-      let there : Contains (map p (map q (take i xs))) (p (q x)) = subst (Contains (map p (map q (take i xs)))) named (subst (λ (ns : List (List ℕ)). Contains ns name) h.are e) in
+      let there : Contains (map p (map q (take i xs))) (p (q x)) = subst (Contains (map p (map q (take i xs)))) named (subst (λ (ns : List (List ℕ)). Contains ns name) h.are e.0) in
       (λ f. absurd (false≢true f), λ differ. absurd (differ-repeat (map p (map q (take i xs))) (map p (map q (drop (i + 1) xs))) (p (q x)) there (subst NamesDiffer (names_all i x within is) differ)))
 
   -- and so its place is that of the first that repeats
@@ -92,6 +92,6 @@ module _ {W X : Type 0} (p : W → List ℕ) (q : X → W) (xs : List X) where
       record {
         name = name;
         at = slice_get-map p (map q xs) i ∙ ap (option_map p) (slice_get-map q xs i) ∙ ap (λ (o : Option X). option_map p (option_map q o)) (slice_get-get_or xs i x within ∙ ap Some (sym is)) ∙ ap Some (sym named);
-        earlier = subst (λ (ns : List (List ℕ)). Contains ns name) (h.are ∙ sym same) e;
+        earlier = subst (λ (ns : List (List ℕ)). Contains ns name) (h.are ∙ sym same) e.0;
         differ = subst NamesDiffer (sym same) h.differ;
       }

@@ -6,3 +6,4 @@ pub mod Written
 pub mod Defaults
 pub mod Digits
 pub mod Taken
+pub mod Cause

@@ -5,10 +5,10 @@ use Rattle.std.specs.List.{AllPairs}
 abbrev pub NamesDiffer : List (List ℕ) → Type 0
 NamesDiffer names = AllPairs (λ name other. name ≢ other) names
 
--- the name is entered behind the others where it is none of them
+-- the name is entered behind the others where it is none of them, and else nothing is
 abbrev pub IsEntered : List (List ℕ) → List ℕ → Bool → List (List ℕ) → Type 0
 IsEntered names name true after = (Contains names name → ⊥) × (after ≡ names ++ name ∷ [])
-IsEntered names name false after = Contains names name
+IsEntered names name false after = Contains names name × (after ≡ names)
 
 -- those that are entered are these, and they differ
 pub record AreEntered (entered names : List (List ℕ)) : Type 0 where

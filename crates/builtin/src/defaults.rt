@@ -23,6 +23,7 @@ use types::{Item, Ty, Value};
 pub fn default_of(alloc: Global, ty: &Ty, written: &DefaultValue) -> Result<Value, Stop>
     ensures value { IfOk result (λ value. IsDefault (ty_view ty.now) (written_view written.now) (value_view value)) }
     ensures refused { IfErr result (λ stop. stop ≢ Stop.NoMemory → (v : Val) → ¬ IsDefault (ty_view ty.now) (written_view written.now) v) }
+    ensures numbers { IfErr result (λ stop. stop ≢ Stop.NoMemory → stop ≡ Stop.Refused Cause.BadDefault) }
 {
     match taken(alloc, ty, written)? {
         Some(value) => Ok(value),

@@ -88,6 +88,7 @@ fn written_numbers(alloc: Global, items: &[Item]) -> Result<Vec<i128>, AllocErro
 pub fn numbered(alloc: Global, items: &[Item]) -> Result<Vec<types::Item>, Stop>
     ensures items { IfOk result (λ numbered. AreItems (map entry items.now) (map item_view numbered.items)) }
     ensures refused { IfErr result (λ stop. stop ≢ Stop.NoMemory → (others : List EnumerationItem) → ¬ AreItems (map entry items.now) others) }
+    ensures numbers { IfErr result (λ stop. stop ≢ Stop.NoMemory → stop ≡ Stop.Refused Cause.TooLarge) }
 {
     let written = written_numbers(alloc, items)?;
     let mut free = FreeNumbers {

@@ -1,6 +1,7 @@
 //! Why a name is refused.
 
 ghost use Rattle.std.specs.Prelude.{◌≡◌, ◌≤◌};
+ghost use Rattle.builtin.specs.Cause.{cause_number};
 ghost use Rattle.builtin.specs.declared.stop.Stop.TheVariants.{NoMemory, Refused};
 
 use std::alloc::{AllocError, AllocFailed};
@@ -27,6 +28,7 @@ pub enum Cause {
 impl Cause {
     /// The number of the fault, from 24 to 31, but not that of a cycle.
     pub fn number(self) -> u32
+        ensures number { result ≡ cause_number self }
         ensures range { (24 ≤ result) × (result ≤ 31) }
         ensures no_cycle { result ≡ 25 → ⊥ }
     {
