@@ -1,8 +1,8 @@
 -- Modules and expressions of the examples, and what tags make of them.
-use Rattle.std.proofs.Common.{◌≡◌, ◌≢◌, inl, inr, ℕ, List, [], ◌∷◌, refl, sym, ap, subst, arith, Contains}
+use Rattle.std.proofs.Common.{◌≡◌, ℕ, List, [], ◌∷◌, refl, sym, ap, subst, arith}
 use Rattle.octets.specs.declared.tag.Tag.{Tag}
 use Rattle.types.specs.Shape.{SimpleType, Shape, no_alternative, alternative}
-use Rattle.types.proofs.ListLemmas.{AllPairs-nil, all_differ-cons, contains_cases, contains_first, not_in_nil}
+use Rattle.types.proofs.ListLemmas.{contains_first}
 use Rattle.syntax.specs.declared.tree.Simple.TheVariants.{Null}
 use Rattle.syntax.specs.declared.tree.TagClass.TheVariants.{ContextSpecific}
 use Rattle.syntax.specs.declared.tree.TagMode.{TagMode}
@@ -12,7 +12,6 @@ use Rattle.syntax.specs.declared.tree.Tagging.TheVariants.{Explicit as ExplicitT
 use Rattle.syntax.specs.Tree.{Form, tagged, choice, simple, reference, no_alternative as no_written_alternative, next_alternative, Tree}
 use Rattle.builtin.specs.Universal.{universal}
 use Rattle.builtin.specs.Tagging.{context, IsUntaggedChoice}
-use Rattle.builtin.specs.Names.{NamesDiffer}
 use Rattle.builtin.proofs.NameInstances.{a, no_names, one_name}
 use Rattle.notation.specs.Meaning.{IsMeaning, of_words, of_reference, of_tag, of_alternatives, no_other, one_other}
 use Rattle.notation.proofs.UniqueLemmas.{one_meaning}
