@@ -1,21 +1,24 @@
 -- Lemmas on values whose encodings are primitive.
-use Rattle.std.proofs.Common.{◌≡◌, ◌≤◌, ◌∙◌, ◌^◌, ℕ, List, ◌++◌, length, refl, sym, ap, subst, arith, append_assoc}
+use Rattle.std.proofs.Common.{◌≡◌, ◌≤◌, ◌∙◌, ◌^◌, ℕ, false, List, ◌++◌, length, refl, sym, ap, subst, arith, append_assoc}
 use Rattle.octets.specs.declared.TheConstants.{MAX_TAG_NUMBER}
 use Rattle.octets.specs.declared.tag.Tag.{Tag}
 use Rattle.octets.specs.Front.{Appends}
 use Rattle.octets.specs.Length.{IsShortestLength}
 use Rattle.octets.specs.Rule.{Rule, der, IsCanonical}
+use Rattle.octets.proofs.IdentifierOctetsLemmas.{IsIdentifier-size}
+use Rattle.octets.proofs.ShortestLemmas.{IsLength-size}
 use Rattle.octets.proofs.RuleLemmas.{cer_is_canonical, der_is_canonical}
 use Rattle.types.specs.Shape.{SimpleType, SimpleValue, Val}
 use Rattle.types.specs.Contents.{IsContents}
 use Rattle.types.specs.Form.{IsPrimitive}
 use Rattle.types.proofs.CanonicalLemmas.{primitive_by_cer, primitive_by_der}
 use Rattle.types.proofs.ContentsExistenceLemmas.{simple_contents}
+use Rattle.types.proofs.FormLemmas.{length-definite}
 use Rattle.canon.specs.declared.rule.CanonicalRule.{CanonicalRule}
 use Rattle.canon.specs.declared.rule.CanonicalRule.TheVariants.{Cer, Der}
 use Rattle.canon.specs.Rule.{rule_of}
 use Rattle.canon.specs.Leaf.{IsContentsOf, IsSimple, IsWithin, IsPrimitiveHead, IsSimplyEncoded}
-use Rattle.canon.specs.Size.{HasSize}
+use Rattle.canon.specs.Size.{AreShort, HasSize}
 use Rattle.canon.proofs.PrimitiveLemmas.{primitive_exists}
 use Rattle.canon.proofs.StringSizeLemmas.{SizesPrimitive}
 
@@ -45,6 +48,13 @@ simple_made rule tag v n old mid new head contents count =
       record { contents = contents.0; spelt = contents.2; primitive = primitive_from_der rule tag contents.0 whole record { identifier = h.identifier; size = h.size; tagged = h.tagged; sized = sized; joined = joined } },
     )
 
+-- a primitive encoding of few contents octets is within the limit
+pub primitive_short : (tag : Tag) (contents octets : List ℕ) → tag.number ≤ MAX_TAG_NUMBER → length contents ≤ 2451 → IsPrimitive der tag contents octets → length octets ≤ 1_048_576
+primitive_short tag contents octets kept few h =
+    let front = IsIdentifier-size tag false h.identifier kept h.tagged in
+    let size = IsLength-size (length contents) h.size h.sized.form in
+    omega (arith, few, front.1, size.1, length-definite der tag false contents octets h)
+
 -- some contents octets
 within_contents : (rule : Rule) (value : SimpleValue) → IsCanonical rule → IsWithin value → (contents : List ℕ) × IsContents rule value contents
 within_contents rule (SimpleValue.boolean truth) canonical h = let made = simple_contents rule SimpleType.boolean (SimpleValue.boolean truth) canonical h in (made.0, made.1)
@@ -58,13 +68,22 @@ contents_there : (rule : CanonicalRule) (v : Val) → IsSimple v → (contents :
 contents_there rule (Val.simple value) h = within_contents (rule_of rule) value (rule_is_canonical rule) h
 contents_there rule v h = elim h [ ]
 
+some_simple : (rule : CanonicalRule) (tag : Tag) (v : Val) (n : ℕ) → tag.number ≤ MAX_TAG_NUMBER → IsSimple v → n ≤ 2451 → ((contents : List ℕ) → IsContentsOf (rule_of rule) v contents → length contents ≡ n) → (octets : List ℕ) × IsSimplyEncoded (rule_of rule) tag v octets
+some_simple rule tag v n kept simple few count =
+    let some = contents_there rule v simple in
+    let wide : 2 ^ 64 ≡ 18446744073709551616 = refl in
+    let p = primitive_exists tag some.0 kept (omega (arith, count some.0 some.1, few, wide)) in
+    (p.0, record { contents = some.0; spelt = some.1; primitive = primitive_from_der rule tag some.0 p.0 (primitive_by_der tag some.0 p.0 p.1) })
+
+pub simple_short : (rule : CanonicalRule) (tag : Tag) (v : Val) (n : ℕ) → tag.number ≤ MAX_TAG_NUMBER → IsSimple v → n ≤ 2451 → ((contents : List ℕ) → IsContentsOf (rule_of rule) v contents → length contents ≡ n) → AreShort (IsSimplyEncoded (rule_of rule) tag v)
+simple_short rule tag v n kept simple few count = record {
+  each = λ octets h. primitive_short tag h.contents octets kept (omega (arith, count h.contents h.spelt, few)) (primitive_to_der rule tag h.contents octets h.primitive);
+  there = some_simple rule tag v n kept simple few count;
+}
+
 pub simple_size : (rule : CanonicalRule) (tag : Tag) (v : Val) (n size : ℕ) → tag.number ≤ MAX_TAG_NUMBER → IsSimple v → n ≤ 2451 → ((contents : List ℕ) → IsContentsOf (rule_of rule) v contents → length contents ≡ n) → SizesPrimitive tag n size
     → HasSize (IsSimplyEncoded (rule_of rule) tag v) size
 simple_size rule tag v n size kept simple few count sizes = record {
   each = λ octets h. sizes h.contents octets (omega (arith, count h.contents h.spelt, few)) (primitive_to_der rule tag h.contents octets h.primitive);
-  there = λ within.
-      let some = contents_there rule v simple in
-      let wide : 2 ^ 64 ≡ 18446744073709551616 = refl in
-      let p = primitive_exists tag some.0 kept (omega (arith, count some.0 some.1, few, wide)) in
-      (p.0, record { contents = some.0; spelt = some.1; primitive = primitive_from_der rule tag some.0 p.0 (primitive_by_der tag some.0 p.0 p.1) });
+  there = λ within. some_simple rule tag v n kept simple few count;
 }

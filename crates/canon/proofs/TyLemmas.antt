@@ -13,7 +13,7 @@ use Rattle.types.specs.View.{item_view, ty_view, components_view}
 use Rattle.types.specs.Encoding.{IsEncoding}
 use Rattle.types.proofs.ViewLemmas.{ty-Boolean, ty-Integer, ty-Enumerated, ty-Null, ty-Oid, ty-RelativeOid, ty-Bits, ty-Octets, ty-Text, ty-Time, ty-Sequence, ty-Set, ty-SequenceOf, ty-SetOf}
 use Rattle.canon.specs.Node.{HasGoodNodes, AreItems, AreComponents}
-use Rattle.canon.specs.Leaf.{IsLeafOf}
+use Rattle.canon.specs.Leaf.{IsLeafOf, IsSimpleOf}
 use Rattle.canon.specs.Size.{HasSize}
 use Rattle.canon.proofs.AlikeLemmas.{size_alike}
 use Rattle.canon.proofs.NodeLemmas.{IsListOf, IsRecordOf, HasItems, HasSlots, sequence_alike, set_alike, sequence_of_alike, set_of_alike}
@@ -44,6 +44,16 @@ leaf_view ty tag (inr (inr (inr (inr (inr (inr (inl is))))))) = inr (StringType.
 leaf_view ty tag (inr (inr (inr (inr (inr (inr (inr (inl is)))))))) = inr (StringType.octet_string, ap ty_view is ∙ ty-Octets tag)
 leaf_view ty tag (inr (inr (inr (inr (inr (inr (inr (inr (inl h))))))))) = inr (StringType.text h.0, ap ty_view h.1 ∙ ty-Text tag h.0)
 leaf_view ty tag (inr (inr (inr (inr (inr (inr (inr (inr (inr h))))))))) = inr (StringType.time h.0, ap ty_view h.1 ∙ ty-Time tag h.0)
+
+pub simple_view : (ty : Ty) (tag : Tag)
+    → (ty ≡ node.Boolean tag) ⊎ ((ty ≡ node.Integer tag) ⊎ (((items : Vec Item Global) × (ty ≡ node.Enumerated tag items)) ⊎ ((ty ≡ node.Null tag) ⊎ ((ty ≡ node.Oid tag) ⊎ (ty ≡ node.RelativeOid tag)))))
+    → IsSimpleOf tag (ty_view ty)
+simple_view ty tag (inl is) = (SimpleType.boolean, ap ty_view is ∙ ty-Boolean tag)
+simple_view ty tag (inr (inl is)) = (SimpleType.integer, ap ty_view is ∙ ty-Integer tag)
+simple_view ty tag (inr (inr (inl h))) = (SimpleType.enumerated (map item_view h.0.items), ap ty_view h.1 ∙ ty-Enumerated tag h.0)
+simple_view ty tag (inr (inr (inr (inl is)))) = (SimpleType.null, ap ty_view is ∙ ty-Null tag)
+simple_view ty tag (inr (inr (inr (inr (inl is))))) = (SimpleType.oid, ap ty_view is ∙ ty-Oid tag)
+simple_view ty tag (inr (inr (inr (inr (inr is))))) = (SimpleType.relative_oid, ap ty_view is ∙ ty-RelativeOid tag)
 
 pub leaf_kept : (tag : Tag) (shape : Shape) → IsLeafOf tag shape → HasGoodNodes shape → tag.number ≤ 268_435_455
 leaf_kept tag shape (inl h) good = let whole : HasGoodNodes (Shape.simple tag h.0) = subst HasGoodNodes h.1 good in whole.within.0.0

@@ -6,6 +6,11 @@ pub record HasSize (Is : List ℕ → Type 0) (size : ℕ) : Type 0 where
   pub each : (octets : List ℕ) → Is octets → size ≡ min (length octets) 1_048_577
   pub there : size ≤ 1_048_576 → (octets : List ℕ) × Is octets
 
+-- all such octets are within the limit, and there are some
+pub record AreShort (Is : List ℕ → Type 0) : Type 0 where
+  pub each : (octets : List ℕ) → Is octets → length octets ≤ 1_048_576
+  pub there : (octets : List ℕ) × Is octets
+
 -- there are such octets, so many
 pub record HasSomeOf (Is : List ℕ → Type 0) (size : ℕ) : Type 0 where
   pub octets : List ℕ

@@ -1,11 +1,11 @@
 //! What stands around contents octets (X.690 9.1 and 10.1).
 
-ghost use Rattle.std.specs.Prelude.{◌≡◌, ◌≤◌, ◌+◌, ◌++◌, ℕ, List, length, reverse, OnOk, OnErr};
+ghost use Rattle.std.specs.Prelude.{◌≡◌, ◌≤◌, ◌<◌, ◌+◌, ◌++◌, ℕ, List, length, reverse, OnOk, OnErr};
 ghost use Rattle.octets.specs.declared.TheConstants.{MAX_TAG_NUMBER};
 ghost use Rattle.octets.specs.Front.{Appends};
 ghost use Rattle.octets.specs.Identifier.{class_bits};
 ghost use Rattle.types.specs.Form.{IsConstructed};
-ghost use Rattle.canon.specs.declared.rule.CanonicalRule.TheVariants.{Der};
+ghost use Rattle.canon.specs.declared.rule.CanonicalRule.TheVariants.{Cer, Der};
 ghost use Rattle.canon.specs.Leaf.{IsPrimitiveHead};
 ghost use Rattle.canon.specs.Part.{Keeps};
 ghost use Rattle.canon.specs.Rule.{rule_of};
@@ -70,12 +70,28 @@ pub(crate) fn put_front(
         out.old.items out.new.items) }
     ensures kept { OnErr result (Keeps out.old.items out.new.items) }
 {
+    if tag.number < 31 && contents < 0x80 {
+        out.extend_from_slice(&[leading_octet(tag) + 0x20, short_length(rule, contents)])?;
+        return Ok(());
+    }
     put_identifier(out, tag, true)?;
     match rule {
         CanonicalRule::Cer => out.push(0x80)?,
         CanonicalRule::Der => put_shortest_length(out, contents)?,
     }
     Ok(())
+}
+
+// The one length octet of a constructed encoding with so many contents octets (X.690 9.1 and 10.1).
+fn short_length(rule: CanonicalRule, contents: usize) -> u8
+    requires { contents < 128 }
+    ensures indefinite { rule ≡ Cer → result ≡ 128 }
+    ensures definite { rule ≡ Der → result ≡ contents }
+{
+    match rule {
+        CanonicalRule::Cer => 0x80,
+        CanonicalRule::Der => contents as u8,
+    }
 }
 
 // Appends what stands before the contents octets, turned round, where the encoding began at `start`.

@@ -7,7 +7,7 @@ ghost use Rattle.types.specs.View.{value_view};
 ghost use Rattle.canon.specs.Leaf.{IsLeaf, IsLeafEncoding, IsSimple, IsSimplyEncoded};
 ghost use Rattle.canon.specs.Part.{Keeps};
 ghost use Rattle.canon.specs.Rule.{rule_of};
-ghost use Rattle.canon.specs.Size.{HasSize};
+ghost use Rattle.canon.specs.Size.{AreShort, HasSize};
 ghost use Rattle.canon.specs.Turned.{Turned};
 
 use crate::contents::{put_contents, size_of_contents};
@@ -118,7 +118,7 @@ pub(crate) fn put_forwards(
 }
 
 // The same of a value whose encodings are primitive.
-fn put_simple(
+pub(crate) fn put_simple(
     rule: CanonicalRule,
     tag: Tag,
     value: &Value,
@@ -129,6 +129,7 @@ fn put_simple(
     ensures appended { OnOk result (Appends
         (IsSimplyEncoded (rule_of rule) tag (value_view value.now)) out.old.items out.new.items) }
     ensures kept { OnErr result (Keeps out.old.items out.new.items) }
+    ensures short { AreShort (IsSimplyEncoded (rule_of rule) tag (value_view value.now)) }
 {
     put_primitive_head(tag, size_of_contents(rule, value), out)?;
     put_contents(rule, value, out)

@@ -18,9 +18,10 @@ ghost use Rattle.canon.specs.Segments.{AreSegmentsOf, IsCutOf, IsStringOf};
 ghost use Rattle.canon.specs.Size.{HasSize};
 
 use crate::SEGMENT_OCTETS;
+use crate::heads::put_primitive_head;
 use crate::rule::CanonicalRule;
 use crate::sizes::{size_of_definite, size_of_identifier, size_of_length};
-use octets::{MAX_ENCODING, NoMemory, Tag, put_identifier, put_shortest_length};
+use octets::{MAX_ENCODING, NoMemory, Tag, put_identifier};
 
 // How many octets an encoding under `tag` has of a string of so many octets, after so many others that
 // its contents octets begin with.
@@ -159,9 +160,20 @@ fn put_primitive(tag: Tag, lead: &[u8], octets: &[u8], out: &mut Vec<u8>) -> Res
         (Appends (IsPrimitive cer tag (lead.now ++ octets.now)) out.old.items out.new.items) }
     ensures kept { OnErr result (Keeps out.old.items out.new.items) }
 {
-    put_identifier(out, tag, false)?;
-    put_shortest_length(out, lead.len() + octets.len())?;
-    out.extend_from_slice(lead)?;
+    put_primitive_head(tag, lead.len() + octets.len(), out)?;
+    put_lead(lead, out)?;
     out.extend_from_slice(octets)?;
+    Ok(())
+}
+
+// Appends the first contents octet of a BIT STRING; other strings have none.
+fn put_lead(lead: &[u8], out: &mut Vec<u8>) -> Result<(), NoMemory>
+    ensures appended { OnOk result (out.new.items ≡ out.old.items ++ lead.now) }
+    ensures unchanged { OnErr result (out.new.items ≡ out.old.items) }
+{
+    if lead.is_empty() {
+        return Ok(());
+    }
+    out.extend_from_slice(lead)?;
     Ok(())
 }
