@@ -6,7 +6,7 @@ ghost use Rattle.texts.specs.Leaf.{bit_digit as digit_of_bit, hex_digit as digit
 
 use octets::NoMemory;
 use primitives::Bits;
-use std::str;
+use simdutf8::basic::from_utf8;
 use std::string::String;
 use strings::TextKind;
 
@@ -99,7 +99,7 @@ fn put_ascii(octets: &[u8], out: &mut String) -> Result<(), NoMemory>
     requires { IsAscii octets.now }
     ensures { OnOk result (string_bytes out.new ≡ string_bytes out.old ++ octets.now) }
 {
-    let Ok(text) = str::from_utf8(octets) else {
+    let Ok(text) = from_utf8(octets) else {
         unreachable!();
     };
     out.push_str(text)?;

@@ -2,4 +2,4 @@ use Rattle.std.proofs.lemmas.Str.{IsUtf8-from_ascii}
 use Rattle.texts.proofs.quoting.put_ascii.Goals as goal
 
 pub unreachable-requires : goal.unreachable-requires
-unreachable-requires c = c.in_default.ensures.cases.0 (IsUtf8-from_ascii c.args.octets.now c.requires)
+unreachable-requires c = c.in_default.ensures (IsUtf8-from_ascii c.args.octets.now c.requires)
