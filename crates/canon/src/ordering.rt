@@ -94,7 +94,7 @@ fn order_slots(
 {
     let count = fields.len().min(slots.len());
     let mut ordered = Vec::new(alloc);
-    ordered.reserve(count)?;
+    ordered.reserve_exact(count)?;
     for place in 0..count {
         match &slots[place] {
             Some(value) => {
@@ -116,7 +116,7 @@ fn order_items(alloc: Global, ty: &Ty, items: &[Value]) -> Result<Vec<Value>, No
         AllZip (IsOrderedFrom (ty_view ty.now)) (map value_view items.now) (map value_view ordered.items)) }
 {
     let mut ordered = Vec::new(alloc);
-    ordered.reserve(items.len())?;
+    ordered.reserve_exact(items.len())?;
     for item in items {
         let value = order_value(alloc, ty, item)?;
         ordered.push(value)?;
