@@ -1,13 +1,14 @@
 //! Lines of text for values.
 
 ghost use Rattle.std.specs.Prelude.{◌≡◌, ◌++◌, ◌∷◌, [], OnOk, OnErr, IfErr, string_bytes};
-ghost use Rattle.types.specs.View.{ty_view};
+ghost use Rattle.types.specs.Conforms.{Conforms};
+ghost use Rattle.types.specs.View.{ty_view, value_view};
 ghost use Rattle.texts.specs.Shown.{IsShown};
 ghost use Rattle.engine.specs.Stream.{IsLine};
 
 use crate::putting::Put;
 use std::alloc::Global;
-use texts::show;
+use texts::{show, show_behind};
 use types::{Refusal, Value, WellTyped};
 
 /// Writes a value's text and a line feed.
@@ -25,10 +26,38 @@ impl Put for Lines<'_> {
     ghost can_be_too_long = { ⊥ };
 
     fn put(&self, value: &Value, out: &mut Vec<u8>) -> Result<(), Refusal> {
+        if out.is_empty() {
+            return self.put_first(value, out);
+        }
         let Ok(text) = show(self.alloc, self.ty, value) else {
             return Err(Refusal::NoMemory);
         };
         put_line(text, out)
+    }
+}
+
+impl Lines<'_> {
+    // The same into a vector without octets, in the room that it has.
+    fn put_first(&self, value: &Value, out: &mut Vec<u8>) -> Result<(), Refusal>
+        requires conforms { Conforms (ty_view self.now.ty.now) (value_view value.now) }
+        requires none { out.old.items ≡ [] }
+        ensures line { OnOk result (IsLine (IsShown (ty_view self.now.ty.now)) (value_view value.now) out.new.items) }
+        ensures unchanged { OnErr result (out.new.items ≡ []) }
+        ensures refused { IfErr result (λ refusal. refusal ≡ Refusal.NoMemory) }
+    {
+        let room = std::mem::replace(out, Vec::new(self.alloc));
+        let Ok(before) = String::from_utf8(room) else {
+            unreachable!();
+        };
+        let Ok(mut text) = show_behind(self.alloc, self.ty, value, before) else {
+            return Err(Refusal::NoMemory);
+        };
+        match end_line(&mut text) {
+            Ok(()) => {}
+            Err(refusal) => return Err(refusal),
+        }
+        *out = text.into_bytes();
+        Ok(())
     }
 }
 
@@ -38,11 +67,22 @@ fn put_line(mut text: String, out: &mut Vec<u8>) -> Result<(), Refusal>
     ensures unchanged { OnErr result (out.new.items ≡ out.old.items) }
     ensures refused { IfErr result (λ refusal. refusal ≡ Refusal.NoMemory) }
 {
-    match text.push('\n') {
+    match end_line(&mut text) {
         Ok(()) => {}
-        Err(_) => return Err(Refusal::NoMemory),
+        Err(refusal) => return Err(refusal),
     }
     match out.extend_from_slice(text.as_bytes()) {
+        Ok(()) => Ok(()),
+        Err(_) => Err(Refusal::NoMemory),
+    }
+}
+
+// Appends a line feed.
+fn end_line(text: &mut String) -> Result<(), Refusal>
+    ensures ended { OnOk result (string_bytes text.new ≡ string_bytes text.old ++ 10 ∷ []) }
+    ensures refused { IfErr result (λ refusal. refusal ≡ Refusal.NoMemory) }
+{
+    match text.push('\n') {
         Ok(()) => Ok(()),
         Err(_) => Err(Refusal::NoMemory),
     }

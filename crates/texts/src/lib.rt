@@ -12,7 +12,7 @@ mod quoting;
 mod showing;
 
 pub use laws::same_values_have_one_text;
-pub use showing::show;
+pub use showing::{show, show_behind};
 
 #[cfg(test)]
 mod tests;

@@ -1,6 +1,7 @@
 //! Texts of whole values.
 
 ghost use Rattle.std.specs.Prelude.{IfOk, string_bytes};
+ghost use Rattle.octets.specs.Front.{Appends};
 ghost use Rattle.types.specs.Conforms.{Conforms};
 ghost use Rattle.types.specs.View.{ty_view, value_view};
 ghost use Rattle.texts.specs.Shown.{IsShown};
@@ -22,8 +23,23 @@ pub fn show(alloc: Global, ty: &WellTyped, value: &Value) -> Result<String, NoMe
     requires { Conforms (ty_view ty.now) (value_view value.now) }
     ensures { IfOk result (λ text. IsShown (ty_view ty.now) (value_view value.now) (string_bytes text)) }
 {
+    show_behind(alloc, ty, value, String::new(alloc))
+}
+
+/// The text `before` and that of a value behind it, in the room that `before` has. Both are dropped
+/// where memory runs out.
+pub fn show_behind(
+    alloc: Global,
+    ty: &WellTyped,
+    value: &Value,
+    before: String,
+) -> Result<String, NoMemory>
+    requires { Conforms (ty_view ty.now) (value_view value.now) }
+    ensures { IfOk result (λ text. Appends
+        (IsShown (ty_view ty.now) (value_view value.now)) (string_bytes before) (string_bytes text)) }
+{
     let shape = ty.as_type();
-    let mut text = String::new(alloc);
+    let mut text = before;
     if is_plain(shape, value) {
         put_value(shape, value, &mut text)?;
         return Ok(text);
