@@ -58,8 +58,31 @@ impl<'a> Cursor<'a> {
         ensures numbers { IfErr result IsOfReading }
     {
         if self.string.is_none() {
-            return self.begin(alloc, octets, whole);
+            self.begin(alloc, octets, whole)
+        } else {
+            self.go_on(alloc, octets, whole)
         }
+    }
+
+    // Takes what stands next in the string that has begun, or the string itself. A call of its own, since most
+    // steps are in no string.
+    #[inline(never)]
+    fn go_on(
+        &mut self,
+        alloc: Global,
+        octets: &[u8],
+        whole: &mut Option<Value>,
+    ) -> Result<usize, Refusal>
+        requires sound { IsSoundCursor self.old }
+        requires whole { whole.old ≡ None }
+        ensures taken { IfOk result (λ used. IsStep self.old self.new octets.now whole.new used) }
+        ensures sound { OnOk result (IsSoundCursor self.new) }
+        ensures truncated { result ≡ Err Refusal.Truncated → ¬ CanFinish self.old octets.now }
+        ensures never { IfErr result (λ refusal. IsFinal refusal → (more : List ℕ) →
+            ¬ CanFinish self.old (octets.now ++ more)) }
+        ensures unchanged { result ≡ Err Refusal.Truncated → self.new ≡ self.old }
+        ensures numbers { IfErr result IsOfReading }
+    {
         if let Some(string) = &mut self.string {
             if !string.segments.is_closed() {
                 return pass(&self.nest, string, octets);

@@ -18,8 +18,8 @@ ghost use Rattle.berreader.specs.Strings.{IsClosed, IsFound, IsOpenedString, IsS
 use crate::MAX_NESTED;
 use crate::stack::{Open, Stack};
 use contents::{
-    Kind, OUTSIDE, Segments, begin_string, begins, holding_of, is_node, named, node_of, not_due,
-    read_end, read_head_tag, read_leaf, read_opening, wrap,
+    Kind, OUTSIDE, Segments, begin_string, begins, holding_of, is_node, named, node_within,
+    not_due, read_end, read_head_tag, read_leaf, read_opening, wrap,
 };
 use octets::{NoMemory, Tag};
 use std::alloc::Global;
@@ -215,9 +215,7 @@ impl<'a> Nest<'a> {
         if !next.node.has_no_parts() {
             self.open(alloc, next, octets)
         } else if next.constructed {
-            let (begun, used) = self.begin(alloc, next, octets)?;
-            *string = Some(begun);
-            Ok(used)
+            self.begin_in(alloc, next, octets, string)
         } else {
             self.leaf(alloc, next, octets, whole)
         }
@@ -236,7 +234,7 @@ impl<'a> Nest<'a> {
     {
         let (tag, constructed, identifier) = read_head_tag(self.end(), self.taken, octets)?;
         let (which, ty) = self.due(tag)?;
-        let Some(node) = node_of(ty, tag) else {
+        let Some(node) = node_within(ty, tag) else {
             return Err(Refusal::Identifier);
         };
         Ok(Next {
@@ -274,6 +272,35 @@ impl<'a> Nest<'a> {
             Some(open) => open.frame.end,
             None => OUTSIDE.end,
         }
+    }
+
+    // Begins the constructed string at the front in `string`, and answers how many identifier octets and length
+    // octets it has. A call of its own, since a string is large and the callers have other parts mostly.
+    #[inline(never)]
+    fn begin_in(
+        &self,
+        alloc: Global,
+        next: Next<'a>,
+        octets: &[u8],
+        string: &mut Option<OpenString<'a>>,
+    ) -> Result<usize, Refusal>
+        requires sound { IsSoundNest self.now }
+        requires none { string.old ≡ None }
+        requires no_end { (more : List ℕ) →
+            ¬ EndsInside (layers_of self.now.layers) self.now.taken (octets.now ++ more) }
+        requires next { IsReadNext self.now octets.now next }
+        requires leaf { IsLeaf (ty_view next.node.now) }
+        requires constructed { next.constructed ≡ true }
+        ensures begun { IfOk result (λ used. IsFound self.now self.now octets.now string.new None used) }
+        ensures truncated { result ≡ Err Refusal.Truncated → ¬ CanFinish self.now octets.now }
+        ensures never { IfErr result (λ refusal. IsFinal refusal → (more : List ℕ) →
+            ¬ CanFinish self.now (octets.now ++ more)) }
+        ensures kept { OnErr result (string.new ≡ None) }
+        ensures numbers { IfErr result IsOfReading }
+    {
+        let (begun, used) = self.begin(alloc, next, octets)?;
+        *string = Some(begun);
+        Ok(used)
     }
 
     // The constructed string at the front, and how many identifier octets and length octets it has.
@@ -408,6 +435,28 @@ impl<'a> Nest<'a> {
         if is_node(ty) {
             return self.put(value, used, whole);
         }
+        self.put_wrapped(alloc, ty, tag, value, used, whole)
+    }
+
+    // Puts a value that has come of a CHOICE, by the value of the chosen type. A call of its own, since few
+    // parts are of a CHOICE.
+    #[inline(never)]
+    fn put_wrapped(
+        &mut self,
+        alloc: Global,
+        ty: &Ty,
+        tag: Tag,
+        value: Value,
+        used: usize,
+        whole: &mut Option<Value>,
+    ) -> Result<usize, NoMemory>
+        requires good { IsGoodType (ty_view ty.now) }
+        requires due { IsDueInside (ty_view self.old.ty.now) (layers_of self.old.layers) (ty_view ty.now) }
+        requires room { self.old.taken + used ≤ MAX_ENCODING }
+        requires whole { whole.old ≡ None }
+        ensures come { IfOk result (λ n. IsCome self.old self.new (ty_view ty.now) tag (value_view value) used whole.new n) }
+        ensures counted { IsCounted self.old.layers → OnOk result (IsCounted self.new.layers) }
+    {
         let wrapped = wrap(alloc, ty, tag, value)?;
         self.put(wrapped, used, whole)
     }

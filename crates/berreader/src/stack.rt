@@ -74,9 +74,8 @@ impl<'a> Stack<'a> {
         ensures layers { OnOk result (layers_of self.new ≡ layer_view opened.entry ∷ layers_of self.old) }
         ensures counted { IsCounted self.old → OnOk result (IsCounted self.new) }
     {
-        let top = self.top.take();
-        self.outer.push(top)?;
-        self.top = Some(opened);
+        let below = std::mem::replace(&mut self.top, Some(opened));
+        self.outer.push(below)?;
         Ok(())
     }
 
@@ -86,12 +85,11 @@ impl<'a> Stack<'a> {
             (λ top. layers_of self.old ≡ layer_view top ∷ layers_of self.new) }
         ensures counted { IsCounted self.old → IsCounted self.new }
     {
-        let top = self.top.take()?;
-        self.top = match self.outer.pop() {
+        let below = match self.outer.pop() {
             Some(below) => below,
             None => None,
         };
-        Some(top)
+        std::mem::replace(&mut self.top, below)
     }
 
     // Notes which part of the innermost one comes.

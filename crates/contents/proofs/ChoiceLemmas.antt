@@ -21,6 +21,7 @@ use Rattle.types.proofs.LoopLemmas.{IsLeftTo, left_at}
 use Rattle.types.proofs.TagLemmas.{contains_either, tags_of_choices, tags_of_first_choice, choice_tags}
 use Rattle.types.proofs.ViewLemmas.{ty-Choice, value-Chosen}
 use Rattle.std.proofs.lemmas.List.{drop_all}
+use Rattle.contents.specs.Holding.{IsNode}
 use Rattle.contents.specs.Parts.{IsGoodType, IsNodeFor, IsNodeForOneOf}
 
 -- a list is searched from its front on: what one element has, the list has
@@ -116,6 +117,17 @@ mutual
     | inl l ↦ let n = begins_node tag type l in (n.0, inl n.1)
     | inr r ↦ let n = begins_node_of tag others r in (n.0, inr n.1)
   ]
+
+-- a type whose encodings have a tag of their own is its own node
+pub own_node : (tag : Tag) (type : Shape) → IsNode type → Contains (first_tags type) tag → IsNodeFor tag type type
+own_node tag (Shape.simple own type) is h = (only_tag own tag h, refl)
+own_node tag (Shape.string own type) is h = (only_tag own tag h, refl)
+own_node tag (Shape.sequence own components) is h = (only_tag own tag h, refl)
+own_node tag (Shape.set own components) is h = (only_tag own tag h, refl)
+own_node tag (Shape.sequence_of own type) is h = (only_tag own tag h, refl)
+own_node tag (Shape.set_of own type) is h = (only_tag own tag h, refl)
+own_node tag (Shape.choice alternatives) is h = absurd is
+own_node tag (Shape.explicit own type) is h = (only_tag own tag h, refl)
 
 mutual
   -- the node begins with the tag alone

@@ -1,5 +1,5 @@
 -- Lemmas on encodings of types without parts within what holds them, primitive and constructed.
-use Rattle.std.proofs.Common.{◌≡◌, ◌⊎◌, inl, inr, ◌+◌, ◌-◌, ◌≤◌, ℕ, suc, Bool, true, false, List, [], ◌∷◌, ◌++◌, length, take, drop, refl, sym, ap, ◌∙◌, subst, arith, append_assoc, length-append}
+use Rattle.std.proofs.Common.{◌≡◌, ◌⊎◌, inl, inr, ◌+◌, ◌-◌, ◌≤◌, ℕ, suc, Bool, true, false, List, [], ◌∷◌, ◌++◌, length, take, drop, refl, sym, ap, ◌∙◌, subst, arith, append_assoc, length-append, length-take, length-drop, slice_range}
 use Rattle.std.specs.List.{concat}
 use Rattle.std.proofs.lemmas.List.{take-append-le}
 use Rattle.octets.specs.declared.tag.Tag.{Tag}
@@ -224,6 +224,15 @@ length_of_within levels shape end taken leaf i octets more there id f =
     let same = identifier_unique (tag_of shape) (tag_of shape) false false (take i octets) p.identifier (drop i octets ++ more) (p.size ++ (w.contents ++ w.rest)) id p.tagged
     (sym (front_of_more i octets more) ∙ (w.parts ∙ parts_of_definite ber (tag_of shape) false w.contents w.part w.rest p)) in
     record { contents = length w.contents; size = p.size; rest = w.contents ++ w.rest; sized = p.sized; parts = same.rest; can = length_of_contents shape f.2.part.value w.contents (conforms_of_encoding ber shape f.2.part.value (take f.0 (octets ++ more)) leaf f.2.part.encoding) h.holds }
+
+-- as many contents octets were read as the type can have
+pub can_of_within : (levels : ℕ) (shape : Shape) (end taken : ℕ) (leaf : IsLeaf shape) (i start stop : ℕ) (octets more : List ℕ) → i ≤ length octets → IsIdentifier (tag_of shape) false (take i octets) → start ≤ stop → stop ≤ length octets → IsPrimitive ber (tag_of shape) (slice_range octets start stop) (take stop octets)
+    → HasFront (IsPartWithin levels shape end taken) (octets ++ more) → CanHaveLength shape (stop - start)
+can_of_within levels shape end taken leaf i start stop octets more there id ordered below p f =
+    let contents = slice_range octets start stop in
+    let holds = contents_of_within levels shape end taken leaf i stop contents octets more there id p f in
+    let many : length contents ≡ stop - start = omega (arith, length-take (stop - start) (drop start octets), length-drop start octets, ordered, below) in
+    subst (CanHaveLength shape) many (length_of_contents shape f.2.part.value contents (conforms_of_encoding ber shape f.2.part.value (take f.0 (octets ++ more)) leaf f.2.part.encoding) holds)
 
 -- where they are constructed, so is the encoding
 no_constructed : (shape : Shape) (v : Val) (i : ℕ) (octets front rest : List ℕ) → IsNoString shape → IsIdentifier (tag_of shape) true (take i octets) → octets ≡ front ++ rest → HasForm shape v front → ⊥

@@ -7,6 +7,7 @@ ghost use Rattle.types.specs.Encoding.{IsEncoding};
 ghost use Rattle.types.specs.FirstTags.{first_tags};
 ghost use Rattle.types.specs.Shape.{Shape, Val};
 ghost use Rattle.types.specs.View.{ty_view, value_view};
+ghost use Rattle.contents.specs.Holding.{IsNode};
 ghost use Rattle.contents.specs.Parts.{IsGoodType, IsNodeFor, IsWrapped};
 
 use octets::{NoMemory, Tag};
@@ -49,10 +50,25 @@ pub fn node_of<'a>(ty: &'a Ty, tag: Tag) -> Option<&'a Ty>
     None
 }
 
+/// The same (`node_of`), where encodings of the type can begin with the tag: only a CHOICE is looked into.
+/// Takes no memory.
+pub fn node_within<'a>(ty: &'a Ty, tag: Tag) -> Option<&'a Ty>
+    requires { Contains (first_tags (ty_view ty.now)) tag }
+    ensures { MatchOption result ((node : Shape) → ¬ IsNodeFor tag (ty_view ty.now) node)
+        (λ node. IsNodeFor tag (ty_view ty.now) (ty_view node.now)) }
+{
+    if is_node(ty) {
+        Some(ty)
+    } else {
+        node_of(ty, tag)
+    }
+}
+
 /// Whether the value of a node of the type (`node_of`) is one of the type itself, as it is unless that is a
 /// CHOICE. Takes no memory.
 pub fn is_node(ty: &Ty) -> bool
-    ensures { IsTrue result → (tag : Tag) (value : Val) → IsWrapped (ty_view ty.now) tag value value }
+    ensures wrapped { IsTrue result → (tag : Tag) (value : Val) → IsWrapped (ty_view ty.now) tag value value }
+    ensures node { IsTrue result → IsNode (ty_view ty.now) }
 {
     let Ty::Choice(_) = ty else {
         return true;

@@ -13,7 +13,7 @@ ghost use Rattle.contents.specs.Holding.{parts_view, run_view, IsNode, IsOfDue, 
 ghost use Rattle.contents.specs.Parts.{ArePartsOf, AreNone, IsDue, IsNextOf, IsPut, IsValueOf};
 
 use crate::choices::begins;
-use crate::seats::{Seats, not_due, seat_due, seats_of, slot_of, value_of_seats};
+use crate::seats::{Seats, is_default, not_due, seat_due, seats_of, value_of_seats};
 use octets::{NoMemory, Tag};
 use std::alloc::Global;
 use types::{Field, Refusal, Ty, Value, may_be_absent};
@@ -43,7 +43,7 @@ pub fn holding_of<'a>(alloc: Global, node: &'a Ty) -> Result<Option<Holding<'a>>
     match node {
         Ty::Sequence(_, fields) => {
             let mut slots = Vec::new(alloc);
-            slots.reserve(fields.len())?;
+            slots.reserve_exact(fields.len())?;
             Ok(Some(Holding::Sequence(fields, slots)))
         }
         Ty::Set(_, fields) => {
@@ -209,7 +209,11 @@ fn put_in_order(
 {
     pass_over(slots, which)?;
     let field = &fields[slots.len()];
-    slots.push(slot_of(&field.presence, value))?;
+    if is_default(&field.presence, &value) {
+        slots.push(None)?;
+    } else {
+        slots.push(Some(value))?;
+    }
     Ok(())
 }
 

@@ -4,10 +4,12 @@
 //! A part that does not fit is refused as too long. Whether it passes the end of a definite encoding around
 //! it, which is a fault of its length, is said by the reader of those (`named`).
 
-ghost use Rattle.std.specs.Prelude.{◌≡◌, ◌+◌, ◌≤◌, ◌++◌, ℕ, List, length, take, true, false, IfOk, IfErr, IsErr};
+ghost use Rattle.std.specs.Prelude.{◌≡◌, ◌+◌, ◌≤◌, ◌++◌, ℕ, List, length, take, slice_range, true, false, IfOk, IfErr, IsErr};
 ghost use Rattle.octets.specs.declared.TheConstants.{MAX_ENCODING};
 ghost use Rattle.octets.specs.Front.{HasFront};
 ghost use Rattle.octets.specs.Length.{IsLength};
+ghost use Rattle.octets.specs.Rule.{ber};
+ghost use Rattle.types.specs.Form.{IsPrimitive};
 ghost use Rattle.types.specs.Leaf.{tag_of, IsLeaf};
 ghost use Rattle.types.specs.Refusal.{IsFinal, IsOfReading};
 ghost use Rattle.types.specs.View.{ty_view, value_view};
@@ -55,11 +57,47 @@ pub fn read_leaf(
         ¬ HasFront (IsPartWithin levels (ty_view node.now) end taken) (octets.now ++ more)) }
     ensures numbers { IfErr result IsOfReading }
 {
-    let room = end - taken - identifier;
-    check_length(node, front(&octets[identifier..], room))?;
-    let (start, stop) = read_contents_place(end, taken, identifier, octets)?;
+    let (start, stop) = read_place(node, identifier, end, taken, octets)?;
     let value = read_contents(alloc, node, &octets[start..stop])?;
     Ok((value, stop))
+}
+
+// Where the contents octets of the primitive encoding at the front begin and end, by its identifier octets: as many
+// as the type can have. A length that no value has is refused before one that is cut or does not fit.
+fn read_place(
+    node: &Ty,
+    identifier: usize,
+    end: usize,
+    taken: usize,
+    octets: &[u8],
+) -> Result<(usize, usize), Refusal>
+    requires leaf { IsLeaf (ty_view node.now) }
+    requires within { end ≤ MAX_ENCODING }
+    requires tagged { IsReadTag (tag_of (ty_view node.now)) end taken octets.now false identifier }
+    ensures bounds { IfOk result (λ p.
+        (p.0 ≤ p.1) × (p.1 ≤ length octets.now) × (taken + p.1 ≤ end)) }
+    ensures value { IfOk result (λ p.
+        IsPrimitive ber (tag_of (ty_view node.now)) (slice_range octets.now p.0 p.1) (take p.1 octets.now)) }
+    ensures truncated { result ≡ Err Refusal.Truncated → (levels : ℕ) →
+        ¬ HasFront (IsPartWithin levels (ty_view node.now) end taken) octets.now }
+    ensures never { IfErr result (λ refusal. IsFinal refusal → (more : List ℕ) (levels : ℕ) →
+        ¬ HasFront (IsPartWithin levels (ty_view node.now) end taken) (octets.now ++ more)) }
+    ensures numbers { IfErr result IsOfReading }
+{
+    match read_contents_place(end, taken, identifier, octets) {
+        Ok((start, stop)) => {
+            if can_have_length(node, stop - start) {
+                Ok((start, stop))
+            } else {
+                Err(unfit(node))
+            }
+        }
+        Err(refusal) => {
+            let room = end - taken - identifier;
+            check_length(node, front(&octets[identifier..], room))?;
+            Err(refusal)
+        }
+    }
 }
 
 // Refuses length octets at the front that go with no contents octets of the type.

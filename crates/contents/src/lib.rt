@@ -19,7 +19,7 @@ mod parts;
 mod seats;
 mod segments;
 
-pub use choices::{begins, is_node, node_of, wrap};
+pub use choices::{begins, is_node, node_of, node_within, wrap};
 pub use frame::{Frame, INLINE, OUTSIDE};
 pub use head::{named, read_head_tag};
 pub use holding::{Holding, holding_of};

@@ -1,6 +1,6 @@
 //! The components of a SET, which come in any order (X.690 8.11).
 
-ghost use Rattle.std.specs.Prelude.{◌≡◌, ◌↔◌, ⊤, IsTrue, false, map, Contains, MatchOption, IfOk, IfErr, ℕ, None, option_map};
+ghost use Rattle.std.specs.Prelude.{◌≡◌, ◌↔◌, ⊤, IsTrue, false, map, Contains, MatchOption, IfOk, IfErr, ℕ, None, Some, option_map};
 ghost use Rattle.std.specs.List.{AllByRecursion};
 ghost use Rattle.types.specs.Conforms.{MayBeAbsent};
 ghost use Rattle.types.specs.FirstTags.{first_tags};
@@ -43,7 +43,7 @@ pub fn seats_of<'a>(alloc: Global, fields: &'a [Field]) -> Result<Vec<Seat<'a>>,
         AllByRecursion (λ s. (s.slot ≡ None) × (s.came ≡ false)) (map seat_view seats.items)) }
 {
     let mut seats = Vec::new(alloc);
-    seats.reserve(fields.len())?;
+    seats.reserve_exact(fields.len())?;
     for field in fields {
         let slot = None;
         let came = false;
@@ -155,19 +155,26 @@ pub fn not_due(tag: Tag) -> Refusal
 }
 
 // The slot of a component whose value has come.
-pub fn slot_of(presence: &Presence, value: Value) -> Option<Value>
+fn slot_of(presence: &Presence, value: Value) -> Option<Value>
     ensures { IsSlotOf (requirement_view presence.now) (value_view value) (option_map value_view result) }
 {
+    if is_default(presence, &value) {
+        None
+    } else {
+        Some(value)
+    }
+}
+
+// Whether the value is the component's default.
+pub fn is_default(presence: &Presence, value: &Value) -> bool
+    ensures default { IsTrue result → IsSlotOf (requirement_view presence.now) (value_view value.now) None }
+    ensures other { result ≡ false →
+        IsSlotOf (requirement_view presence.now) (value_view value.now) (Some (value_view value.now)) }
+{
     match presence {
-        Presence::Required => Some(value),
-        Presence::Optional => Some(value),
-        Presence::Default(default) => {
-            if are_equal(&value, default) {
-                None
-            } else {
-                Some(value)
-            }
-        }
+        Presence::Required => false,
+        Presence::Optional => false,
+        Presence::Default(default) => are_equal(value, default),
     }
 }
 
@@ -222,7 +229,7 @@ fn slots_in(seats: Vec<Seat<'_>>) -> Result<Vec<Option<Value>>, NoMemory>
     ensures { IfOk result (λ slots. map (option_map value_view) slots.items ≡ map (λ s. s.slot) (map seat_view seats.entry.items)) }
 {
     let mut slots = Vec::new(*seats.allocator());
-    slots.reserve(seats.len())?;
+    slots.reserve_exact(seats.len())?;
     for seat in seats {
         slots.push(seat.slot)?;
     }

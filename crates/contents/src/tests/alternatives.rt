@@ -1,7 +1,7 @@
 //! Alternatives of a CHOICE, by the tag that an encoding begins with.
 
 use super::{boolean, octet_string, universal};
-use crate::{begins, is_node, node_of, wrap};
+use crate::{begins, is_node, node_of, node_within, wrap};
 use std::alloc::Global;
 use std::test::Fail;
 use types::{Alternative, Ty, Value, WellTyped};
@@ -35,6 +35,9 @@ fn nodes(rt: HostRuntime) -> Result<(), Fail> {
             None => false,
         };
         assert_eq!(rt; found, want, "at {number}");
+        if begins(&ty, tag) {
+            assert!(rt; node_within(&ty, tag).is_some(), "at {number}");
+        }
     }
     assert!(rt; !is_node(&ty));
     Ok(())

@@ -7,7 +7,7 @@ use Rattle.contents.proofs.seats.seats_of.Goals as goal
 pub loop-field-init : goal.loop-field-init
 loop-field-init c =
     let none : AreFree c.args.fields.now 0 [] = record { components = refl; free = tt } in
-    subst (AreFree c.args.fields.now 0) (sym (c.reserve.ensures.items ∙ c.new-seats.ensures.items)) none
+    subst (AreFree c.args.fields.now 0) (sym (c.reserve_exact.ensures.items ∙ c.new-seats.ensures.items)) none
 
 pub loop-field-preserved : goal.loop-field-preserved
 loop-field-preserved c =

@@ -14,15 +14,4 @@ returns-then-is_node-clause-come c =
     let used = c.args.used in
     let whole = c.put.new.whole in
     IfOk-map c.put.result (λ n. (type : Shape) (tag : Tag) (u : Val) → IsWrapped type tag u v → IsCome old new type tag u used whole n) (λ n. IsCome old new (ty_view c.args.ty.now) c.args.tag v used whole n)
-    (λ n h. h (ty_view c.args.ty.now) c.args.tag v (c.is_node.ensures c.if-is_node.true c.args.tag v)) c.put.ensures.come
-
-pub returns-clause-come : goal.returns-clause-come
-returns-clause-come c =
-    let old = c.args.self.now in
-    let new = c.put-2.new.self in
-    let v = value_view c.args.value in
-    let w = value_view c.in_ok-wrapped.wrapped in
-    let used = c.args.used in
-    let whole = c.put-2.new.whole in
-    IfOk-map c.put-2.result (λ n. (type : Shape) (tag : Tag) (u : Val) → IsWrapped type tag u w → IsCome old new type tag u used whole n) (λ n. IsCome old new (ty_view c.args.ty.now) c.args.tag v used whole n)
-    (λ n h. h (ty_view c.args.ty.now) c.args.tag v c.in_ok-wrapped.ensures) c.put-2.ensures.come
+    (λ n h. h (ty_view c.args.ty.now) c.args.tag v (c.is_node.ensures.wrapped c.if-is_node.true c.args.tag v)) c.put.ensures.come

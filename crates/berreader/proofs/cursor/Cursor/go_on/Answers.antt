@@ -4,8 +4,8 @@ use Rattle.types.specs.Refusal.{IsFinal}
 use Rattle.berreader.specs.declared.cursor.Cursor.{Cursor}
 use Rattle.berreader.specs.Cursor.{with_string, CanFinish, IsStep}
 use Rattle.berreader.proofs.CursorLemmas.{put_back}
-use Rattle.berreader.proofs.cursor.Cursor.step.Goals as goal
-use Rattle.berreader.proofs.cursor.Cursor.step.Goals.{in-Some+else-not-is_closed, in_default}
+use Rattle.berreader.proofs.cursor.Cursor.go_on.Goals as goal
+use Rattle.berreader.proofs.cursor.Cursor.go_on.Goals.{in-Some+else-not-is_closed, in_default}
 
 -- the string was taken out
 taken_out : (c : goal.After-close) → with_string c.match-self.self.nest c.in-Some-take.string ≡ c.args.self.now
