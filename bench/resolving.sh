@@ -31,7 +31,7 @@ types: octets primitives strings
 syntax: lexis
 builtin: lexis syntax octets primitives strings types indexmap
 notation: lexis syntax octets primitives strings types builtin indexmap
-resolving: notation
+resolving: notation types
 END
 cd "$work/crates/resolving"
 rt run

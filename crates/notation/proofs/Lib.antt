@@ -28,6 +28,8 @@ pub mod WeighingLemmas
 pub mod PlaceLemmas
 pub mod SettlingLemmas
 pub mod LimitedLemmas
+pub mod ApartLemmas
+pub mod ApartInstances
 pub mod RefusingLemmas
 pub mod UnresolvedLemmas
 pub mod ExpandingLemmas

@@ -9,7 +9,7 @@ use Rattle.syntax.specs.declared.tree.Group.{Group}
 use Rattle.syntax.specs.declared.tree.TagPrefix.{TagPrefix}
 use Rattle.syntax.specs.declared.tree.Component.{Component}
 use Rattle.syntax.specs.declared.tree.Alternative.{Alternative}
-use Rattle.syntax.specs.Tree.{Ending, Entry, Form, tagged, list, of, choice, enumerated, reference, Tree}
+use Rattle.syntax.specs.Tree.{Entry, Form, tagged, list, of, choice, enumerated, reference, Tree}
 use Rattle.syntax.specs.View.{component, alternative, components_of as written_components, alternatives_of as written_alternatives}
 use Rattle.builtin.specs.Tagging.{tagged_by_default, context}
 use Rattle.builtin.specs.Names.{NamesDiffer}
@@ -21,7 +21,7 @@ use Rattle.notation.specs.Under.{IsAtRoot, IsRoot}
 use Rattle.notation.specs.Settled.{MeansNothing}
 use Rattle.notation.specs.Refused.{HasNoTypeWithin, PartHasNoTypeWithin, ComponentsNever, AlternativesNever, IsSmall}
 use Rattle.notation.proofs.ChoiceLemmas.{choice-untagged}
-use Rattle.notation.proofs.ListLemmas.{automatic_in, automatic_among, names_of_components, names_of_alternatives, list-meaning, choice-meaning}
+use Rattle.notation.proofs.ListLemmas.{automatic_in, automatic_among}
 use Rattle.notation.proofs.NeverLemmas.{some_nodes, no_type_within-root, no_type_within-explicit, no_type_within-of, no_type_within-list, no_type_within-choice}
 use Rattle.notation.proofs.WellFormedLemmas.{HasTag, tag_within}
 
@@ -60,16 +60,7 @@ choice_under_tag m most outer tag f r ws t root is some =
 pub no_root_reference : (m : Tree) (most : ℕ) (outer tag : Option Tag) (f r : Form) (name : List ℕ) → IsRoot m outer f tag r → r ≡ reference name → HasNoTypeWithin m most outer f
 no_root_reference m most outer tag f r name root is = absurd (subst (IsAtRoot m) is root.at_root)
 
--- a list in which a name stands twice
-pub equal_components : (m : Tree) (group : Group) (ws : List (List ℕ × Form × Ending)) → (NamesDiffer (map (λ (w : List ℕ × Form × Ending). w.0) ws) → ⊥) → MeansNothing m (list group (written_components ws))
-equal_components m group ws equal type d = equal (subst NamesDiffer (names_of_components ws) (list-meaning m group ws type d).differ)
-
-pub equal_alternatives : (m : Tree) (ws : List (List ℕ × Form)) → (NamesDiffer (map (λ (w : List ℕ × Form). w.0) ws) → ⊥) → MeansNothing m (choice (written_alternatives ws))
-equal_alternatives m ws equal type d = equal (subst NamesDiffer (names_of_alternatives ws) (choice-meaning m ws type d).differ)
-
-pub equal_items : (m : Tree) (entries : List Entry) → (NamesDiffer (map (λ (entry : Entry). entry.0) entries) → ⊥) → MeansNothing m (enumerated entries)
-equal_items m entries equal type (of_items differ are e) = equal differ
-
+-- items that have no numbers
 pub no_items : (m : Tree) (entries : List Entry) → ((items : List EnumerationItem) → AreItems entries items → ⊥) → MeansNothing m (enumerated entries)
 no_items m entries none type (of_items {items} differ are e) = none items are
 

@@ -1,5 +1,5 @@
 -- A name that is refused means no well-formed type.
-use Rattle.std.proofs.Common.{◌≡◌, ◌<◌, ℕ, Bool, IsTrue, List, None, Some, map, slice_get, refl, sym, ap, ◌∙◌, subst, arith}
+use Rattle.std.proofs.Common.{◌≡◌, ◌<◌, ℕ, Bool, IsTrue, List, Option, None, Some, map, slice_get, refl, sym, ap, ◌∙◌, subst, arith}
 use Rattle.std.specs.Prelude.{option_and_then}
 use Rattle.std.proofs.lemmas.List.{get_or-take, length-take-le}
 use Rattle.std.proofs.lemmas.Option.{slice_get_within, get_or_from_slice_get}
@@ -17,6 +17,7 @@ use Rattle.notation.specs.Refused.{HasNoType, HasNoTypeWithin}
 use Rattle.notation.specs.Known.{LeadsTo, StandsAt}
 use Rattle.notation.specs.Settled.{place_in, known_of, known_at, IsSettled}
 use Rattle.notation.specs.Weighed.{IsWeight, AreWeighed}
+use Rattle.notation.specs.Apart.{AreApart, CanMake}
 use Rattle.notation.specs.declared.root.Root.{Root}
 use Rattle.notation.specs.declared.scope.Seen.{Seen}
 use Rattle.notation.specs.declared.scope.Scope.{Scope}
@@ -26,6 +27,7 @@ use Rattle.notation.proofs.UniqueLemmas.{one_type}
 use Rattle.notation.proofs.WeighedLemmas.{weighs_unless}
 use Rattle.notation.proofs.WeighingLemmas.{weighs_own, weighs_seen}
 use Rattle.notation.proofs.KnownLemmas.{reference_leads}
+use Rattle.notation.proofs.ApartLemmas.{can_make-seen}
 
 -- a name that stands twice in front of the place
 pub repeat_refused : (names : List (List ℕ)) (place : ℕ) → IsFirstRepeat names place → NamesDiffer names → ⊥
@@ -58,14 +60,18 @@ judged_refused m f root type differ leads made bad whole d good =
 pub no_cause : (cause : Cause) → Some cause ≡ None → ⊥
 no_cause cause e = absurd cc
 
+pub no_some : (cause : Option Cause) → ((x : Cause) → cause ≡ Some x → ⊥) → cause ≡ None
+no_some None not = refl
+no_some (Some x) not = absurd (not x refl)
+
 -- so for the name
 pub name_refused : (m : Tree) (name : List ℕ) → HasNoType m None (reference name) → (type : Shape) → NameMeans m name type → IsWellFormed type → ⊥
 name_refused m name none type means good = none type (record { type = type; meaning = means.meaning; under = refl }) good
 
 -- what is made of what is known of it
-pub type_refused : (m : Module) (scope : Scope) (name : List ℕ) (place : ℕ) (seen : Seen) → IsSettled m scope → AreWeighed m scope → StandsAt m name place → Some place ≡ place_in (tree m) name → Some seen ≡ known_at scope.seen.items place → slice_get scope.seen.items place ≡ Some (Some seen)
-    → (IsSettled scope.module.now scope → (f : Form) → LeadsTo (tree scope.module.now) None f seen.root → IsWeight (tree scope.module.now) f seen.weight → HasNoType (tree scope.module.now) None f) → (type : Shape) → NameMeans (tree m) name type → IsWellFormed type → ⊥
-type_refused m scope name place seen s weighed stands placed known at none =
+pub type_refused : (m : Module) (scope : Scope) (name : List ℕ) (place : ℕ) (seen : Seen) → IsSettled m scope → AreWeighed m scope → AreApart scope → StandsAt m name place → Some place ≡ place_in (tree m) name → Some seen ≡ known_at scope.seen.items place → slice_get scope.seen.items place ≡ Some (Some seen)
+    → ((seen.weight.cause ≡ None → CanMake scope.module.now scope (form seen.root.expr.now)) → (f : Form) → LeadsTo (tree scope.module.now) None f seen.root → IsWeight (tree scope.module.now) f seen.weight → HasNoType (tree scope.module.now) None f) → (type : Shape) → NameMeans (tree m) name type → IsWellFormed type → ⊥
+type_refused m scope name place seen s weighed apart stands placed known at none =
     let told : known_of (tree m) scope.seen.items name ≡ Some seen = ap (option_and_then (known_at scope.seen.items)) (sym placed) ∙ sym known in
-    let moved = subst (λ (i : Module). IsSettled i scope → (f : Form) → LeadsTo (tree i) None f seen.root → IsWeight (tree i) f seen.weight → HasNoType (tree i) None f) s.known.module_is none in
-    name_refused (tree m) name (moved s (reference name) (reference_leads m scope name place seen s.known stands at) (weighs_seen m scope name seen s.known weighed told))
+    let moved = subst (λ (i : Module). (seen.weight.cause ≡ None → CanMake i scope (form seen.root.expr.now)) → (f : Form) → LeadsTo (tree i) None f seen.root → IsWeight (tree i) f seen.weight → HasNoType (tree i) None f) s.known.module_is none in
+    name_refused (tree m) name (moved (can_make-seen m scope name seen s apart told) (reference name) (reference_leads m scope name place seen s.known stands at) (weighs_seen m scope name seen s.known weighed told))

@@ -105,11 +105,11 @@ module _ (m : Module) (scope : Scope) (known : IsScope m scope) (waiting ready :
       by_value name none None e = unassigned_nothing (tree m) name e
       by_value name none (Some q) e = by_mark name q e none (is_among ready q) refl
 
-known_other : (seen after : List (Option Seen)) (place p : ℕ) (x : Option Seen) → after ≡ set seen place x → (place ≡ p → ⊥) → known_at after p ≡ known_at seen p
+pub known_other : (seen after : List (Option Seen)) (place p : ℕ) (x : Option Seen) → after ≡ set seen place x → (place ≡ p → ⊥) → known_at after p ≡ known_at seen p
 known_other seen after place p x is ne =
     ap (λ (xs : List (Option Seen)). known_at xs p) is ∙ unwrap_or-slice_get (set seen place x) p None ∙ get_or-set_other seen place p x None (λ same. ne (sym same)) ∙ sym (unwrap_or-slice_get seen p None)
 
-known_same : (seen after : List (Option Seen)) (place : ℕ) (x : Option Seen) → after ≡ set seen place x → place < length seen → known_at after place ≡ x
+pub known_same : (seen after : List (Option Seen)) (place : ℕ) (x : Option Seen) → after ≡ set seen place x → place < length seen → known_at after place ≡ x
 known_same seen after place x is within = ap (λ (xs : List (Option Seen)). known_at xs place) is ∙ unwrap_or-slice_get (set seen place x) place None ∙ get_or-set_same seen place x None within
 
 -- one more is looked at

@@ -9,6 +9,7 @@ pub mod Known
 pub mod Waiting
 pub mod Settled
 pub mod Weighed
+pub mod Apart
 pub mod Ordering
 pub mod Settling
 pub mod Made

@@ -6,19 +6,19 @@ ghost use Rattle.types.specs.Shape.{Requirement};
 ghost use Rattle.syntax.specs.Tree.{Tree, list, choice, enumerated};
 ghost use Rattle.syntax.specs.View.{form, tree, component, alternative, components_of, alternatives_of, entry, ending};
 ghost use Rattle.builtin.specs.Defaults.{IsRequirement};
+ghost use Rattle.builtin.specs.Names.{NamesDiffer};
 ghost use Rattle.notation.specs.Meaning.{IsMeaning};
 ghost use Rattle.notation.specs.Under.{MeansUnder};
 ghost use Rattle.notation.specs.Parts.{IsPart};
 ghost use Rattle.notation.specs.Made.{IsAround, IsRepeated, AreMade};
-ghost use Rattle.notation.specs.Known.{IsScope};
-ghost use Rattle.notation.specs.Settled.{IsSettled, MeansNothing};
+ghost use Rattle.notation.specs.Settled.{MeansNothing};
+ghost use Rattle.notation.specs.Apart.{CanMake};
 ghost use Rattle.notation.specs.Refused.{HasNoTypeWithin, PartHasNoTypeWithin};
 
 use crate::scope::Scope;
 use builtin::{
-    Cause, Stop, alternatives_differ, are_alternatives_tagged, are_components_tagged,
-    automatic_tag, components_differ, default_of, enumerated_tag, group_tag, items_differ,
-    list_type, numbered, of_type, simple_tag, simple_type, tag_of,
+    Cause, Stop, are_alternatives_tagged, are_components_tagged, automatic_tag, default_of,
+    enumerated_tag, group_tag, list_type, numbered, of_type, simple_tag, simple_type, tag_of,
 };
 use octets::Tag;
 use std::alloc::Global;
@@ -36,8 +36,8 @@ impl<'a> Scope<'a> {
         outer: Option<Tag>,
         depth: usize,
     ) -> Result<Ty, Stop>
-        ensures value { IfOk result (λ ty. IsScope self.now.module.now self.now → MeansUnder (tree self.now.module.now) outer (form expr.now) (ty_view ty)) }
-        ensures never { IfErr result (λ stop. stop ≢ Stop.NoMemory → IsSettled self.now.module.now self.now → HasNoTypeWithin (tree self.now.module.now) depth outer (form expr.now)) }
+        ensures value { IfOk result (λ ty. CanMake self.now.module.now self.now (form expr.now) → MeansUnder (tree self.now.module.now) outer (form expr.now) (ty_view ty)) }
+        ensures never { IfErr result (λ stop. stop ≢ Stop.NoMemory → CanMake self.now.module.now self.now (form expr.now) → HasNoTypeWithin (tree self.now.module.now) depth outer (form expr.now)) }
     {
         let root = self.root_of(expr, outer).ok_or(Cause::UnknownType)?;
         let depth = depth.checked_sub(1).ok_or(Cause::TooLarge)?;
@@ -72,8 +72,8 @@ impl<'a> Scope<'a> {
 
     #[cycle(expanding)]
     fn explicit(&self, alloc: Global, tag: Tag, inner: &'a Expr, depth: usize) -> Result<Ty, Stop>
-        ensures value { IfOk result (λ ty. IsScope self.now.module.now self.now → IsAround (tree self.now.module.now) tag (form inner.now) (ty_view ty)) }
-        ensures never { IfErr result (λ stop. stop ≢ Stop.NoMemory → IsSettled self.now.module.now self.now → HasNoTypeWithin (tree self.now.module.now) depth Nothing (form inner.now)) }
+        ensures value { IfOk result (λ ty. CanMake self.now.module.now self.now (form inner.now) → IsAround (tree self.now.module.now) tag (form inner.now) (ty_view ty)) }
+        ensures never { IfErr result (λ stop. stop ≢ Stop.NoMemory → CanMake self.now.module.now self.now (form inner.now) → HasNoTypeWithin (tree self.now.module.now) depth Nothing (form inner.now)) }
     {
         let inner = self.expand(alloc, inner, None, depth)?;
         Ok(Ty::Explicit(tag, Box::new(alloc, inner)?))
@@ -88,8 +88,8 @@ impl<'a> Scope<'a> {
         inner: &'a Expr,
         depth: usize,
     ) -> Result<Ty, Stop>
-        ensures value { IfOk result (λ ty. IsScope self.now.module.now self.now → IsRepeated (tree self.now.module.now) group tag (form inner.now) (ty_view ty)) }
-        ensures never { IfErr result (λ stop. stop ≢ Stop.NoMemory → IsSettled self.now.module.now self.now → HasNoTypeWithin (tree self.now.module.now) depth Nothing (form inner.now)) }
+        ensures value { IfOk result (λ ty. CanMake self.now.module.now self.now (form inner.now) → IsRepeated (tree self.now.module.now) group tag (form inner.now) (ty_view ty)) }
+        ensures never { IfErr result (λ stop. stop ≢ Stop.NoMemory → CanMake self.now.module.now self.now (form inner.now) → HasNoTypeWithin (tree self.now.module.now) depth Nothing (form inner.now)) }
     {
         let inner = self.expand(alloc, inner, None, depth)?;
         Ok(of_type(group, tag, Box::new(alloc, inner)?))
@@ -102,12 +102,9 @@ impl<'a> Scope<'a> {
         components: &'a [Component],
         depth: usize,
     ) -> Result<Vec<Field>, Stop>
-        ensures value { IfOk result (λ fields. IsScope self.now.module.now self.now → AreMade (tree self.now.module.now) (map component components.now) (map field_view fields.items)) }
-        ensures never { IfErr result (λ stop. stop ≢ Stop.NoMemory → IsSettled self.now.module.now self.now → (group : Group) (under : Option Tag) → HasNoTypeWithin (tree self.now.module.now) (suc depth) under (list group (components_of (map component components.now)))) }
+        ensures value { IfOk result (λ fields. (group : Group) → CanMake self.now.module.now self.now (list group (components_of (map component components.now))) → AreMade (tree self.now.module.now) (map component components.now) (map field_view fields.items)) }
+        ensures never { IfErr result (λ stop. stop ≢ Stop.NoMemory → (group : Group) → CanMake self.now.module.now self.now (list group (components_of (map component components.now))) → (under : Option Tag) → HasNoTypeWithin (tree self.now.module.now) (suc depth) under (list group (components_of (map component components.now)))) }
     {
-        if !components_differ(alloc, components)? {
-            return Err(Stop::Refused(Cause::RepeatedName));
-        }
         let automatic = self.is_automatic(are_components_tagged(components));
         let mut fields = Vec::with_capacity(alloc, components.len())?;
         for (place, component) in components.iter().enumerate() {
@@ -126,12 +123,9 @@ impl<'a> Scope<'a> {
         alternatives: &'a [Alternative],
         depth: usize,
     ) -> Result<Ty, Stop>
-        ensures value { IfOk result (λ ty. IsScope self.now.module.now self.now → IsMeaning (tree self.now.module.now) (choice (alternatives_of (map alternative alternatives.now))) (ty_view ty)) }
-        ensures never { IfErr result (λ stop. stop ≢ Stop.NoMemory → IsSettled self.now.module.now self.now → (under : Option Tag) → HasNoTypeWithin (tree self.now.module.now) (suc depth) under (choice (alternatives_of (map alternative alternatives.now)))) }
+        ensures value { IfOk result (λ ty. CanMake self.now.module.now self.now (choice (alternatives_of (map alternative alternatives.now))) → IsMeaning (tree self.now.module.now) (choice (alternatives_of (map alternative alternatives.now))) (ty_view ty)) }
+        ensures never { IfErr result (λ stop. stop ≢ Stop.NoMemory → CanMake self.now.module.now self.now (choice (alternatives_of (map alternative alternatives.now))) → (under : Option Tag) → HasNoTypeWithin (tree self.now.module.now) (suc depth) under (choice (alternatives_of (map alternative alternatives.now)))) }
     {
-        if !alternatives_differ(alloc, alternatives)? {
-            return Err(Stop::Refused(Cause::RepeatedName));
-        }
         let automatic = self.is_automatic(are_alternatives_tagged(alternatives));
         let mut found = Vec::with_capacity(alloc, alternatives.len())?;
         for (place, alternative) in alternatives.iter().enumerate() {
@@ -153,8 +147,8 @@ impl<'a> Scope<'a> {
         body: &'a Expr,
         depth: usize,
     ) -> Result<Ty, Stop>
-        ensures value { IfOk result (λ ty. IsScope self.now.module.now self.now → IsPart (tree self.now.module.now) automatic place (form body.now) (ty_view ty)) }
-        ensures never { IfErr result (λ stop. stop ≢ Stop.NoMemory → IsSettled self.now.module.now self.now → PartHasNoTypeWithin (tree self.now.module.now) depth automatic place (form body.now)) }
+        ensures value { IfOk result (λ ty. CanMake self.now.module.now self.now (form body.now) → IsPart (tree self.now.module.now) automatic place (form body.now) (ty_view ty)) }
+        ensures never { IfErr result (λ stop. stop ≢ Stop.NoMemory → CanMake self.now.module.now self.now (form body.now) → PartHasNoTypeWithin (tree self.now.module.now) depth automatic place (form body.now)) }
     {
         if !automatic {
             return self.expand(alloc, body, None, depth);
@@ -170,12 +164,9 @@ impl<'a> Scope<'a> {
 }
 
 fn enumerated(alloc: Global, outer: Option<Tag>, items: &[Item]) -> Result<Ty, Stop>
-    ensures value { IfOk result (λ ty. (m : Tree) → MeansUnder m outer (enumerated (map entry items.now)) (ty_view ty)) }
+    ensures value { IfOk result (λ ty. NamesDiffer (map (λ entry. entry.0) (map entry items.now)) → (m : Tree) → MeansUnder m outer (enumerated (map entry items.now)) (ty_view ty)) }
     ensures never { IfErr result (λ stop. stop ≢ Stop.NoMemory → (m : Tree) → MeansNothing m (enumerated (map entry items.now))) }
 {
-    if !items_differ(alloc, items)? {
-        return Err(Stop::Refused(Cause::RepeatedName));
-    }
     let tag = outer.unwrap_or(enumerated_tag());
     Ok(Ty::Enumerated(tag, numbered(alloc, items)?))
 }

@@ -8,8 +8,8 @@ ghost use Rattle.syntax.specs.Tree.{Form};
 ghost use Rattle.syntax.specs.View.{form, tree};
 ghost use Rattle.notation.specs.Meaning.{NameMeans};
 ghost use Rattle.notation.specs.Fault.{IsResolvingFault};
-ghost use Rattle.notation.specs.Known.{IsScope, LeadsTo};
-ghost use Rattle.notation.specs.Settled.{IsSettled};
+ghost use Rattle.notation.specs.Known.{LeadsTo};
+ghost use Rattle.notation.specs.Apart.{CanMake};
 ghost use Rattle.notation.specs.Weighed.{IsWeight};
 ghost use Rattle.notation.specs.Refused.{HasNoType};
 ghost use Rattle.notation.specs.Under.{MeansUnder};
@@ -79,9 +79,9 @@ fn fault_at(module: &Module, place: Option<usize>, number: u32) -> Fault
 impl<'a> Scope<'a> {
     /// The type of an assignment of which this is known.
     fn type_of(&self, alloc: Global, seen: Seen<'a>) -> Result<WellTyped, Stop>
-        ensures value { IfOk result (λ resolved. IsScope self.now.module.now self.now → MeansUnder (tree self.now.module.now) seen.entry.root.tag (form seen.entry.root.expr.now) (ty_view resolved)) }
+        ensures value { IfOk result (λ resolved. (seen.entry.weight.cause ≡ Nothing → CanMake self.now.module.now self.now (form seen.entry.root.expr.now)) → MeansUnder (tree self.now.module.now) seen.entry.root.tag (form seen.entry.root.expr.now) (ty_view resolved)) }
         ensures well_formed { IfOk result (λ resolved. IsWellFormed (ty_view resolved)) }
-        ensures never { IfErr result (λ stop. stop ≢ Stop.NoMemory → IsSettled self.now.module.now self.now → (f : Form) →
+        ensures never { IfErr result (λ stop. stop ≢ Stop.NoMemory → (seen.entry.weight.cause ≡ Nothing → CanMake self.now.module.now self.now (form seen.entry.root.expr.now)) → (f : Form) →
             LeadsTo (tree self.now.module.now) Nothing f seen.entry.root → IsWeight (tree self.now.module.now) f seen.entry.weight → HasNoType (tree self.now.module.now) Nothing f) }
     {
         let weight = seen

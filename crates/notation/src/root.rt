@@ -7,6 +7,7 @@ ghost use Rattle.builtin.specs.Tagging.{tag_of};
 ghost use Rattle.notation.specs.Settled.{NamesTold, MeansNothing};
 ghost use Rattle.notation.specs.Refused.{HasNoType};
 ghost use Rattle.notation.specs.Under.{IsAtRoot};
+ghost use Rattle.notation.specs.Apart.{IsApart, AreApart};
 ghost use Rattle.notation.specs.Known.{IsChoice, IsNoReference, IsOuterWithin, IsReferenceTo, IsScope, LeadsTo, TellsChoice, TellsExplicit};
 
 use crate::scope::Scope;
@@ -82,6 +83,7 @@ impl<'a> Scope<'a> {
     /// where it leads to a name of which nothing is known.
     pub fn root_of(&self, expr: &'a Expr, outer: Option<Tag>) -> Option<Root<'a>>
         ensures leads { IfSome result (λ root. IsScope self.now.module.now self.now → LeadsTo (tree self.now.module.now) outer (form expr.now) root) }
+        ensures apart { IfSome result (λ root. IsScope self.now.module.now self.now → AreApart self.now → IsApart self.now (form expr.now) → IsApart self.now (form root.expr.now)) }
         ensures unknown { IsNone result → IsScope self.now.module.now self.now → NamesTold (tree self.now.module.now) self.now.seen.items (form expr.now) → MeansNothing (tree self.now.module.now) (form expr.now) }
     {
         match expr {

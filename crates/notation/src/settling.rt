@@ -1,10 +1,11 @@
 //! What is known of the names of a module without any type being made.
 
-ghost use Rattle.std.specs.Prelude.{◌≡◌, IfOk, OnOk, IfSome, Some, None as Nothing, slice_get, slice_set, List, ℕ};
+ghost use Rattle.std.specs.Prelude.{◌≡◌, ◌≤◌, IfOk, OnOk, IfSome, Some, None as Nothing, slice_get, slice_set, List, ℕ};
 ghost use Rattle.syntax.specs.Tree.{Form, Tree};
-ghost use Rattle.syntax.specs.View.{tree};
+ghost use Rattle.syntax.specs.View.{form, tree};
 ghost use Rattle.notation.specs.Known.{LeadsTo, IsScope, IsNewScope};
 ghost use Rattle.notation.specs.Settled.{NamesTold, MeansNothing, IsSettled};
+ghost use Rattle.notation.specs.Apart.{IsApart, AreApart};
 ghost use Rattle.notation.specs.Weighed.{IsWeight, AreWeighed, CanWeigh};
 
 use crate::ordering::Waits;
@@ -21,6 +22,7 @@ impl<'a> Scope<'a> {
         ensures module { self.new.module ≡ self.old.module }
         ensures settled { OnOk result (IsNewScope self.old.module.now self.old → IsSettled self.old.module.now self.new) }
         ensures weighed { OnOk result (IsNewScope self.old.module.now self.old → AreWeighed self.old.module.now self.new) }
+        ensures apart { OnOk result (IsNewScope self.old.module.now self.old → AreApart self.new) }
     {
         let mut waits = self.waits(alloc)?;
         let mut ready = waits.ready(alloc)?;
@@ -52,6 +54,7 @@ impl<'a> Scope<'a> {
         ensures leads { IfOk result (λ told. IfSome told (λ seen. IsScope self.now.module.now self.now → (a : List ℕ × Form) → slice_get (tree self.now.module.now).assignments place ≡ Some a → LeadsTo (tree self.now.module.now) Nothing a.1 seen.root)) }
         ensures unknown { IfOk result (λ told. told ≡ Nothing → IsScope self.now.module.now self.now → (a : List ℕ × Form) → slice_get (tree self.now.module.now).assignments place ≡ Some a → NamesTold (tree self.now.module.now) self.now.seen.items a.1 → MeansNothing (tree self.now.module.now) a.1) }
         ensures weighed { IfOk result (λ told. IfSome told (λ seen. (a : List ℕ × Form) → slice_get (tree self.now.module.now).assignments place ≡ Some a → CanWeigh self.now.module.now self.now a.1 → IsWeight (tree self.now.module.now) a.1 seen.weight)) }
+        ensures apart { IfOk result (λ told. IfSome told (λ seen. IsScope self.now.module.now self.now → AreApart self.now → seen.weight.cause ≡ Nothing → IsApart self.now (form seen.root.expr.now))) }
     {
         let Some(body) = self.body_at(place) else {
             return Ok(None);
@@ -69,7 +72,9 @@ impl<'a> Scope<'a> {
 
 /// The same, refused where there are too many nodes or levels.
 fn limited(weight: Weight) -> Weight
-    ensures { (m : Tree) (form : Form) → IsWeight m form weight → IsWeight m form result }
+    ensures weight { (m : Tree) (form : Form) → IsWeight m form weight → IsWeight m form result }
+    ensures within { result.cause ≡ Nothing → (result ≡ weight) × (weight.nodes ≤ 4_096) × (weight.levels ≤ 60) }
+    ensures kept { weight.nodes ≤ 4_096 → weight.levels ≤ 60 → result ≡ weight }
 {
     let fits = weight.nodes <= MAX_NODES && weight.levels <= MAX_LEVELS;
     weight.unless(fits, Cause::TooLarge)

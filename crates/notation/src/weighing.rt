@@ -1,10 +1,13 @@
 //! How large the type of an expression is, and what is wrong with it, as far as its own text and what
 //! is known of the names in it tell.
 
-ghost use Rattle.std.specs.Prelude.{◌↔◌, ◌≤◌, ℕ, IfOk, IsTrue, map};
+ghost use Rattle.std.specs.Prelude.{◌≡◌, ◌↔◌, ◌≤◌, ℕ, IfOk, IsTrue, map, None as Nothing};
 ghost use Rattle.syntax.specs.declared.tree.Group.{Group};
 ghost use Rattle.syntax.specs.Tree.{Tree, tagged, list, choice, enumerated};
 ghost use Rattle.syntax.specs.View.{form, tree, component, alternative, entry, components_of, alternatives_of};
+ghost use Rattle.builtin.specs.Names.{NamesDiffer};
+ghost use Rattle.notation.specs.Known.{IsScope};
+ghost use Rattle.notation.specs.Apart.{IsApart};
 ghost use Rattle.notation.specs.Weighed.{CanWeigh, IsWeight, IsOwnWeight, IsPartWeight};
 
 use crate::scope::Scope;
@@ -22,7 +25,8 @@ impl<'a> Scope<'a> {
     /// not.
     #[cycle(weighing)]
     pub fn weight_of(&self, alloc: Global, expr: &'a Expr) -> Result<Weight, AllocError>
-        ensures { IfOk result (λ weight. CanWeigh self.now.module.now self.now (form expr.now) → IsWeight (tree self.now.module.now) (form expr.now) weight) }
+        ensures weight { IfOk result (λ weight. CanWeigh self.now.module.now self.now (form expr.now) → IsWeight (tree self.now.module.now) (form expr.now) weight) }
+        ensures apart { IfOk result (λ weight. IsScope self.now.module.now self.now → weight.cause ≡ Nothing → IsApart self.now (form expr.now)) }
     {
         match expr {
             Expr::Tagged(prefix, inner) => self.weight_of_tagged(alloc, prefix, inner),
@@ -45,7 +49,8 @@ impl<'a> Scope<'a> {
         prefix: &TagPrefix,
         inner: &'a Expr,
     ) -> Result<Weight, AllocError>
-        ensures { IfOk result (λ weight. CanWeigh self.now.module.now self.now (form inner.now) → IsWeight (tree self.now.module.now) (tagged prefix.now (form inner.now)) weight) }
+        ensures weight { IfOk result (λ weight. CanWeigh self.now.module.now self.now (form inner.now) → IsWeight (tree self.now.module.now) (tagged prefix.now (form inner.now)) weight) }
+        ensures apart { IfOk result (λ weight. IsScope self.now.module.now self.now → weight.cause ≡ Nothing → IsApart self.now (form inner.now)) }
     {
         if self.is_explicit(prefix.mode, inner) == Some(true) {
             return Ok(self.weight_within(alloc, inner)?.as_constructed());
@@ -64,7 +69,8 @@ impl<'a> Scope<'a> {
         alloc: Global,
         components: &'a [Component],
     ) -> Result<Weight, AllocError>
-        ensures { IfOk result (λ weight. (group : Group) → CanWeigh self.now.module.now self.now (list group (components_of (map component components.now))) → IsWeight (tree self.now.module.now) (list group (components_of (map component components.now))) weight) }
+        ensures weight { IfOk result (λ weight. (group : Group) → CanWeigh self.now.module.now self.now (list group (components_of (map component components.now))) → IsWeight (tree self.now.module.now) (list group (components_of (map component components.now))) weight) }
+        ensures apart { IfOk result (λ weight. IsScope self.now.module.now self.now → weight.cause ≡ Nothing → (group : Group) → IsApart self.now (list group (components_of (map component components.now)))) }
     {
         let automatic = self.is_automatic(are_components_tagged(components));
         let mut weight = Weight::NOTHING;
@@ -85,7 +91,8 @@ impl<'a> Scope<'a> {
         alloc: Global,
         alternatives: &'a [Alternative],
     ) -> Result<Weight, AllocError>
-        ensures { IfOk result (λ weight. CanWeigh self.now.module.now self.now (choice (alternatives_of (map alternative alternatives.now))) → IsWeight (tree self.now.module.now) (choice (alternatives_of (map alternative alternatives.now))) weight) }
+        ensures weight { IfOk result (λ weight. CanWeigh self.now.module.now self.now (choice (alternatives_of (map alternative alternatives.now))) → IsWeight (tree self.now.module.now) (choice (alternatives_of (map alternative alternatives.now))) weight) }
+        ensures apart { IfOk result (λ weight. IsScope self.now.module.now self.now → weight.cause ≡ Nothing → IsApart self.now (choice (alternatives_of (map alternative alternatives.now)))) }
     {
         let automatic = self.is_automatic(are_alternatives_tagged(alternatives));
         let mut weight = Weight::NOTHING;
@@ -111,7 +118,8 @@ impl<'a> Scope<'a> {
         automatic: bool,
         body: &'a Expr,
     ) -> Result<Weight, AllocError>
-        ensures { IfOk result (λ weight. CanWeigh self.now.module.now self.now (form body.now) → (place : ℕ) → IsPartWeight (tree self.now.module.now) automatic place (form body.now) weight) }
+        ensures weight { IfOk result (λ weight. CanWeigh self.now.module.now self.now (form body.now) → (place : ℕ) → IsPartWeight (tree self.now.module.now) automatic place (form body.now) weight) }
+        ensures apart { IfOk result (λ weight. IsScope self.now.module.now self.now → weight.cause ≡ Nothing → IsApart self.now (form body.now)) }
     {
         if !automatic {
             return self.weight_within(alloc, body);
@@ -127,7 +135,8 @@ impl<'a> Scope<'a> {
     /// How large a type is that stands with its own tag.
     #[cycle(weighing)]
     pub fn weight_within(&self, alloc: Global, expr: &'a Expr) -> Result<Weight, AllocError>
-        ensures { IfOk result (λ weight. CanWeigh self.now.module.now self.now (form expr.now) → IsOwnWeight (tree self.now.module.now) (form expr.now) weight) }
+        ensures weight { IfOk result (λ weight. CanWeigh self.now.module.now self.now (form expr.now) → IsOwnWeight (tree self.now.module.now) (form expr.now) weight) }
+        ensures apart { IfOk result (λ weight. IsScope self.now.module.now self.now → weight.cause ≡ Nothing → IsApart self.now (form expr.now)) }
     {
         let weight = self.weight_of(alloc, expr)?;
         match self.root_of(expr, None) {
@@ -138,7 +147,8 @@ impl<'a> Scope<'a> {
 }
 
 fn weight_of_items(alloc: Global, items: &[Item]) -> Result<Weight, AllocError>
-    ensures { IfOk result (λ weight. (m : Tree) → IsWeight m (enumerated (map entry items.now)) weight) }
+    ensures weight { IfOk result (λ weight. (m : Tree) → IsWeight m (enumerated (map entry items.now)) weight) }
+    ensures apart { IfOk result (λ weight. weight.cause ≡ Nothing → NamesDiffer (map (λ entry. entry.0) (map entry items.now))) }
 {
     let weight = Weight::NOTHING.with_node();
     let within = is_length_within(items.len()) && are_numbers_within(items);

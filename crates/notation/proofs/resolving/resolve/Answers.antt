@@ -3,7 +3,7 @@ use Rattle.types.specs.View.{ty_view}
 use Rattle.syntax.specs.View.{tree}
 use Rattle.syntax.specs.declared.tree.Module.{Module}
 use Rattle.builtin.specs.Names.{IsFirstRepeat}
-use Rattle.notation.specs.Known.{StandsAt, IsScope, IsNewScope}
+use Rattle.notation.specs.Known.{StandsAt, IsNewScope}
 use Rattle.notation.specs.Settled.{place_in, IsSettled}
 use Rattle.notation.specs.Weighed.{AreWeighed}
 use Rattle.notation.specs.declared.scope.Scope.{Scope}
@@ -23,11 +23,14 @@ pub returns-in-Ok-type_of-clause-value : goal.returns-in-Ok-type_of-clause-value
 returns-in-Ok-type_of-clause-value c =
     let m = c.args.module.now in
     let scope = c.in-Ok.scope in
+    let name = c.args.name.now in
     let new : IsNewScope m scope = subst (λ (r : Result Scope ℕ). IfOk r (λ s. IsNewScope m s)) c.in-Ok.is c.in_ok-scope.ensures.value in
     let same = new.scope_of.module_is in
-    let settled : IsSettled m c.settle.new.self = subst (λ (i : Module). IsSettled i c.settle.new.self) same (c.in_ok-settle.ensures.settled (subst (λ (i : Module). IsNewScope i scope) (sym same) new)) in
-    let stands : StandsAt m c.args.name.now c.in-Some.place = subst (λ (i : Module). StandsAt i c.args.name.now c.in-Some.place) same (c.in-Some.ensures.stands (subst (λ (i : Module). IsScope i scope) (sym same) new.scope_of)) in
-    name_means m c.settle.new.self c.args.name.now c.in-Some.place c.in-Some-seen_at.seen (ty_view c.in-Ok-type_of.ty) settled.known stands c.in-Some-seen_at.ensures.seen c.in-Ok-type_of.ensures.value
+    let own = subst (λ (i : Module). IsNewScope i scope) (sym same) new in
+    let settled : IsSettled m c.settle.new.self = subst (λ (i : Module). IsSettled i c.settle.new.self) same (c.in_ok-settle.ensures.settled own) in
+    let stands : StandsAt m name c.in-Some.place = subst (λ (i : Module). StandsAt i name c.in-Some.place) same (c.in-Some.ensures.stands own.scope_of) in
+    let placed : Some c.in-Some.place ≡ place_in (tree m) name = subst (λ (i : Module). Some c.in-Some.place ≡ place_in (tree i) name) same (c.in-Some.ensures.place own.scope_of) in
+    name_means m c.settle.new.self name c.in-Some.place c.in-Some-seen_at.seen (ty_view c.in-Ok-type_of.ty) settled (c.in_ok-settle.ensures.apart own) stands placed c.in-Some-seen_at.ensures.known c.in-Some-seen_at.ensures.seen c.in-Ok-type_of.ensures.value
 
 pub returns-in-Ok-type_of-clause-only : goal.returns-in-Ok-type_of-clause-only
 returns-in-Ok-type_of-clause-only c =
@@ -51,7 +54,7 @@ returns-in-Some-seen_at-clause-refused c = λ not.
     let weighed : AreWeighed m c.settle.new.self = subst (λ (i : Module). AreWeighed i c.settle.new.self) same (c.in_ok-settle.ensures.weighed own) in
     let stands : StandsAt m name c.in-Some.place = subst (λ (i : Module). StandsAt i name c.in-Some.place) same (c.in-Some.ensures.stands own.scope_of) in
     let placed : Some c.in-Some.place ≡ place_in (tree m) name = subst (λ (i : Module). Some c.in-Some.place ≡ place_in (tree i) name) same (c.in-Some.ensures.place own.scope_of) in
-    type_refused m c.settle.new.self name c.in-Some.place c.in-Some-seen_at.seen settled weighed stands placed c.in-Some-seen_at.ensures.known c.in-Some-seen_at.ensures.seen (c.in-Err-Refused.ensures.never (λ e. absurd cc))
+    type_refused m c.settle.new.self name c.in-Some.place c.in-Some-seen_at.seen settled weighed (c.in_ok-settle.ensures.apart own) stands placed c.in-Some-seen_at.ensures.known c.in-Some-seen_at.ensures.seen (c.in-Err-Refused.ensures.never (λ e. absurd cc))
 
 pub returns-in-Err-clause-refused : goal.returns-in-Err-clause-refused
 returns-in-Err-clause-refused c = λ not type means good.

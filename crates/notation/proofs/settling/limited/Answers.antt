@@ -4,8 +4,8 @@ use Rattle.notation.proofs.LimitedLemmas.{weighs_limited}
 use Rattle.notation.proofs.settling.limited.Goals.{then-weight-le-MAX_NODES, else-weight-le-MAX_NODES}
 use Rattle.notation.proofs.settling.limited.Goals as goal
 
-pub returns : goal.returns
-returns c = λ m form h.
+pub returns-clause-weight : goal.returns-clause-weight
+returns-clause-weight c = λ m form h.
     let fits = c.if-weight-le-MAX_NODES.fits in
     weighs_limited m form c.args.weight c.unless.result fits c.unless.ensures.kept c.unless.ensures.refused (λ lost. elim c.if-weight-le-MAX_NODES.branch [
       | then-weight-le-MAX_NODES w ↦ inr (leb-false c.args.weight.levels 60 (sym w.fits-is ∙ false_from_ne_true fits lost))

@@ -12,8 +12,8 @@ use Rattle.notation.proofs.WeighingLemmas.{never-item_count, never-great_number,
 use Rattle.notation.proofs.weighing.weight_of_items.Goals as goal
 use Rattle.notation.proofs.weighing.weight_of_items.Goals.{then-is_length_within, else-is_length_within}
 
-pub returns : goal.returns
-returns c = λ m.
+pub returns-clause-weight : goal.returns-clause-weight
+returns-clause-weight c = λ m.
     let entries = map entry c.args.items.now in
     let Have = HaveSize m (enumerated entries) in
     let Never = NeverHasType m (enumerated entries) in

@@ -1,7 +1,9 @@
 use Rattle.std.proofs.Common.{◌+◌, ◌*◌, map, take}
 use Rattle.types.specs.View.{field_view, alternative_view}
-use Rattle.syntax.specs.View.{tree, component, alternative}
-use Rattle.notation.specs.Known.{IsScope}
+use Rattle.syntax.specs.declared.tree.Group.{Group}
+use Rattle.syntax.specs.Tree.{list, choice}
+use Rattle.syntax.specs.View.{tree, component, alternative, components_of, alternatives_of}
+use Rattle.notation.specs.Apart.{CanMake}
 use Rattle.notation.specs.Parts.{AreComponents, AreAlternatives}
 use Rattle.notation.proofs.scope.Scope.+expanding.Given as goal
 
@@ -24,7 +26,9 @@ abbrev pub decreases-choice : goal.decreases-choice
 decreases-choice l = 3 * l.depth + 2
 
 abbrev pub invariant-fields-loop-place : goal.invariant-fields-loop-place
-invariant-fields-loop-place l = IsScope l.self.module.now l.self → AreComponents (tree l.self.module.now) l.automatic 0 (map component (take l.place l.components)) (map field_view l.fields.items)
+invariant-fields-loop-place l =
+    (group : Group) → CanMake l.self.module.now l.self (list group (components_of (map component l.components))) → AreComponents (tree l.self.module.now) l.automatic 0 (map component (take l.place l.components)) (map field_view l.fields.items)
 
 abbrev pub invariant-choice-loop-place : goal.invariant-choice-loop-place
-invariant-choice-loop-place l = IsScope l.self.module.now l.self → AreAlternatives (tree l.self.module.now) l.automatic 0 (map alternative (take l.place l.alternatives)) (map alternative_view l.found.items)
+invariant-choice-loop-place l =
+    CanMake l.self.module.now l.self (choice (alternatives_of (map alternative l.alternatives))) → AreAlternatives (tree l.self.module.now) l.automatic 0 (map alternative (take l.place l.alternatives)) (map alternative_view l.found.items)

@@ -1,5 +1,7 @@
 use Rattle.std.proofs.Common.{◌≡◌, ◌<◌, ◌≤◌, ◌∙◌, ap, sym, refl, subst, arith, List, ℕ, length, get_or, Vec, Global}
 use Rattle.std.proofs.lemmas.Bool.{ltb-true, ltb-false}
+use Rattle.notation.proofs.ResolvingLemmas.{own_scope}
+use Rattle.notation.proofs.ApartLemmas.{apart_start, apart_more, look_apart, next_unknown}
 use Rattle.notation.proofs.LimitedLemmas.{weighed_start, look_weighs, weighed_more}
 use Rattle.notation.proofs.SettlingLemmas.{next_told, settling_start, settling_more, settling_end, scope_kept, look_leads, look_unknown, ready_past}
 use Rattle.notation.proofs.scope.Scope.settle.Goals as goal
@@ -10,6 +12,7 @@ loop-turn-init c = record {
   scope_of = λ new. new.scope_of;
   settling = λ new. settling_start c.args.self.now.module.now c.args.self.now c.in_ok-waits.waits.waiting.items c.in_ok-ready.ready.items c.in_ok-waits.waits.users.items new (c.in_ok-waits.ensures new.scope_of) c.in_ok-ready.ensures;
   weighed = λ new. weighed_start c.args.self.now.module.now c.args.self.now new;
+  apart = λ new. apart_start c.args.self.now.module.now c.args.self.now new;
 }
 
 pub loop-turn-preserved : goal.loop-turn-preserved
@@ -37,6 +40,9 @@ loop-turn-preserved c =
             weighed = inv.weighed new;
           }))
           (inv.weighed new);
+      apart = λ new.
+          apart_more scope c.tell.new.self place c.in_ok-seen.seen c.tell.ensures.module c.tell.ensures.seen (next_unknown m scope.seen.items c.loop-turn.waits.waiting.items ready c.loop-turn.waits.users.items c.loop-turn.turn place place within at (inv.settling new))
+          (look_apart scope c.in_ok-seen.seen (own_scope m scope (inv.scope_of new)) (inv.apart new) c.in_ok-seen.ensures.apart) (inv.apart new);
     }
 
 pub returns-in-None-clause-settled : goal.returns-in-None-clause-settled
@@ -56,3 +62,9 @@ returns-in-None-clause-weighed c = c.loop-turn.invariant.weighed
 
 pub returns-clause-weighed : goal.returns-clause-weighed
 returns-clause-weighed c = c.loop-turn.invariant.weighed
+
+pub returns-in-None-clause-apart : goal.returns-in-None-clause-apart
+returns-in-None-clause-apart c = c.loop-turn.invariant.apart
+
+pub returns-clause-apart : goal.returns-clause-apart
+returns-clause-apart c = c.loop-turn.invariant.apart
