@@ -1,11 +1,11 @@
 -- Exit statuses of the program's faults.
-use Rattle.std.specs.Prelude.{◌≡◌, ◌≢◌, ◌↔◌, ◌⊎◌, ℕ, nat_eq, if◌then◌else◌}
+use Rattle.std.specs.Prelude.{◌≡◌, ◌≢◌, ◌↔◌, ◌⊎◌, ⊤, ℕ, List, nat_eq, if◌then◌else◌}
 use Rattle.types.specs.declared.refusal.Refusal.{Refusal}
 use Rattle.types.specs.declared.refusal.Refusal.TheVariants.{SourceFault, SinkFault, NoMemory}
-use Rattle.clap.specs.Words.{kind_of}
+use Rattle.clap.specs.Words.{App, IsAmong, fault_of, kind_of}
 use Rattle.clap.specs.declared.error.Error as clap
 use Rattle.clap.specs.declared.error.kind.ErrorKind.{ErrorKind}
-use Rattle.clap.specs.declared.error.kind.ErrorKind.TheVariants.{DisplayHelp, DisplayVersion, OutOfMemory as OutOfMemoryForWords}
+use Rattle.clap.specs.declared.error.kind.ErrorKind.TheVariants.{DisplayHelp, DisplayVersion, Io, OutOfMemory as OutOfMemoryForWords}
 use Rattle.hex.specs.declared.error.FromHexError.{FromHexError}
 use Rattle.hex.specs.declared.error.FromHexError.TheVariants.{OutOfMemory}
 use Rattle.convert.specs.declared.hex_text.HexFault as hex
@@ -13,6 +13,7 @@ use Rattle.engine.specs.declared.stopped.Stopped.{Stopped}
 use Rattle.convert.specs.declared.fault.Fault as fault
 use Rattle.convert.specs.declared.command_line.LineFault.{LineFault}
 use Rattle.convert.specs.declared.command_line.LineFault.TheVariants.{Words, NoMemory as NoMemoryForWords}
+use Rattle.convert.specs.Program.{IsProgram}
 
 -- 1 where octets are refused, 3 where a device failed, 4 where memory ran out
 abbrev pub refusal_status : Refusal → ℕ
@@ -45,6 +46,16 @@ line_fault_of error = line_fault_by (kind_of error) error
 abbrev pub IsLineStatus : LineFault → ℕ → Type 0
 IsLineStatus NoMemoryForWords status = status ≡ 4
 IsLineStatus (Words error) status = ((status ≡ 0) ⊎ (status ≡ 64)) × ((status ≡ 64) ↔ ((kind_of error ≢ DisplayHelp) × (kind_of error ≢ DisplayVersion)))
+
+-- of the program's command `clap` refuses the words, and the error is of a kind that it has there
+abbrev pub IsRefusalOf : List (List ℕ) → LineFault → Type 0
+IsRefusalOf words (Words error) = (app : App) × IsProgram app × IsAmong (kind_of error) (fault_of app words)
+IsRefusalOf words NoMemoryForWords = ⊤
+
+-- a word is not UTF-8, but for memory
+abbrev pub IsNotText : LineFault → Type 0
+IsNotText (Words error) = kind_of error ≡ Io
+IsNotText NoMemoryForWords = ⊤
 
 -- what a refusal of octets is to the program, before which no value was done
 abbrev pub fault_of_refusal : Refusal → fault.Fault

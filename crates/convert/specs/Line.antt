@@ -3,10 +3,10 @@ use Rattle.std.specs.Prelude.{◌≡◌, ◌≢◌, ◌↔◌, ◌⊎◌, ℕ, I
 use Rattle.octets.specs.declared.tag.Class.TheVariants.{Universal}
 use Rattle.octets.specs.declared.tag.Tag.{Tag}
 use Rattle.types.specs.Shape.{SimpleType, StringType, Shape}
-use Rattle.syntax.specs.Tree.{Tree}
-use Rattle.syntax.specs.ModuleText.{IsModuleText}
+use Rattle.types.specs.WellFormed.{IsWellFormed}
 use Rattle.convert.specs.declared.command_line.Line.{Line}
 use Rattle.convert.specs.declared.command_line.Verb.TheVariants.{Convert}
+use Rattle.convert.specs.ModuleFile.{FileMeans}
 
 abbrev pub universal : ℕ → Tag
 universal number = record { class = Universal; number = number }
@@ -39,9 +39,19 @@ CanType line = string_bytes line.module ≡ codes "@builtin" → (shape : Shape)
 abbrev pub IsFaultOfType : Line → ℕ → Type 0
 IsFaultOfType line status = ((status ≡ 64) × ¬ CanType line) ⊎ (((status ≡ 2) ⊎ (status ≡ 4)) × NamesFile line)
 
--- the octets of a file spell a module within the limits
-abbrev pub IsModuleFile : List ℕ → Type 0
-IsModuleFile octets = (m : Tree) × IsModuleText octets m
+-- the line's name means the type: a built-in one, or one of the module in the file
+pub record LineMeans (line : Line) (file : List ℕ) (type : Shape) : Type 0 where
+  pub built_in : string_bytes line.module ≡ codes "@builtin" → IsBuiltIn (string_bytes line.name) type
+  pub of_file : NamesFile line → FileMeans file (string_bytes line.name) type
+
+-- and the type is well formed
+pub record IsLineType (line : Line) (file : List ℕ) (type : Shape) : Type 0 where
+  pub means : LineMeans line file type
+  pub well_formed : IsWellFormed type
+
+-- the line's name means a well-formed type
+abbrev pub HasLineType : Line → List ℕ → Type 0
+HasLineType line file = (type : Shape) × IsLineType line file type
 
 -- the line asks for what can be done
 pub record CanRun (line : Line) : Type 0 where

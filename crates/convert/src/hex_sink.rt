@@ -22,7 +22,8 @@ pub struct HexSink<W> {
 impl<W: Write> HexSink<W> {
     /// A sink that prints to `inner` and has not failed. Takes no memory.
     pub fn new(inner: W) -> Self
-        ensures { ⟦<HexSink<W> as Sink>⟧.failures result ≡ 0 }
+        ensures inner { result.inner ≡ inner }
+        ensures failures { ⟦<HexSink<W> as Sink>⟧.failures result ≡ 0 }
     {
         HexSink {
             inner,
@@ -32,7 +33,9 @@ impl<W: Write> HexSink<W> {
     }
 
     /// The writer.
-    pub fn into_inner(self) -> W {
+    pub fn into_inner(self) -> W
+        ensures { result ≡ self.inner }
+    {
         self.inner
     }
 

@@ -8,6 +8,7 @@ mod hex_sink;
 mod hex_text;
 mod missing_words;
 mod module_file;
+mod output;
 mod printed_path;
 mod program;
 mod running;

@@ -1,10 +1,12 @@
 //! A module's file, and the type that a name of the module means.
 
-ghost use Rattle.std.specs.Prelude.{◌≡◌, ◌⊎◌, IfOk, IfErr};
+ghost use Rattle.std.specs.Prelude.{◌≡◌, ◌≢◌, ◌⊎◌, IfOk, IfErr, IfSome, take};
 ghost use Rattle.std.specs.Str.{IsUtf8};
+ghost use Rattle.types.specs.Shape.{Shape};
 ghost use Rattle.types.specs.View.{ty_view};
 ghost use Rattle.types.specs.WellFormed.{IsWellFormed};
-ghost use Rattle.convert.specs.Line.{IsModuleFile};
+ghost use Rattle.syntax.specs.Tree.{Tree};
+ghost use Rattle.convert.specs.ModuleFile.{FileMeans, IsFileFault, IsModuleFile, name_of_fault};
 
 use crate::fault::{Fault, print_fault};
 use lexis::MAX_TEXT;
@@ -16,8 +18,13 @@ use types::WellTyped;
 
 /// The type that the module in these octets means by the name.
 pub fn type_from(alloc: Global, octets: &[u8], name: &str) -> Result<WellTyped, notation::Fault>
-    ensures value { IfOk result (λ _. IsModuleFile octets.now) }
+    ensures value { IfOk result (λ ty. FileMeans octets.now name.now (ty_view ty)) }
+    ensures only { IfOk result (λ ty. (other : Shape) → FileMeans octets.now name.now other → other ≡ ty_view ty) }
     ensures well_formed { IfOk result (λ ty. IsWellFormed (ty_view ty)) }
+    ensures refused { IfErr result (λ fault. fault.number ≢ 33 →
+        (type : Shape) → FileMeans octets.now name.now type → ¬ IsWellFormed type) }
+    ensures cycle { IfErr result (λ fault. fault.number ≡ 25 → (type : Shape) → ¬ FileMeans octets.now name.now type) }
+    ensures numbers { IfErr result IsFileFault }
 {
     let text = text_of(octets)?;
     let module = parse(alloc, text)?;
@@ -27,6 +34,8 @@ pub fn type_from(alloc: Global, octets: &[u8], name: &str) -> Result<WellTyped, 
 // The octets as text. The limit is judged before the characters.
 fn text_of(octets: &[u8]) -> Result<&str, notation::Fault>
     ensures text { IfOk result (λ text. text.now ≡ octets.now) }
+    ensures utf8 { IfOk result (λ _. IsUtf8 octets.now) }
+    ensures refused { IfErr result (λ _. (m : Tree) → ¬ IsModuleFile octets.now m) }
     ensures numbers { IfErr result (λ fault. (fault.number ≡ 21) ⊎ (fault.number ≡ 31)) }
 {
     if octets.len() > MAX_TEXT {
@@ -50,7 +59,9 @@ fn at_front(number: u32) -> notation::Fault
 }
 
 /// The octets of a module's file, or so many of them that it is seen to be too long.
-pub fn read_module<R: Read>(alloc: Global, file: &mut R) -> io::Result<Vec<u8>> {
+pub fn read_module<R: Read>(alloc: Global, file: &mut R) -> io::Result<Vec<u8>>
+    ensures { IfOk result (λ octets. IfSome (R.remaining file.old) (λ left. octets.items ≡ take 262_145 left)) }
+{
     let mut octets = Vec::new(alloc);
     file.take(MAX_TEXT as u64 + 1).read_to_end(&mut octets)?;
     Ok(octets)
@@ -69,7 +80,9 @@ pub fn cannot_read_module<E: Write>(path: &str, error: &io::Error, err: &mut E) 
 }
 
 /// The name of the fault of this number.
-pub fn fault_name(number: u32) -> &'static str {
+pub fn fault_name(number: u32) -> &'static str
+    ensures { result.now ≡ name_of_fault number }
+{
     match number {
         21 => "Token",
         22 => "Syntax",

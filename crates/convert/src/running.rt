@@ -1,10 +1,13 @@
 //! The program once its files are open.
 
-ghost use Rattle.std.specs.Prelude.{◌≡◌, ◌↔◌, IsSome, IfSome, IfNone, IfOk, IfErr};
+ghost use Rattle.std.specs.Prelude.{◌≡◌, ◌↔◌, IsSome, IfSome, IfNone, IfOk, IfErr, take};
 ghost use Rattle.types.specs.Shape.{Shape};
 ghost use Rattle.types.specs.View.{ty_view};
+ghost use Rattle.types.specs.WellFormed.{IsWellFormed};
+ghost use Rattle.engine.specs.Rule.{rule_of};
 ghost use Rattle.convert.specs.Fault.{fault_status, IsFaultOfInput};
-ghost use Rattle.convert.specs.Line.{IsBuiltIn, CanRun, CanType, IsFaultOfType, IsModuleFile, IsStatus, IsStatusOfInput, IsTask, NamesFile};
+ghost use Rattle.convert.specs.Line.{IsBuiltIn, CanRun, CanType, HasLineType, IsFaultOfType, IsLineType, IsStatus, IsStatusOfInput, IsTask, NamesFile};
+ghost use Rattle.convert.specs.Run.{IsInputDone, IsInputRefused, IsRefusedRun, IsRun, IsTaskOf};
 
 use crate::fault::{Fault, print_fault};
 use crate::module_file::type_from;
@@ -29,7 +32,10 @@ pub fn run<R: Read, W: Write, E: Write>(
     ensures status { IsStatus result }
     ensures usage { (result ≡ 64) ↔ (¬ CanRun line.now) }
     ensures file { (result ≡ 2) → NamesFile line.now }
-    ensures read { IsStatusOfInput result → NamesFile line.now → IsModuleFile «module».now }
+    ensures named { IsStatusOfInput result → HasLineType line.now «module».now }
+    ensures refused { (result ≡ 2) → ¬ HasLineType line.now «module».now }
+    ensures done { (result ≡ 0) → IsRun line.now «module».now (R.remaining input.old) (W.contents out.old) (W.contents out.new) }
+    ensures stopped { (result ≡ 1) → IsRefusedRun line.now «module».now (R.remaining input.old) (W.contents out.old) (W.contents out.new) }
 {
     let Some(task) = task_of(line) else {
         return 64;
@@ -53,7 +59,8 @@ pub fn cannot_open<E: Write>(path: &str, err: &mut E) -> u8
 
 // What the line asks for, where a line to convert names the rule to write by.
 fn task_of(line: &Line) -> Option<Task>
-    ensures { IsSome result ↔ IsTask line.now }
+    ensures value { IfSome result (IsTaskOf line.now) }
+    ensures exact { IsSome result ↔ IsTask line.now }
 {
     match line.verb {
         Verb::Show => Some(Task::Show),
@@ -64,9 +71,10 @@ fn task_of(line: &Line) -> Option<Task>
 
 // The type that the line names.
 fn type_of<'a>(alloc: Global, line: &Line, module: &[u8]) -> Result<WellTyped, Fault<'a>>
-    ensures value { IfOk result (λ _. CanType line.now) }
-    ensures read { IfOk result (λ _. NamesFile line.now → IsModuleFile «module».now) }
+    ensures value { IfOk result (λ ty. IsLineType line.now «module».now (ty_view ty)) }
+    ensures named { IfOk result (λ _. CanType line.now) }
     ensures fault { IfErr result (λ fault. IsFaultOfType line.now (fault_status fault)) }
+    ensures refused { IfErr result (λ fault. fault_status fault ≡ 2 → ¬ HasLineType line.now «module».now) }
 {
     let name = line.name.as_str();
     if line.module.as_str() == "@builtin" {
@@ -84,6 +92,7 @@ fn type_of<'a>(alloc: Global, line: &Line, module: &[u8]) -> Result<WellTyped, F
 // The built-in type of a name, with its universal tag.
 fn built_in(name: &str) -> Option<WellTyped>
     ensures value { IfSome result (λ ty. IsBuiltIn name.now (ty_view ty)) }
+    ensures well_formed { IfSome result (λ ty. IsWellFormed (ty_view ty)) }
     ensures none { IfNone result ((shape : Shape) → ¬ IsBuiltIn name.now shape) }
 {
     let class = Class::Universal;
@@ -110,7 +119,10 @@ fn run_over<'a, R: Read, W: Write>(
     input: &mut R,
     out: &mut W,
 ) -> Result<(), Fault<'a>>
-    ensures { IfErr result IsFaultOfInput }
+    ensures done { IfOk result (λ _. IsInputDone line.now.hex task (rule_of line.now.from) (ty_view ty.now) (R.remaining input.old) (W.contents out.old) (W.contents out.new)) }
+    ensures refused { IfErr result (λ fault. fault_status fault ≡ 1 →
+        IsInputRefused line.now.hex task (rule_of line.now.from) (ty_view ty.now) (R.remaining input.old) (W.contents out.old) (W.contents out.new)) }
+    ensures status { IfErr result IsFaultOfInput }
 {
     if !line.hex {
         return perform(alloc, ty, line, task, &mut FromReader::new(input), out);
@@ -123,7 +135,9 @@ fn run_over<'a, R: Read, W: Write>(
 
 // The whole of a file of text, or so much of it that it is seen to be too long.
 fn read_text<'a, R: Read>(alloc: Global, path: &'a str, input: &mut R) -> Result<Vec<u8>, Fault<'a>>
-    ensures { IfErr result IsFaultOfInput }
+    ensures text { IfOk result (λ text. IfSome (R.remaining input.old) (λ left. text.items ≡ take 4_194_305 left)) }
+    ensures status { IfErr result IsFaultOfInput }
+    ensures kind { IfErr result (λ fault. ¬ (fault_status fault ≡ 1)) }
 {
     let mut text = Vec::new(alloc);
     match input.take(MAX_HEX_TEXT as u64 + 1).read_to_end(&mut text) {

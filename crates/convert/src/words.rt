@@ -1,9 +1,10 @@
 //! Judges the program's words.
 
-ghost use Rattle.std.specs.Prelude.{◌≡◌, ◌≢◌, ◌↔◌, IfOk, IfSome, IfNone, Some, codes};
+ghost use Rattle.std.specs.Prelude.{◌≡◌, ◌↔◌, IfOk, IfErr, IsSome, Some, codes};
 ghost use Rattle.clap.specs.Words.{first_value, found_of};
-ghost use Rattle.convert.specs.CommandLine.{texts_of, word_of_canonical, word_of_rule};
-ghost use Rattle.convert.specs.Entries.{HasEntries, IsLineOf};
+ghost use Rattle.convert.specs.CommandLine.{texts_of, word_of_canonical, word_of_rule, word_of_verb};
+ghost use Rattle.convert.specs.Entries.{HasEntries, HasWords, IsLineOf};
+ghost use Rattle.convert.specs.Fault.{IsNotText, IsRefusalOf};
 ghost use Rattle.convert.specs.Line.{IsVerbWithRule};
 
 use crate::program::program;
@@ -17,76 +18,58 @@ use std::alloc::Global;
 pub fn line(alloc: Global, words: &[&str]) -> Result<Line, LineFault>
     ensures value { IfOk result (IsLineOf (texts_of words.now)) }
     ensures to { IfOk result IsVerbWithRule }
+    ensures refused { IfErr result (IsRefusalOf (texts_of words.now)) }
 {
     let matches = program(alloc)?.try_get_matches_from(words)?;
-    match matches.subcommand() {
-        Some(("show", matches)) => line_to(alloc, Verb::Show, None, matches),
-        Some(("check", matches)) => line_to(alloc, Verb::Check, None, matches),
-        Some(("convert", matches)) => {
-            let to = word(alloc, matches, "to")?;
-            match canonical_of(to) {
-                Some(rule) => line_to(alloc, Verb::Convert, Some(rule), matches),
-                None => Err(missing(alloc)),
-            }
-        }
-        _ => Err(missing(alloc)),
-    }
+    let (name, matches) = matches.subcommand().unwrap();
+    line_of(alloc, verb_of(name), matches)
 }
 
-// The command line to do this, with the rule to write by and the other words.
-fn line_to(
-    alloc: Global,
-    verb: Verb,
-    to: Option<Canonical>,
-    matches: &ArgMatches<'_>,
-) -> Result<Line, LineFault>
-    requires { (rule : Canonical) → to ≡ Some rule → first_value (found_of matches.now) (codes "to") ≡ Some (word_of_canonical rule) }
+// The command line of a subcommand.
+fn line_of(alloc: Global, verb: Verb, matches: &ArgMatches<'_>) -> Result<Line, LineFault>
+    requires { HasWords verb matches.now }
     ensures entries { IfOk result (HasEntries matches.now) }
     ensures verb { IfOk result (λ line. line.verb ≡ verb) }
-    ensures to { IfOk result (λ line. line.to ≡ to) }
+    ensures to { IfOk result IsVerbWithRule }
+    ensures refused { IfErr result (λ fault. fault ≡ LineFault.NoMemory) }
 {
-    let Some(from) = rule_of(word(alloc, matches, "from")?) else {
-        return Err(missing(alloc));
-    };
     Ok(Line {
         verb,
-        module: String::from_str(alloc, word(alloc, matches, "MODULE")?)?,
-        name: String::from_str(alloc, word(alloc, matches, "TYPE")?)?,
-        input: String::from_str(alloc, word(alloc, matches, "INPUT")?)?,
-        from,
-        to,
+        module: String::from_str(alloc, word(matches, "MODULE"))?,
+        name: String::from_str(alloc, word(matches, "TYPE"))?,
+        input: String::from_str(alloc, word(matches, "INPUT"))?,
+        from: rule_of(word(matches, "from")),
+        to: to_of(verb, matches),
         hex: matches.get_flag("hex"),
     })
 }
 
 // The word that an argument has.
-fn word<'a>(alloc: Global, matches: &ArgMatches<'a>, name: &str) -> Result<&'a str, LineFault>
-    ensures { IfOk result (λ text. first_value (found_of matches.now) name.now ≡ Some text.now) }
+fn word<'a>(matches: &ArgMatches<'a>, name: &str) -> &'a str
+    requires { IsSome (first_value (found_of matches.now) name.now) }
+    ensures { first_value (found_of matches.now) name.now ≡ Some result.now }
 {
-    match matches.get_str(name) {
-        Some(text) => Ok(text),
-        None => Err(missing(alloc)),
+    matches.get_str(name).unwrap()
+}
+
+// The rule to write by, where the values are to be converted.
+fn to_of(verb: Verb, matches: &ArgMatches<'_>) -> Option<Canonical>
+    requires { HasWords verb matches.now }
+    ensures value { (rule : Canonical) → result ≡ Some rule → first_value (found_of matches.now) (codes "to") ≡ Some (word_of_canonical rule) }
+    ensures exact { IsSome result ↔ (verb ≡ Verb.Convert) }
+{
+    match verb {
+        Verb::Show | Verb::Check => None,
+        Verb::Convert => Some(canonical_of(word(matches, "to"))),
     }
 }
 
-// An argument is missing, which `clap` lets none be.
-fn missing(alloc: Global) -> LineFault {
-    wrong(
-        alloc,
-        ErrorKind::MissingRequiredArgument,
-        "an argument is missing",
-    )
-}
-
 /// A word that is not UTF-8.
-pub fn not_text(alloc: Global) -> LineFault {
-    wrong(alloc, ErrorKind::Io, "a word is not UTF-8")
-}
-
-// A fault that `clap` did not find itself.
-fn wrong(alloc: Global, kind: ErrorKind, text: &str) -> LineFault {
+pub fn not_text(alloc: Global) -> LineFault
+    ensures { IsNotText result }
+{
     match program(alloc) {
-        Ok(mut program) => match program.error(kind, text) {
+        Ok(mut program) => match program.error(ErrorKind::Io, "a word is not UTF-8") {
             Ok(error) => LineFault::from(error),
             Err(_) => LineFault::NoMemory,
         },
@@ -94,27 +77,42 @@ fn wrong(alloc: Global, kind: ErrorKind, text: &str) -> LineFault {
     }
 }
 
-// The rule to write by that a word names.
-fn canonical_of(word: &str) -> Option<Canonical>
-    ensures some { IfSome result (λ rule. word.now ≡ word_of_canonical rule) }
-    ensures none { IfNone result ((rule : Canonical) → word.now ≢ word_of_canonical rule) }
+// What a word asks for that is one of the three subcommands.
+fn verb_of(word: &str) -> Verb
+    requires { (verb : Verb) × (word.now ≡ word_of_verb verb) }
+    ensures { word.now ≡ word_of_verb result }
 {
-    match word {
-        "cer" => Some(Canonical::Cer),
-        "der" => Some(Canonical::Der),
-        _ => None,
+    if word == "show" {
+        Verb::Show
+    } else if word == "check" {
+        Verb::Check
+    } else {
+        Verb::Convert
+    }
+}
+
+// The rule to write by that a word names.
+fn canonical_of(word: &str) -> Canonical
+    requires { (rule : Canonical) × (word.now ≡ word_of_canonical rule) }
+    ensures { word.now ≡ word_of_canonical result }
+{
+    if word == "cer" {
+        Canonical::Cer
+    } else {
+        Canonical::Der
     }
 }
 
 // The rule to read by that a word names.
-fn rule_of(word: &str) -> Option<Rule>
-    ensures some { IfSome result (λ rule. word.now ≡ word_of_rule rule) }
-    ensures none { IfNone result ((rule : Rule) → word.now ≢ word_of_rule rule) }
+fn rule_of(word: &str) -> Rule
+    requires { (rule : Rule) × (word.now ≡ word_of_rule rule) }
+    ensures { word.now ≡ word_of_rule result }
 {
-    match word {
-        "ber" => Some(Rule::Ber),
-        "cer" => Some(Rule::Cer),
-        "der" => Some(Rule::Der),
-        _ => None,
+    if word == "ber" {
+        Rule::Ber
+    } else if word == "cer" {
+        Rule::Cer
+    } else {
+        Rule::Der
     }
 }

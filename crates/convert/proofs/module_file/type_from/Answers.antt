@@ -1,0 +1,31 @@
+use Rattle.std.proofs.Common.{◌≡◌}
+use Rattle.std.proofs.lemmas.Result.{IfErr-weaker, IfOk-weaker, err_from_is_err_and}
+use Rattle.syntax.specs.View.{tree}
+use Rattle.convert.proofs.ModuleFileLemmas.{meant, none_meant}
+use Rattle.convert.proofs.module_file.type_from.Goals as goal
+
+pub returns-in_err-text-clause-refused : goal.returns-in_err-text-clause-refused
+returns-in_err-text-clause-refused c =
+    let p = err_from_is_err_and c.from_residual.result c.from_residual.ensures.1 in
+    rw (p.1, p.2) (λ other_than_memory type means. absurd (c.in_err-text.ensures.refused means.tree means.file))
+
+pub returns-in_err-module-clause-refused : goal.returns-in_err-module-clause-refused
+returns-in_err-module-clause-refused c =
+    let p = err_from_is_err_and c.from_residual-in_err-module.result c.from_residual-in_err-module.ensures.1 in
+    rw (p.1, p.2) (λ other_than_memory type means.
+    absurd (none_meant c.args.octets.now c.in_ok-text.text.now c.args.name.now c.in_ok-text.ensures.text (c.in_err-module.ensures.refused other_than_memory) type means))
+
+pub returns-clause-only : goal.returns-clause-only
+returns-clause-only c =
+    let here = meant c.args.octets.now c.in_ok-text.text.now c.args.name.now (tree c.in_ok-module.module) c.in_ok-text.ensures.text c.in_ok-module.ensures.only in
+    IfOk-weaker c.resolve.result _ _ (λ ty only other means. only other (here other means)) c.resolve.ensures.only
+
+pub returns-clause-refused : goal.returns-clause-refused
+returns-clause-refused c =
+    let here = meant c.args.octets.now c.in_ok-text.text.now c.args.name.now (tree c.in_ok-module.module) c.in_ok-text.ensures.text c.in_ok-module.ensures.only in
+    IfErr-weaker c.resolve.result _ _ (λ fault refused other_than_memory type means. refused other_than_memory type (here type means)) c.resolve.ensures.refused
+
+pub returns-clause-cycle : goal.returns-clause-cycle
+returns-clause-cycle c =
+    let here = meant c.args.octets.now c.in_ok-text.text.now c.args.name.now (tree c.in_ok-module.module) c.in_ok-text.ensures.text c.in_ok-module.ensures.only in
+    IfErr-weaker c.resolve.result _ _ (λ fault refused cycle type means. refused cycle type (here type means)) c.resolve.ensures.cycle
