@@ -68,7 +68,7 @@ pub fn node_within<'a>(ty: &'a Ty, tag: Tag) -> Option<&'a Ty>
 /// CHOICE. Takes no memory.
 pub fn is_node(ty: &Ty) -> bool
     ensures wrapped { IsTrue result → (tag : Tag) (value : Val) → IsWrapped (ty_view ty.now) tag value value }
-    ensures node { IsTrue result → IsNode (ty_view ty.now) }
+    ensures node { IsTrue result ↔ IsNode (ty_view ty.now) }
 {
     let Ty::Choice(_) = ty else {
         return true;
