@@ -11,7 +11,6 @@ use Rattle.types.specs.declared.value.Value.{Value}
 use Rattle.types.specs.declared.refusal.Refusal.{Refusal}
 use Rattle.types.specs.declared.refusal.Refusal.TheVariants.{Truncated}
 use Rattle.types.specs.Refusal.{IsFinal, IsOfReading}
-use Rattle.berreader.specs.declared.pieces.Fed as fed
 use Rattle.berreader.specs.declared.reader.Step as answer
 use Rattle.berreader.specs.Stack.{layers_of, IsCounted}
 use Rattle.berreader.specs.declared.cursor.Cursor.{Cursor}
@@ -21,7 +20,7 @@ use Rattle.berreader.specs.declared.pieces.Pieces.{Pieces}
 use Rattle.berreader.specs.Cursor.{open_in, taken_of, CanFinish, IsStep, IsTaken, IsWhole, IsSoundCursor}
 use Rattle.berreader.specs.Nest.{AreSound, AreInside, IsSoundNest}
 use Rattle.berreader.proofs.CursorLemmas.{count_taken, sound_nest}
-use Rattle.berreader.specs.Feeding.{HasValue, GoesOn, HasBeenFed, EndsWithin, IsDone, IsDoneBefore, IsDoneBehind, IsFed, IsFedStep, IsFresh, IsMore, IsTakenCut, IsTakenWhole, IsGoingOn, IsOfFeeding, IsSoundPieces, IsSoundReader, IsTold, shape_of}
+use Rattle.berreader.specs.Feeding.{HasValue, GoesOn, HasBeenFed, IsDone, IsDoneBefore, IsDoneBehind, IsFed, IsFedStep, IsFresh, IsMore, IsTakenCut, IsTakenWhole, IsGoingOn, IsOfFeeding, IsSoundPieces, IsSoundReader, shape_of}
 
 -- the octets of a front and those behind it
 pub front_and_rest : (n : ℕ) (before octets : List ℕ) → (before ++ take n octets) ++ drop n octets ≡ before ++ octets
@@ -142,9 +141,6 @@ pub of_feeding : (refusal : Refusal) → IsOfReading refusal → (refusal ≡ Tr
 of_feeding Truncated h not = absurd (not refl)
 of_feeding refusal h not = h
 
-pub done_as : (shape : Shape) (new : Pieces) (before octets : List ℕ) (at m n : ℕ) (v w : Value) → v ≡ w → m ≡ n → IsDoneBehind shape new before octets (value_view v) (at + m) → IsDoneBehind shape new before octets (value_view w) (at + n)
-done_as shape new before octets at m n v w values counts h = subst (λ k. IsDoneBehind shape new before octets (value_view w) (at + k)) counts (subst (λ (x : Value). IsDoneBehind shape new before octets (value_view x) (at + m)) values h)
-
 -- octets stand before those that are kept, and all of them are these
 pub record IsAt (pieces : Pieces) (octets : List ℕ) : Type 0 where
   pub before : List ℕ
@@ -229,7 +225,7 @@ pub record IsFedSoFar (initial now : Pieces) (piece : List ℕ) (at : ℕ) : Typ
   pub fed : (octets : List ℕ) → HasBeenFed initial octets → HasBeenFed now (octets ++ take at piece)
 
 -- what stands behind a front of octets that are kept was taken, up to so many before their end
-pub done_behind : (shape : Shape) (new : Pieces) (before rest : List ℕ) (value : Val) (more left : ℕ) → left ≡ length rest - more → IsDoneBehind shape new before rest value more → IsDoneBefore shape new (before ++ rest) value left
+done_behind : (shape : Shape) (new : Pieces) (before rest : List ℕ) (value : Val) (more left : ℕ) → left ≡ length rest - more → IsDoneBehind shape new before rest value more → IsDoneBefore shape new (before ++ rest) value left
 done_behind shape new before rest value more left is done =
     let count : length (before ++ rest) ≡ length before + length rest = length-append before rest in
     record {
@@ -238,15 +234,6 @@ done_behind shape new before rest value more left is done =
       fresh = done.fresh;
     }
 
-pub done_before_as : (shape : Shape) (new : Pieces) (octets : List ℕ) (left : ℕ) (v w : Value) → v ≡ w → IsDoneBefore shape new octets (value_view v) left → IsDoneBefore shape new octets (value_view w) left
-done_before_as shape new octets left v w values h = subst (λ (x : Value). IsDoneBefore shape new octets (value_view x) left) values h
-
-pub taken_whole_is : (old new : Pieces) (before octets : List ℕ) (value : Value) (used : ℕ) (f : fed.Fed) → f ≡ fed.TheVariants.Done value used → IsTakenWhole old new before octets f → IsDoneBehind (shape_of old) new before octets (value_view value) used
-taken_whole_is old new before octets value used f is h = subst (IsTakenWhole old new before octets) is h
-
-pub ends_within_is : (count : ℕ) (value : Value) (used : ℕ) (f : fed.Fed) → f ≡ fed.TheVariants.Done value used → EndsWithin count f → used ≤ count
-ends_within_is count value used f is h = subst (EndsWithin count) is h
-
 -- what is kept is no part of the cursor
 pub shape_kept : (old mid : Pieces) → mid.cursor ≡ old.cursor → shape_of mid ≡ shape_of old
 shape_kept old mid cursor = ap (λ (n : Cursor). ty_view n.nest.ty.now) cursor
@@ -254,9 +241,14 @@ shape_kept old mid cursor = ap (λ (n : Cursor). ty_view n.nest.ty.now) cursor
 pub on_kept : (old mid : Pieces) (before rest other : List ℕ) → mid.cursor ≡ old.cursor → other ≡ rest → GoesOn old.cursor before rest → GoesOn mid.cursor before other
 on_kept old mid before rest other cursor same on = subst (GoesOn mid.cursor before) (sym same) (subst (λ n. GoesOn n before rest) (sym cursor) on)
 
-pub done_kept : (old mid new : Pieces) (before rest other : List ℕ) (value : Val) (used : ℕ) → mid.cursor ≡ old.cursor → other ≡ rest → IsDoneBehind (shape_of mid) new before other value used → IsDoneBehind (shape_of old) new before rest value used
+done_kept : (old mid new : Pieces) (before rest other : List ℕ) (value : Val) (used : ℕ) → mid.cursor ≡ old.cursor → other ≡ rest → IsDoneBehind (shape_of mid) new before other value used → IsDoneBehind (shape_of old) new before rest value used
 done_kept old mid new before rest other value used cursor same h =
     subst (λ o. IsDoneBehind (shape_of old) new before o value used) same (subst (λ shape. IsDoneBehind shape new before other value used) (shape_kept old mid cursor) h)
+
+-- what stands behind a front of the octets that are kept was taken
+pub cut_behind : (old mid new : Pieces) (before rest other : List ℕ) (whole : Option Value) (more left : ℕ) → mid.cursor ≡ old.cursor → other ≡ rest → left ≡ length rest - more → IsTakenWhole mid new before other whole more → IsTakenCut old new (before ++ rest) whole left
+cut_behind old mid new before rest other None more left cursor same is h = subst (λ o. HasBeenFed new (before ++ o)) same h
+cut_behind old mid new before rest other (Some value) more left cursor same is h = done_behind (shape_of old) new before rest (value_view value) more left is (done_kept old mid new before rest other (value_view value) more cursor same h)
 
 pub if_ok : {T E : Type 0} {P Q : T → Type 0} (r : Result T E) → ((x : T) → P x → Q x) → IfOk r P → IfOk r Q
 if_ok (Ok x) f h = f x h
@@ -266,10 +258,10 @@ pub if_err : {T E : Type 0} {P Q : E → Type 0} (r : Result T E) → ((e : E) �
 if_err (Ok x) f h = h
 if_err (Err e) f h = f e h
 
-pub cut_as : (old mid new : Pieces) (octets other : List ℕ) (f : fed.Fed) → shape_of mid ≡ shape_of old → other ≡ octets → IsTakenCut mid new other f → IsTakenCut old new octets f
-cut_as old mid new octets other (fed.TheVariants.Done value left) shape same h =
+pub cut_as : (old mid new : Pieces) (octets other : List ℕ) (whole : Option Value) (left : ℕ) → shape_of mid ≡ shape_of old → other ≡ octets → IsTakenCut mid new other whole left → IsTakenCut old new octets whole left
+cut_as old mid new octets other None left shape same h = subst (HasBeenFed new) same h
+cut_as old mid new octets other (Some value) left shape same h =
     subst (λ o. IsDoneBefore (shape_of old) new o (value_view value) left) same (subst (λ s. IsDoneBefore s new other (value_view value) left) shape h)
-cut_as old mid new octets other fed.TheVariants.More shape same h = subst (HasBeenFed new) same h
 
 pub taken_is : (old new : Cursor) (octets : List ℕ) (used : ℕ) (whole : Option Value) → whole ≡ None → IsStep old new octets whole used → IsTaken old new octets used
 taken_is old new octets used whole is h = subst (λ w. IsStep old new octets w used) is h
@@ -289,17 +281,17 @@ whole_at now new octets value used left at step accepts kept is =
     }
 
 -- no value is whole, and the octets are few enough
-pub more_is_fed : (old new : Pieces) (octets : List ℕ) (r : Result fed.Fed Refusal) → shape_of new ≡ shape_of old → OnOk r (taken_of new.cursor + length new.pending.items ≤ MAX_ENCODING) → IfOk r (λ f. f ≡ fed.TheVariants.More)
-    → ((before : List ℕ) → HasBeenFed old before → HasBeenFed new (before ++ octets)) → IfOk r (λ f. (before : List ℕ) → HasBeenFed old before → IsFed old new before octets f)
-more_is_fed old new octets (Ok f) shape few is goes = λ before h.
+pub more_is_fed : (old new : Pieces) (octets : List ℕ) (whole : Option Value) (r : Result ℕ Refusal) → whole ≡ None → shape_of new ≡ shape_of old → OnOk r (taken_of new.cursor + length new.pending.items ≤ MAX_ENCODING)
+    → ((before : List ℕ) → HasBeenFed old before → HasBeenFed new (before ++ octets)) → IfOk r (λ used. (before : List ℕ) → HasBeenFed old before → IsFed old new before octets whole used)
+more_is_fed old new octets whole (Ok used) none shape few goes = λ before h.
     let been = goes before h in
     let count : length (before ++ octets) ≡ taken_of new.cursor + length new.pending.items = ap length been.joined ∙ length-append been.before new.pending.items ∙ ap (λ n. n + length new.pending.items) (count_taken new.cursor been.before been.goes_on.taken) in
     let more : IsMore (shape_of old) new (before ++ octets) = record { none = subst (λ s. HasValue s (before ++ octets) → ⊥) shape been.none; has_been_fed = been; size = omega (arith, few, count) } in
-    subst (IsFed old new before octets) (sym is) more
-more_is_fed old new octets (Err e) shape few is goes = is
+    subst (λ w. IsFed old new before octets w used) (sym none) more
+more_is_fed old new octets whole (Err e) none shape few goes = tt
 
 -- no value is whole, and they are too many
-pub too_many : (old new : Pieces) (octets : List ℕ) (r : Result fed.Fed Refusal) → shape_of new ≡ shape_of old → (IsErr r → MAX_ENCODING < taken_of new.cursor + length new.pending.items)
+pub too_many : (old new : Pieces) (octets : List ℕ) (r : Result ℕ Refusal) → shape_of new ≡ shape_of old → (IsErr r → MAX_ENCODING < taken_of new.cursor + length new.pending.items)
     → ((before : List ℕ) → HasBeenFed old before → HasBeenFed new (before ++ octets)) → IfErr r (λ refusal. IsFinal refusal → (before more : List ℕ) → HasBeenFed old before → HasValue (shape_of old) ((before ++ octets) ++ more) → ⊥)
 too_many old new octets (Ok f) shape many goes = tt
 too_many old new octets (Err e) shape many goes = λ final before more h value.
@@ -374,44 +366,36 @@ never_cut initial now octets piece next more at count far joined fed never h =
     never (octets ++ take at piece) (behind ++ more) (far.fed octets fed) (subst (λ s. HasValue s (((octets ++ take at piece) ++ next) ++ (behind ++ more))) (sym far.going_on.shape) (subst (HasValue (shape_of initial)) all h))
 
 -- what was taken of the rest
-pub done_rest : (initial now new : Pieces) (octets piece rest : List ℕ) (at used : ℕ) (value : Val) → IsFedSoFar initial now piece at → rest ≡ drop at piece → HasBeenFed initial octets → IsDone (shape_of now) (octets ++ take at piece) rest value used × IsFresh new → IsDone (shape_of initial) octets piece value (at + used) × IsFresh new
+done_rest : (initial now new : Pieces) (octets piece rest : List ℕ) (at used : ℕ) (value : Val) → IsFedSoFar initial now piece at → rest ≡ drop at piece → HasBeenFed initial octets → IsDone (shape_of now) (octets ++ take at piece) rest value used × IsFresh new → IsDone (shape_of initial) octets piece value (at + used) × IsFresh new
 done_rest initial now new octets piece rest at used value far is fed (done, fresh) =
     (fed_of_piece initial now new octets piece at value used far.within far.going_on.shape (subst (λ o. IsDone (shape_of now) (octets ++ take at piece) o value used) is done), fresh)
 
-pub more_rest : (initial now new : Pieces) (octets piece rest : List ℕ) (at : ℕ) → IsFedSoFar initial now piece at → rest ≡ drop at piece → IsMore (shape_of now) new ((octets ++ take at piece) ++ rest) → IsMore (shape_of initial) new (octets ++ piece)
+more_rest : (initial now new : Pieces) (octets piece rest : List ℕ) (at : ℕ) → IsFedSoFar initial now piece at → rest ≡ drop at piece → IsMore (shape_of now) new ((octets ++ take at piece) ++ rest) → IsMore (shape_of initial) new (octets ++ piece)
 more_rest initial now new octets piece rest at far is more =
     let whole : (octets ++ take at piece) ++ rest ≡ octets ++ piece = ap (λ o. (octets ++ take at piece) ++ o) is ∙ front_and_rest at octets piece in
     subst (λ s. IsMore s new (octets ++ piece)) far.going_on.shape (subst (IsMore (shape_of now) new) whole more)
+
+pub rest_is_fed : (initial now new : Pieces) (octets piece rest : List ℕ) (at used : ℕ) (whole : Option Value) → IsFedSoFar initial now piece at → rest ≡ drop at piece → HasBeenFed initial octets → IsFed now new (octets ++ take at piece) rest whole used → IsFed initial new octets piece whole (at + used)
+rest_is_fed initial now new octets piece rest at used None far is fed h = more_rest initial now new octets piece rest at far is h
+rest_is_fed initial now new octets piece rest at used (Some value) far is fed h = done_rest initial now new octets piece rest at used (value_view value) far is fed h
 
 pub never_rest : (initial now : Pieces) (octets piece rest more : List ℕ) (at : ℕ) → IsFedSoFar initial now piece at → rest ≡ drop at piece → HasBeenFed initial octets → ((before more : List ℕ) → HasBeenFed now before → HasValue (shape_of now) ((before ++ rest) ++ more) → ⊥) → HasValue (shape_of initial) ((octets ++ piece) ++ more) → ⊥
 never_rest initial now octets piece rest more at far is fed never h =
     let whole : (octets ++ take at piece) ++ rest ≡ octets ++ piece = ap (λ o. (octets ++ take at piece) ++ o) is ∙ front_and_rest at octets piece in
     never (octets ++ take at piece) more (far.fed octets fed) (subst (λ s. HasValue s (((octets ++ take at piece) ++ rest) ++ more)) (sym far.going_on.shape) (subst (λ o. HasValue (shape_of initial) (o ++ more)) (sym whole) h))
 
-pub taken_cut_is : (old new : Pieces) (octets : List ℕ) (value : Value) (left : ℕ) (f : fed.Fed) → f ≡ fed.TheVariants.Done value left → IsTakenCut old new octets f → IsDoneBefore (shape_of old) new octets (value_view value) left
-taken_cut_is old new octets value left f is h = subst (IsTakenCut old new octets) is h
-
-pub fed_is_done : (old new : Pieces) (before octets : List ℕ) (value : Value) (used : ℕ) (f : fed.Fed) → f ≡ fed.TheVariants.Done value used → IsFed old new before octets f → IsDone (shape_of old) before octets (value_view value) used × IsFresh new
-fed_is_done old new before octets value used f is h = subst (IsFed old new before octets) is h
-
 -- what is answered is what a piece has come to
-told_is : (old new : Pieces) (before piece : List ℕ) (f : fed.Fed) (s : answer.Step) → IsTold f s → IsFed old new before piece f → IsFedStep old new before piece s
-told_is old new before piece (fed.TheVariants.Done value used) (answer.TheVariants.Done other count) same h =
-    subst (λ (w : Value). IsDone (shape_of old) before piece (value_view w) count × IsFresh new) same.0 (subst (λ n. IsDone (shape_of old) before piece (value_view value) n × IsFresh new) same.1 h)
-told_is old new before piece fed.TheVariants.More answer.TheVariants.More same h = h
-told_is old new before piece (fed.TheVariants.Done value used) answer.TheVariants.More same h = absurd same
-told_is old new before piece fed.TheVariants.More (answer.TheVariants.Done other count) same h = absurd same
+pub more_answered : (old new : Pieces) (piece : List ℕ) (whole : Option Value) (used : ℕ) (r : Result answer.Step Refusal) → whole ≡ None → r ≡ Ok answer.TheVariants.More → ((octets : List ℕ) → HasBeenFed old octets → IsFed old new octets piece whole used)
+    → IfOk r (λ step. (octets : List ℕ) → HasBeenFed old octets → IsFedStep old new octets piece step)
+more_answered old new piece whole used r none is h =
+    subst (λ (x : Result answer.Step Refusal). IfOk x (λ step. (octets : List ℕ) → HasBeenFed old octets → IsFedStep old new octets piece step)) (sym is)
+    (λ octets fed. subst (λ w. IsFed old new octets piece w used) none (h octets fed))
 
-pub told_value : (old new : Pieces) (piece : List ℕ) (r : Result fed.Fed Refusal) (s : Result answer.Step Refusal) → IfOk s (λ step. (f : fed.Fed) × (r ≡ Ok f) × IsTold f step)
-    → IfOk r (λ f. (before : List ℕ) → HasBeenFed old before → IsFed old new before piece f) → IfOk s (λ step. (before : List ℕ) → HasBeenFed old before → IsFedStep old new before piece step)
-told_value old new piece r (Ok step) told h = λ before been.
-    let known : IfOk {T = fed.Fed} {E = Refusal} (Ok told.0) (λ f. (o : List ℕ) → HasBeenFed old o → IsFed old new o piece f) = subst (λ (x : Result fed.Fed Refusal). IfOk x (λ f. (o : List ℕ) → HasBeenFed old o → IsFed old new o piece f)) told.1 h in
-    told_is old new before piece told.0 step told.2 (known before been)
-told_value old new piece r (Err e) told h = tt
-
-pub told_refusal : {T S : Type 0} (P : Refusal → Type 0) (r : Result T Refusal) (s : Result S Refusal) → IfErr s (λ refusal. r ≡ Err refusal) → IfErr r P → IfErr s P
-told_refusal P r (Ok step) told h = tt
-told_refusal P r (Err e) told h = subst (λ x. IfErr x P) told h
+pub done_answered : (old new : Pieces) (piece : List ℕ) (whole : Option Value) (used : ℕ) (value : Value) (r : Result answer.Step Refusal) → whole ≡ Some value → r ≡ Ok (answer.TheVariants.Done value used) → ((octets : List ℕ) → HasBeenFed old octets → IsFed old new octets piece whole used)
+    → IfOk r (λ step. (octets : List ℕ) → HasBeenFed old octets → IsFedStep old new octets piece step)
+done_answered old new piece whole used value r some is h =
+    subst (λ (x : Result answer.Step Refusal). IfOk x (λ step. (octets : List ℕ) → HasBeenFed old octets → IsFedStep old new octets piece step)) (sym is)
+    (λ octets fed. subst (λ w. IsFed old new octets piece w used) some (h octets fed))
 
 -- nothing is open
 pub fresh_nest : (nest : Nest) → IsWellFormed (ty_view nest.ty.now) → layers_of nest.layers ≡ [] → IsCounted nest.layers → nest.taken ≡ 0 → IsSoundNest nest

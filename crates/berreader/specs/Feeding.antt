@@ -1,10 +1,11 @@
 -- What a reader over pieces has been fed, and what it answers to the next piece.
-use Rattle.std.specs.Prelude.{◌≡◌, ◌-◌, ◌≤◌, ⊤, ℕ, List, [], ◌++◌, length, take, Some, None}
+use Rattle.std.specs.Prelude.{◌≡◌, ◌-◌, ◌≤◌, ⊤, ℕ, List, [], ◌++◌, length, take, Option, Some, None}
 use Rattle.octets.specs.declared.TheConstants.{MAX_ENCODING}
 use Rattle.octets.specs.Front.{HasFront}
 use Rattle.octets.specs.Rule.{ber}
 use Rattle.types.specs.declared.refusal.Refusal.{Refusal}
 use Rattle.types.specs.declared.refusal.Refusal.TheVariants.{Truncated}
+use Rattle.types.specs.declared.value.Value.{Value}
 use Rattle.types.specs.Encoding.{IsAccepted, IsSomeAccepted, most_nested}
 use Rattle.types.specs.Refusal.{IsOfReading}
 use Rattle.types.specs.Shape.{Shape, Val}
@@ -12,7 +13,6 @@ use Rattle.types.specs.View.{ty_view, value_view}
 use Rattle.types.specs.WellFormed.{IsWellFormed}
 use Rattle.berreader.specs.declared.cursor.Cursor.{Cursor}
 use Rattle.berreader.specs.declared.pieces.Pieces.{Pieces}
-use Rattle.berreader.specs.declared.pieces.Fed as fed
 use Rattle.berreader.specs.declared.reader.Step as step
 use Rattle.berreader.specs.Cursor.{depth_of, CanFinish, HasTaken, IsSoundCursor}
 use Rattle.berreader.specs.Stack.{layers_of}
@@ -62,10 +62,10 @@ pub record IsMore (shape : Shape) (new : Pieces) (octets : List ℕ) : Type 0 wh
   pub has_been_fed : HasBeenFed new octets
   pub size : length octets ≤ MAX_ENCODING
 
--- what is answered to a piece after these octets
-abbrev pub IsFed : Pieces → Pieces → List ℕ → List ℕ → fed.Fed → Type 0
-IsFed old new octets piece (fed.TheVariants.Done value used) = IsDone (shape_of old) octets piece (value_view value) used × IsFresh new
-IsFed old new octets piece fed.TheVariants.More = IsMore (shape_of old) new (octets ++ piece)
+-- what a piece comes to after these octets, by the value that is whole, if one is
+abbrev pub IsFed : Pieces → Pieces → List ℕ → List ℕ → Option Value → ℕ → Type 0
+IsFed old new octets piece None used = IsMore (shape_of old) new (octets ++ piece)
+IsFed old new octets piece (Some value) used = IsDone (shape_of old) octets piece (value_view value) used × IsFresh new
 
 -- what holds of a reader that has refused nothing
 pub record IsSoundPieces (pieces : Pieces) : Type 0 where
@@ -90,9 +90,9 @@ pub record IsDoneBehind (shape : Shape) (new : Pieces) (before octets : List ℕ
   pub accepted : IsAccepted ber shape value (before ++ take used octets)
   pub fresh : IsFresh new
 
-abbrev pub IsTakenWhole : Pieces → Pieces → List ℕ → List ℕ → fed.Fed → Type 0
-IsTakenWhole old new before octets (fed.TheVariants.Done value used) = IsDoneBehind (shape_of old) new before octets (value_view value) used
-IsTakenWhole old new before octets fed.TheVariants.More = HasBeenFed new (before ++ octets)
+abbrev pub IsTakenWhole : Pieces → Pieces → List ℕ → List ℕ → Option Value → ℕ → Type 0
+IsTakenWhole old new before octets None used = HasBeenFed new (before ++ octets)
+IsTakenWhole old new before octets (Some value) used = IsDoneBehind (shape_of old) new before octets (value_view value) used
 
 -- a value that ends so many octets before the end of these
 pub record IsDoneBefore (shape : Shape) (new : Pieces) (octets : List ℕ) (value : Val) (left : ℕ) : Type 0 where
@@ -100,9 +100,9 @@ pub record IsDoneBefore (shape : Shape) (new : Pieces) (octets : List ℕ) (valu
   pub accepted : IsAccepted ber shape value (take (length octets - left) octets)
   pub fresh : IsFresh new
 
-abbrev pub IsTakenCut : Pieces → Pieces → List ℕ → fed.Fed → Type 0
-IsTakenCut old new octets (fed.TheVariants.Done value left) = IsDoneBefore (shape_of old) new octets (value_view value) left
-IsTakenCut old new octets fed.TheVariants.More = HasBeenFed new octets
+abbrev pub IsTakenCut : Pieces → Pieces → List ℕ → Option Value → ℕ → Type 0
+IsTakenCut old new octets None left = HasBeenFed new octets
+IsTakenCut old new octets (Some value) left = IsDoneBefore (shape_of old) new octets (value_view value) left
 
 -- nothing was refused, and no octet has come since the last value
 pub record IsFinished (pieces : Pieces) : Type 0 where
@@ -119,14 +119,3 @@ IsFedStep old new octets piece step.TheVariants.More = IsMore (shape_of old) new
 abbrev pub EndsStepWithin : ℕ → step.Step → Type 0
 EndsStepWithin count (step.TheVariants.Done value used) = used ≤ count
 EndsStepWithin count step.TheVariants.More = ⊤
-
--- a value ends within so many octets
-abbrev pub EndsWithin : ℕ → fed.Fed → Type 0
-EndsWithin count (fed.TheVariants.Done value used) = used ≤ count
-EndsWithin count fed.TheVariants.More = ⊤
-
--- the same, as it is answered
-abbrev pub IsTold : fed.Fed → step.Step → Type 0
-IsTold (fed.TheVariants.Done value used) (step.TheVariants.Done other count) = (value ≡ other) × (used ≡ count)
-IsTold fed.TheVariants.More step.TheVariants.More = ⊤
-IsTold _ _ = ⊥

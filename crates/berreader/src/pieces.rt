@@ -6,7 +6,7 @@ ghost use Rattle.types.specs.Refusal.{IsFinal, IsOfReading};
 ghost use Rattle.types.specs.View.{ty_view};
 ghost use Rattle.berreader.specs.Stack.{layers_of, IsCounted};
 ghost use Rattle.berreader.specs.Cursor.{taken_of, CanFinish, IsSoundCursor, IsStep};
-ghost use Rattle.berreader.specs.Feeding.{EndsWithin, GoesOn, HasBeenFed, HasValue, IsFed, IsFinished, IsFresh, IsGoingOn, IsOfFeeding, IsSoundPieces, IsSoundReader, IsTakenCut, IsTakenWhole, shape_of};
+ghost use Rattle.berreader.specs.Feeding.{GoesOn, HasBeenFed, HasValue, IsFed, IsFinished, IsFresh, IsGoingOn, IsOfFeeding, IsSoundPieces, IsSoundReader, IsTakenCut, IsTakenWhole, shape_of};
 
 use crate::cursor::Cursor;
 use octets::{Head, Length, MAX_ENCODING, read_identifier, read_length};
@@ -25,15 +25,6 @@ pub struct Pieces<'a> {
     pub refused: Option<Refusal>,
 }
 
-/// What a piece has come to.
-#[derive(Debug, Drop)]
-pub enum Fed {
-    /// The whole piece was taken, and no value is whole.
-    More,
-    /// A value, and how many octets of the piece complete it.
-    Done(Value, usize),
-}
-
 impl<'a> Pieces<'a> {
     // No octet has come of a value of the type.
     pub fn new(alloc: Global, ty: &'a Ty) -> Pieces<'a>
@@ -49,13 +40,15 @@ impl<'a> Pieces<'a> {
         }
     }
 
-    // Takes a piece.
-    pub fn feed(&mut self, piece: &[u8]) -> Result<Fed, Refusal>
-        requires { IsSoundReader self.old }
+    // Takes a piece, and returns how many octets of it were taken: all of them, unless a value is whole, which
+    // is put into `whole`.
+    pub fn feed(&mut self, piece: &[u8], whole: &mut Option<Value>) -> Result<usize, Refusal>
+        requires sound { IsSoundReader self.old }
+        requires whole { whole.old ≡ None }
         ensures sound { IsSoundReader self.new }
         ensures shape { OnOk result (shape_of self.new ≡ shape_of self.old) }
-        ensures there { IfOk result (EndsWithin (length piece.now)) }
-        ensures value { IfOk result (λ fed. (octets : List ℕ) → HasBeenFed self.old octets → IsFed self.old self.new octets piece.now fed) }
+        ensures there { IfOk result (λ used. used ≤ length piece.now) }
+        ensures value { IfOk result (λ used. (octets : List ℕ) → HasBeenFed self.old octets → IsFed self.old self.new octets piece.now whole.new used) }
         ensures never { self.old.refused ≡ None → IfErr result (λ refusal. IsFinal refusal → (octets more : List ℕ) →
             HasBeenFed self.old octets → ¬ HasValue (shape_of self.old) ((octets ++ piece.now) ++ more)) }
         ensures refused { IfErr result (λ refusal. self.new.refused ≡ Some refusal) }
@@ -65,8 +58,8 @@ impl<'a> Pieces<'a> {
         if let Some(refusal) = self.refused {
             return Err(refusal);
         }
-        match self.take(piece) {
-            Ok(fed) => Ok(fed),
+        match self.take(piece, whole) {
+            Ok(used) => Ok(used),
             Err(refusal) => {
                 self.refuse(refusal);
                 Err(refusal)
@@ -100,13 +93,33 @@ impl<'a> Pieces<'a> {
         }
     }
 
-    // Takes a piece behind those octets that are kept.
-    fn take(&mut self, piece: &[u8]) -> Result<Fed, Refusal>
+    // Takes a piece behind those octets that are kept, which mostly are none.
+    fn take(&mut self, piece: &[u8], whole: &mut Option<Value>) -> Result<usize, Refusal>
         requires accepts { self.old.refused ≡ None }
         requires sound { IsSoundPieces self.old }
+        requires whole { whole.old ≡ None }
         ensures going_on { OnOk result (IsGoingOn self.old self.new) }
-        ensures there { IfOk result (EndsWithin (length piece.now)) }
-        ensures value { IfOk result (λ fed. (octets : List ℕ) → HasBeenFed self.old octets → IsFed self.old self.new octets piece.now fed) }
+        ensures there { IfOk result (λ used. used ≤ length piece.now) }
+        ensures value { IfOk result (λ used. (octets : List ℕ) → HasBeenFed self.old octets → IsFed self.old self.new octets piece.now whole.new used) }
+        ensures never { IfErr result (λ refusal. IsFinal refusal → (octets more : List ℕ) →
+            HasBeenFed self.old octets → ¬ HasValue (shape_of self.old) ((octets ++ piece.now) ++ more)) }
+        ensures numbers { IfErr result IsOfFeeding }
+    {
+        if self.keeps_none() {
+            self.take_rest(piece, whole)
+        } else {
+            self.take_on(piece, whole)
+        }
+    }
+
+    // Takes a piece behind octets that are kept, until none are.
+    fn take_on(&mut self, piece: &[u8], whole: &mut Option<Value>) -> Result<usize, Refusal>
+        requires accepts { self.old.refused ≡ None }
+        requires sound { IsSoundPieces self.old }
+        requires whole { whole.old ≡ None }
+        ensures going_on { OnOk result (IsGoingOn self.old self.new) }
+        ensures there { IfOk result (λ used. used ≤ length piece.now) }
+        ensures value { IfOk result (λ used. (octets : List ℕ) → HasBeenFed self.old octets → IsFed self.old self.new octets piece.now whole.new used) }
         ensures never { IfErr result (λ refusal. IsFinal refusal → (octets more : List ℕ) →
             HasBeenFed self.old octets → ¬ HasValue (shape_of self.old) ((octets ++ piece.now) ++ more)) }
         ensures numbers { IfErr result IsOfFeeding }
@@ -116,51 +129,54 @@ impl<'a> Pieces<'a> {
             let (_, rest) = piece.split_at(at);
             let count = lacking(&self.pending).min(rest.len());
             let (next, _) = rest.split_at(count);
-            match self.take_cut(next) {
-                Ok(Fed::Done(value, left)) => {
-                    return Ok(Fed::Done(value, (at + count).saturating_sub(left)));
-                }
-                Ok(Fed::More) => at += count,
+            match self.take_cut(next, whole) {
+                Ok(left) => match whole {
+                    None => at += count,
+                    Some(_) => return Ok((at + count).saturating_sub(left)),
+                },
                 Err(refusal) => return Err(refusal),
             }
         }
         let (_, rest) = piece.split_at(at);
-        match self.take_rest(rest) {
-            Ok(Fed::Done(value, used)) => Ok(Fed::Done(value, at + used)),
-            Ok(Fed::More) => Ok(Fed::More),
+        match self.take_rest(rest, whole) {
+            Ok(used) => Ok(at + used),
             Err(refusal) => Err(refusal),
         }
     }
 
     // Takes octets, where none are kept, or there are none to take.
-    fn take_rest(&mut self, octets: &[u8]) -> Result<Fed, Refusal>
+    fn take_rest(&mut self, octets: &[u8], whole: &mut Option<Value>) -> Result<usize, Refusal>
         requires accepts { self.old.refused ≡ None }
         requires sound { IsSoundPieces self.old }
+        requires whole { whole.old ≡ None }
         requires either { (self.old.pending.items ≡ []) ⊎ (octets.now ≡ []) }
         ensures going_on { OnOk result (IsGoingOn self.old self.new) }
-        ensures there { IfOk result (EndsWithin (length octets.now)) }
-        ensures value { IfOk result (λ fed. (before : List ℕ) → HasBeenFed self.old before → IsFed self.old self.new before octets.now fed) }
+        ensures there { IfOk result (λ used. used ≤ length octets.now) }
+        ensures value { IfOk result (λ used. (before : List ℕ) → HasBeenFed self.old before → IsFed self.old self.new before octets.now whole.new used) }
         ensures never { IfErr result (λ refusal. IsFinal refusal → (before more : List ℕ) →
             HasBeenFed self.old before → ¬ HasValue (shape_of self.old) ((before ++ octets.now) ++ more)) }
         ensures numbers { IfErr result IsOfFeeding }
     {
         if !self.keeps_none() {
-            return self.more();
+            return self.more(octets.len());
         }
-        match self.take_whole(octets) {
-            Ok(Fed::Done(value, used)) => Ok(Fed::Done(value, used)),
-            Ok(Fed::More) => self.more(),
+        match self.take_whole(octets, whole) {
+            Ok(used) => match whole {
+                None => self.more(used),
+                Some(_) => Ok(used),
+            },
             Err(refusal) => Err(refusal),
         }
     }
 
-    // Takes octets behind those that are kept; of a value that is whole, it answers how many are left.
-    fn take_cut(&mut self, octets: &[u8]) -> Result<Fed, Refusal>
+    // Takes octets behind those that are kept, and returns how many are left: none, unless a value is whole.
+    fn take_cut(&mut self, octets: &[u8], whole: &mut Option<Value>) -> Result<usize, Refusal>
         requires accepts { self.old.refused ≡ None }
         requires sound { IsSoundPieces self.old }
+        requires whole { whole.old ≡ None }
         ensures going_on { OnOk result (IsGoingOn self.old self.new) }
-        ensures value { IfOk result (λ fed. (before : List ℕ) → HasBeenFed self.old before →
-            IsTakenCut self.old self.new (before ++ octets.now) fed) }
+        ensures value { IfOk result (λ left. (before : List ℕ) → HasBeenFed self.old before →
+            IsTakenCut self.old self.new (before ++ octets.now) whole.new left) }
         ensures never { IfErr result (λ refusal. IsFinal refusal → (before more : List ℕ) →
             HasBeenFed self.old before → ¬ HasValue (shape_of self.old) ((before ++ octets.now) ++ more)) }
         ensures numbers { IfErr result IsOfFeeding }
@@ -168,19 +184,19 @@ impl<'a> Pieces<'a> {
         if let Err(refusal) = self.keep(octets) {
             return Err(refusal);
         }
-        let mut whole = None;
-        match self.step_kept(&mut whole) {
+        match self.step_kept(whole) {
             Ok(used) => match whole {
-                None => self.take_behind(used),
-                Some(value) => {
+                None => self.take_behind(used, whole),
+                Some(_) => {
                     let left = self.pending.as_slice().len() - used;
                     self.forget();
-                    Ok(Fed::Done(value, left))
+                    Ok(left)
                 }
             },
             Err(refusal) => {
                 if is_missing(refusal) {
-                    Ok(Fed::More)
+                    *whole = None;
+                    Ok(0)
                 } else {
                     Err(refusal)
                 }
@@ -188,28 +204,29 @@ impl<'a> Pieces<'a> {
         }
     }
 
-    // Takes the octets that are kept behind so many; of a value that is whole, it answers how many are left.
-    fn take_behind(&mut self, used: usize) -> Result<Fed, Refusal>
+    // Takes the octets that are kept behind so many, and returns how many are left: none, unless a value is
+    // whole.
+    fn take_behind(&mut self, used: usize, whole: &mut Option<Value>) -> Result<usize, Refusal>
         requires accepts { self.old.refused ≡ None }
         requires sound { IsSoundPieces self.old }
+        requires whole { whole.old ≡ None }
         requires there { used ≤ length self.old.pending.items }
         ensures going_on { OnOk result (IsGoingOn self.old self.new) }
-        ensures value { IfOk result (λ fed. (before : List ℕ) → GoesOn self.old.cursor before (drop used self.old.pending.items) →
-            IsTakenCut self.old self.new (before ++ drop used self.old.pending.items) fed) }
+        ensures value { IfOk result (λ left. (before : List ℕ) → GoesOn self.old.cursor before (drop used self.old.pending.items) →
+            IsTakenCut self.old self.new (before ++ drop used self.old.pending.items) whole.new left) }
         ensures never { IfErr result (λ refusal. IsFinal refusal → (before more : List ℕ) →
             GoesOn self.old.cursor before (drop used self.old.pending.items) →
             ¬ HasValue (shape_of self.old) (before ++ (drop used self.old.pending.items ++ more))) }
         ensures numbers { IfErr result IsOfFeeding }
     {
         let kept = self.take_kept();
-        match self.take_whole(&kept[used..]) {
-            Ok(Fed::Done(value, more)) => Ok(Fed::Done(value, kept.len() - used - more)),
-            Ok(Fed::More) => Ok(Fed::More),
+        match self.take_whole(&kept[used..], whole) {
+            Ok(more) => Ok(kept.len() - used - more),
             Err(refusal) => Err(refusal),
         }
     }
 
-    // Takes a step over octets beside those that are kept.
+    // Takes a step over octets beside those that are kept. Nothing is said of `whole` where it is refused.
     fn step(&mut self, octets: &[u8], whole: &mut Option<Value>) -> Result<usize, Refusal>
         requires sound { IsSoundCursor self.old.cursor }
         requires whole { whole.old ≡ None }
@@ -226,7 +243,7 @@ impl<'a> Pieces<'a> {
         self.cursor.step(self.alloc, octets, whole)
     }
 
-    // Takes a step over the octets that are kept.
+    // Takes a step over the octets that are kept. Nothing is said of `whole` where it is refused.
     fn step_kept(&mut self, whole: &mut Option<Value>) -> Result<usize, Refusal>
         requires sound { IsSoundCursor self.old.cursor }
         requires whole { whole.old ≡ None }
@@ -282,15 +299,17 @@ impl<'a> Pieces<'a> {
         std::mem::replace(&mut self.pending, Vec::new(self.alloc))
     }
 
-    // Takes the whole steps at the front, and keeps the rest.
-    fn take_whole(&mut self, octets: &[u8]) -> Result<Fed, Refusal>
+    // Takes the whole steps at the front, up to a value that is whole, and returns how many octets were taken.
+    // Where no value is whole, it keeps the rest.
+    fn take_whole(&mut self, octets: &[u8], whole: &mut Option<Value>) -> Result<usize, Refusal>
         requires accepts { self.old.refused ≡ None }
         requires sound { IsSoundPieces self.old }
+        requires whole { whole.old ≡ None }
         requires kept { self.old.pending.items ≡ [] }
         ensures going_on { OnOk result (IsGoingOn self.old self.new) }
-        ensures there { IfOk result (EndsWithin (length octets.now)) }
-        ensures value { IfOk result (λ fed. (before : List ℕ) → GoesOn self.old.cursor before octets.now →
-            IsTakenWhole self.old self.new before octets.now fed) }
+        ensures there { IfOk result (λ used. used ≤ length octets.now) }
+        ensures value { IfOk result (λ used. (before : List ℕ) → GoesOn self.old.cursor before octets.now →
+            IsTakenWhole self.old self.new before octets.now whole.new used) }
         ensures never { IfErr result (λ refusal. IsFinal refusal → (before more : List ℕ) →
             GoesOn self.old.cursor before octets.now → ¬ HasValue (shape_of self.old) (before ++ (octets.now ++ more))) }
         ensures numbers { IfErr result IsOfFeeding }
@@ -298,35 +317,36 @@ impl<'a> Pieces<'a> {
         let mut at = 0;
         loop {
             let rest = &octets[at..];
-            let mut whole = None;
-            match self.step(rest, &mut whole) {
+            match self.step(rest, whole) {
                 Ok(used) => match whole {
                     None => at += used,
-                    Some(value) => return Ok(Fed::Done(value, at + used)),
+                    Some(_) => return Ok(at + used),
                 },
                 Err(refusal) => {
                     if !is_missing(refusal) {
                         return Err(refusal);
                     }
+                    *whole = None;
                     self.keep(rest)?;
-                    return Ok(Fed::More);
+                    return Ok(octets.len());
                 }
             }
         }
     }
 
-    // No value is whole: there may be more octets, unless these are too many.
-    fn more(&self) -> Result<Fed, Refusal>
+    // No value is whole, and so many octets of a piece were taken: there may be more, unless there are too
+    // many already.
+    fn more(&self, used: usize) -> Result<usize, Refusal>
         requires { taken_of self.now.cursor ≤ MAX_ENCODING }
         ensures few { OnOk result (taken_of self.now.cursor + length self.now.pending.items ≤ MAX_ENCODING) }
-        ensures more { IfOk result (λ fed. fed ≡ Fed.More) }
+        ensures used { IfOk result (λ n. n ≡ used) }
         ensures many { IsErr result → MAX_ENCODING < taken_of self.now.cursor + length self.now.pending.items }
         ensures numbers { IfErr result (λ refusal. refusal ≡ Refusal.TooLong) }
     {
         if self.pending.len() > MAX_ENCODING - self.cursor.taken() {
             Err(Refusal::TooLong)
         } else {
-            Ok(Fed::More)
+            Ok(used)
         }
     }
 }

@@ -1,10 +1,6 @@
 //! Reads values from octets that come in pieces.
 
-ghost use Rattle.std.specs.Prelude.{◌≡◌, Ok, Err, IfOk, IfErr};
-ghost use Rattle.berreader.specs.declared.pieces.Fed.{Fed as FedOf};
-ghost use Rattle.berreader.specs.Feeding.{IsTold};
-
-use crate::pieces::{Fed, Pieces};
+use crate::pieces::Pieces;
 use std::alloc::Global;
 use std::marker::Model;
 use types::{Refusal, Value, WellTyped};
@@ -88,7 +84,12 @@ impl<'a> Reader<'a> {
         ensures again { (refusal : Refusal) → self.old.refused ≡ Some refusal → result ≡ Err refusal }
         ensures numbers { IfErr result IsOfFeeding }
     {
-        told(self.pieces.feed(piece))
+        let mut whole = None;
+        let used = self.pieces.feed(piece, &mut whole)?;
+        match whole {
+            None => Ok(Step::More),
+            Some(value) => Ok(Step::Done { value, used }),
+        }
     }
 
     /// Whether no value is begun; else `Truncated`, or what an earlier piece was refused with. Takes no memory.
@@ -97,17 +98,5 @@ impl<'a> Reader<'a> {
         ensures refused { IfErr result (λ refusal. (self.now.refused ≡ Some refusal) ⊎ ((self.now.refused ≡ None) × (refusal ≡ Refusal.Truncated))) }
     {
         self.pieces.finish()
-    }
-}
-
-// What a piece has come to, as it is answered.
-fn told(fed: Result<Fed, Refusal>) -> Result<Step, Refusal>
-    ensures ok { IfOk result (λ step. (f : FedOf) × (fed ≡ Ok f) × IsTold f step) }
-    ensures refused { IfErr result (λ refusal. fed ≡ Err refusal) }
-{
-    match fed {
-        Ok(Fed::More) => Ok(Step::More),
-        Ok(Fed::Done(value, used)) => Ok(Step::Done { value, used }),
-        Err(refusal) => Err(refusal),
     }
 }

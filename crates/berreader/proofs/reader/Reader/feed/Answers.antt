@@ -1,26 +1,39 @@
-use Rattle.std.proofs.Common.{◌≡◌, List, ℕ, ◌++◌, None, IfOk, IfErr, subst}
+use Rattle.std.proofs.Common.{◌≡◌, ◌++◌, List, ℕ, None, IfOk, IfErr, subst}
+use Rattle.octets.proofs.ResultLemmas.{IfErr-from}
 use Rattle.types.specs.Refusal.{IsFinal}
 use Rattle.berreader.specs.declared.pieces.Pieces.{Pieces}
 use Rattle.berreader.specs.Feeding.{HasBeenFed, HasValue, IsFedStep, shape_of}
-use Rattle.berreader.proofs.FeedingLemmas.{told_value, told_refusal}
 use Rattle.berreader.specs.Weight.{IsLight}
-use Rattle.berreader.proofs.HeldLemmas.{fed_light, held_light}
+use Rattle.berreader.proofs.HeldLemmas.{held_light, fed_light}
+use Rattle.berreader.proofs.FeedingLemmas.{more_answered, done_answered}
 use Rattle.berreader.proofs.reader.Reader.feed.Goals as goal
+use Rattle.berreader.proofs.reader.Reader.feed.Goals.{in-None, in-Some}
 
-pub returns-clause-held : goal.returns-clause-held
-returns-clause-held c = λ octets fed. held_light c.feed.new.self octets fed
+answered : (c : goal.Joined-whole-3) → IfOk c.match-whole-3.result (λ step. (octets : List ℕ) → HasBeenFed c.self.inside.pieces octets → IsFedStep c.self.inside.pieces c.feed.new.self octets c.args.piece.now step)
+answered c =
+    let old = c.self.inside.pieces in
+    let new = c.feed.new.self in
+    let piece = c.args.piece.now in
+    let used = c.in_ok-used.used in
+    elim c.match-whole-3.branch [
+      | in-None w ↦ more_answered old new piece c.feed.new.whole used c.match-whole-3.result w.in-None.is w.result-is c.in_ok-used.ensures.value
+      | in-Some w ↦ done_answered old new piece c.feed.new.whole used w.in-Some.value c.match-whole-3.result w.in-Some.is w.result-is c.in_ok-used.ensures.value
+    ]
 
-pub returns-clause-light : goal.returns-clause-light
-returns-clause-light c =
-    subst (λ (old : Pieces). IfOk c.told.result (λ step. (before : List ℕ) → HasBeenFed old before → IsLight (shape_of old) before step)) c.self.view_is
-    (fed_light c.self.inside.pieces c.feed.new.self c.args.piece.now c.told.result (told_value c.self.inside.pieces c.feed.new.self c.args.piece.now c.feed.result c.told.result c.told.ensures.ok c.feed.ensures.value))
+pub returns-in_err-used-clause-never : goal.returns-in_err-used-clause-never
+returns-in_err-used-clause-never c =
+    subst (λ (old : Pieces). old.refused ≡ None → IfErr c.from_residual.result (λ refusal. IsFinal refusal → (octets more : List ℕ) → HasBeenFed old octets → HasValue (shape_of old) ((octets ++ c.args.piece.now) ++ more) → ⊥)) c.self.view_is
+    (λ accepts. IfErr-from c.from_residual.result _ (λ refusal. IsFinal refusal → (octets more : List ℕ) → HasBeenFed c.self.inside.pieces octets → HasValue (shape_of c.self.inside.pieces) ((octets ++ c.args.piece.now) ++ more) → ⊥) c.from_residual.ensures.1
+    (λ refusal same final. c.in_err-used.ensures.never accepts (subst IsFinal same final)))
 
 pub returns-clause-value : goal.returns-clause-value
 returns-clause-value c =
-    subst (λ (old : Pieces). IfOk c.told.result (λ step. (before : List ℕ) → HasBeenFed old before → IsFedStep old c.feed.new.self before c.args.piece.now step)) c.self.view_is
-    (told_value c.self.inside.pieces c.feed.new.self c.args.piece.now c.feed.result c.told.result c.told.ensures.ok c.feed.ensures.value)
+    subst (λ (old : Pieces). IfOk c.match-whole-3.result (λ step. (before : List ℕ) → HasBeenFed old before → IsFedStep old c.feed.new.self before c.args.piece.now step)) c.self.view_is (answered c)
 
-pub returns-clause-never : goal.returns-clause-never
-returns-clause-never c =
-    subst (λ (old : Pieces). old.refused ≡ None → IfErr c.told.result (λ refusal. IsFinal refusal → (octets more : List ℕ) → HasBeenFed old octets → HasValue (shape_of old) ((octets ++ c.args.piece.now) ++ more) → ⊥)) c.self.view_is (λ accepts.
-    told_refusal (λ refusal. IsFinal refusal → (octets more : List ℕ) → HasBeenFed c.self.inside.pieces octets → HasValue (shape_of c.self.inside.pieces) ((octets ++ c.args.piece.now) ++ more) → ⊥) c.feed.result c.told.result c.told.ensures.refused (c.feed.ensures.never accepts))
+pub returns-clause-light : goal.returns-clause-light
+returns-clause-light c =
+    subst (λ (old : Pieces). IfOk c.match-whole-3.result (λ step. (before : List ℕ) → HasBeenFed old before → IsLight (shape_of old) before step)) c.self.view_is
+    (fed_light c.self.inside.pieces c.feed.new.self c.args.piece.now c.match-whole-3.result (answered c))
+
+pub returns-clause-held : goal.returns-clause-held
+returns-clause-held c = λ octets fed. held_light c.feed.new.self octets fed
