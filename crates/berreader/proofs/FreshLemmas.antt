@@ -1,20 +1,23 @@
 -- Lemmas on a reader of whose next value no octet has come.
-use Rattle.std.proofs.Common.{◌≡◌, ◌+◌, ◌≤◌, ℕ, List, [], ◌++◌, length, take, refl, sym, ap, ◌∙◌, subst, arith, length-append}
+use Rattle.std.proofs.Common.{◌≡◌, ◌+◌, ◌≤◌, ℕ, List, [], ◌∷◌, ◌++◌, Option, None, Some, IfSome, IsSome, length, take, refl, sym, ap, ◌∙◌, subst, arith, length-append}
 use Rattle.std.proofs.lemmas.List.{take_all}
 use Rattle.octets.specs.declared.TheConstants.{MAX_ENCODING}
 use Rattle.octets.specs.Front.{HasFront}
 use Rattle.octets.specs.Rule.{ber}
 use Rattle.types.specs.declared.value.Value.{Value}
 use Rattle.types.specs.Encoding.{IsAccepted, IsEncoding, most_nested}
-use Rattle.types.specs.Shape.{Shape}
+use Rattle.types.specs.Shape.{Shape, Val}
 use Rattle.types.specs.View.{value_view}
 use Rattle.types.proofs.ApartInstances.{of_no_octets}
 use Rattle.berreader.specs.declared.pieces.Pieces.{Pieces}
 use Rattle.berreader.specs.declared.reader.Step as answer
 use Rattle.contents.specs.Parts.{IsPartWithin}
-use Rattle.berreader.specs.Nest.{CanComplete, StandsAt}
-use Rattle.berreader.specs.Feeding.{HasBeenFed, HasValue, IsDone, IsFedStep, IsFinished, IsFresh, IsMore, shape_of}
+use Rattle.contents.proofs.StepLemmas.{opening_some}
+use Rattle.berreader.specs.Nest.{end_inside, CanComplete, StandsAt}
+use Rattle.berreader.specs.Stack.{Layer, layers_of}
+use Rattle.berreader.specs.Feeding.{HasBeenFed, HasValue, IsDone, IsFed, IsFedStep, IsFinished, IsFresh, IsMore, shape_of}
 use Rattle.berreader.proofs.AcceptedLemmas.{within_of_accepted}
+use Rattle.berreader.proofs.FeedingLemmas.{done_is_fed}
 use Rattle.berreader.proofs.CursorLemmas.{finishes, no_octets, none_begun, taken_by_nest, taken_of_nest}
 
 none_in_none : (shape : Shape) → HasValue shape [] → ⊥
@@ -70,6 +73,41 @@ fed_none_finished pieces fed =
   where
     zero_of : (n : ℕ) → n ≤ 0 → n ≡ 0
     zero_of n h = omega (arith, h)
+
+-- no encoding is open where no octet has been taken
+none_open : (shape : Shape) (layers : List Layer) (octets : List ℕ) → length octets ≡ 0 → StandsAt shape layers octets → layers ≡ []
+none_open shape [] octets none h = refl
+none_open shape (layer ∷ others) octets none h =
+    let head : 2 ≤ length h.head = opening_some layer.tag (end_inside others) (length h.before) layer.frame h.head h.opening in
+    absurd (omega (arith, none, ap length h.joined, length-append h.before (h.head ++ h.contents), length-append h.head h.contents, head))
+
+pub finished_fresh : (pieces : Pieces) (octets : List ℕ) → IsFinished pieces → HasBeenFed pieces octets → IsFresh pieces
+finished_fresh pieces octets done fed =
+    let cursor = pieces.cursor in
+    let taken = taken_by_nest cursor fed.before done.string fed.goes_on.taken in
+    record {
+      accepts = done.accepts;
+      layers = none_open (shape_of pieces) (layers_of cursor.nest.layers) fed.before (taken.count ∙ done.taken) taken.stands;
+      taken = done.taken;
+      string = done.string;
+      kept = done.kept;
+    }
+
+-- a value that is whole in the piece, where no value is begun
+pub done_at_once : (pieces : Pieces) (octets piece : List ℕ) (value : Val) (used : ℕ) → IsFinished pieces → HasBeenFed pieces octets → used ≤ length piece → IsAccepted ber (shape_of pieces) value (take used piece)
+    → IsDone (shape_of pieces) octets piece value used × IsFresh pieces
+done_at_once pieces octets piece value used done fed there accepted =
+    let none : octets ≡ [] = finished_has_been_fed pieces octets done fed in
+    done_is_fed pieces pieces octets piece value used fed.none record {
+      there = there;
+      accepted = subst (λ o. IsAccepted ber (shape_of pieces) value (o ++ take used piece)) (sym none) accepted;
+      fresh = finished_fresh pieces octets done fed;
+    }
+
+pub fed_at_once : (pieces : Pieces) (octets piece : List ℕ) (whole : Option Value) (used : ℕ) → IsFinished pieces → HasBeenFed pieces octets → used ≤ length piece → IfSome whole (λ value. IsAccepted ber (shape_of pieces) (value_view value) (take used piece)) → IsSome whole
+    → IsFed pieces pieces octets piece whole used
+fed_at_once pieces octets piece None used done fed there accepted some = absurd (cc some)
+fed_at_once pieces octets piece (Some value) used done fed there accepted some = done_at_once pieces octets piece (value_view value) used done fed there accepted
 
 -- what the first piece comes to
 pub read_done : (shape : Shape) (old new : Pieces) (octets : List ℕ) (value : Value) (used : ℕ) (step : answer.Step) → shape_of old ≡ shape → HasBeenFed old [] → step ≡ answer.TheVariants.Done value used

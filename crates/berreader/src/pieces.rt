@@ -9,6 +9,7 @@ ghost use Rattle.berreader.specs.Cursor.{taken_of, CanFinish, IsSoundCursor, IsS
 ghost use Rattle.berreader.specs.Feeding.{GoesOn, HasBeenFed, HasValue, IsFed, IsFinished, IsFresh, IsGoingOn, IsOfFeeding, IsSoundPieces, IsSoundReader, IsTakenCut, IsTakenWhole, shape_of};
 
 use crate::cursor::Cursor;
+use contents::read_simple;
 use octets::{Head, Length, MAX_ENCODING, read_identifier, read_length};
 use std::alloc::Global;
 use types::{Refusal, Ty, Value};
@@ -93,7 +94,8 @@ impl<'a> Pieces<'a> {
         }
     }
 
-    // Takes a piece behind those octets that are kept, which mostly are none.
+    // Takes a piece behind those octets that are kept, which mostly are none. A value that is begun by none of them
+    // and needs no memory may be read at once.
     fn take(&mut self, piece: &[u8], whole: &mut Option<Value>) -> Result<usize, Refusal>
         requires accepts { self.old.refused ≡ None }
         requires sound { IsSoundPieces self.old }
@@ -105,14 +107,19 @@ impl<'a> Pieces<'a> {
             HasBeenFed self.old octets → ¬ HasValue (shape_of self.old) ((octets ++ piece.now) ++ more)) }
         ensures numbers { IfErr result IsOfFeeding }
     {
-        if self.keeps_none() {
-            self.take_rest(piece, whole)
-        } else {
-            self.take_on(piece, whole)
+        if !self.keeps_none() {
+            return self.take_on(piece, whole);
         }
+        if self.cursor.is_fresh() {
+            if let Some(used) = read_simple(self.cursor.nest.ty, piece, whole) {
+                return Ok(used);
+            }
+        }
+        self.take_rest(piece, whole)
     }
 
-    // Takes a piece behind octets that are kept, until none are.
+    // Takes a piece behind octets that are kept, until none are. A call of its own, since mostly none are.
+    #[inline(never)]
     fn take_on(&mut self, piece: &[u8], whole: &mut Option<Value>) -> Result<usize, Refusal>
         requires accepts { self.old.refused ≡ None }
         requires sound { IsSoundPieces self.old }
@@ -144,7 +151,9 @@ impl<'a> Pieces<'a> {
         }
     }
 
-    // Takes octets, where none are kept, or there are none to take.
+    // Takes octets, where none are kept, or there are none to take. A call of its own, so that a value that is read
+    // at once pays nothing for it.
+    #[inline(never)]
     fn take_rest(&mut self, octets: &[u8], whole: &mut Option<Value>) -> Result<usize, Refusal>
         requires accepts { self.old.refused ≡ None }
         requires sound { IsSoundPieces self.old }

@@ -1,11 +1,13 @@
 -- Lemmas on the encodings of types without parts.
-use Rattle.std.proofs.Common.{ℕ, List, refl, sym, subst}
+use Rattle.std.proofs.Common.{◌≡◌, ◌∷◌, [], ℕ, List, refl, sym, subst}
+use Rattle.octets.specs.declared.tag.Tag.{Tag}
 use Rattle.octets.specs.Rule.{Rule}
 use Rattle.types.specs.Shape.{SimpleType, StringType, SimpleValue, Shape, Val}
 use Rattle.types.specs.Conforms.{SimpleConforms, Conforms}
 use Rattle.types.specs.Contents.{IsContents}
 use Rattle.types.specs.Encoding.{IsEncoding}
-use Rattle.types.specs.Leaf.{IsLeaf}
+use Rattle.types.specs.FirstTags.{first_tags}
+use Rattle.types.specs.Leaf.{tag_of, IsLeaf}
 use Rattle.contents.specs.Contents.{IsSimpleContents}
 
 -- contents octets by cases on the value are those by cases on the type, where the value conforms
@@ -67,3 +69,14 @@ conforms_of_encoding rule (Shape.sequence_of tag type) v octets leaf h = absurd 
 conforms_of_encoding rule (Shape.set_of tag type) v octets leaf h = absurd leaf
 conforms_of_encoding rule (Shape.choice alternatives) v octets leaf h = absurd leaf
 conforms_of_encoding rule (Shape.explicit tag type) v octets leaf h = absurd leaf
+
+-- the one tag that encodings of a type without parts begin with
+pub leaf_tag : (shape : Shape) (tag : Tag) → IsLeaf shape → first_tags shape ≡ tag ∷ [] → tag_of shape ≡ tag
+leaf_tag (Shape.simple own type) tag leaf h = cc h
+leaf_tag (Shape.string own type) tag leaf h = cc h
+leaf_tag (Shape.sequence own components) tag leaf h = absurd leaf
+leaf_tag (Shape.set own components) tag leaf h = absurd leaf
+leaf_tag (Shape.sequence_of own type) tag leaf h = absurd leaf
+leaf_tag (Shape.set_of own type) tag leaf h = absurd leaf
+leaf_tag (Shape.choice alternatives) tag leaf h = absurd leaf
+leaf_tag (Shape.explicit own type) tag leaf h = absurd leaf

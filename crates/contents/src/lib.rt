@@ -18,6 +18,7 @@ mod lengths;
 mod parts;
 mod seats;
 mod segments;
+mod simple;
 
 pub use choices::{begins, is_node, node_of, node_within, wrap};
 pub use frame::{Frame, INLINE, OUTSIDE};
@@ -28,6 +29,7 @@ pub use leaf::{begin_string, read_leaf};
 pub use parts::read_opening;
 pub use seats::{Seat, Seats, not_due};
 pub use segments::{Segments, read_end};
+pub use simple::read_simple;
 
 #[cfg(test)]
 mod tests;
