@@ -25,6 +25,9 @@ use octets::{NoMemory, Tag};
 use std::alloc::Global;
 use types::{Refusal, Ty, Value};
 
+/// Behind so many octets of a value, a list that ends gives back the room that it does not need.
+const ROOMY: usize = 4096;
+
 /// A value that is being read.
 #[derive(Debug, Drop)]
 pub struct Nest<'a> {
@@ -185,7 +188,7 @@ impl<'a> Nest<'a> {
             holding,
             which: _,
         } = open;
-        let value = holding.into_value(frame.definite)?;
+        let value = holding.into_value(frame.definite, self.taken > ROOMY)?;
         Ok(self.come(alloc, ty, tag, value, used, whole)?)
     }
 

@@ -104,7 +104,8 @@ impl<'a> Holding<'a> {
                 Ok(())
             }
             Holding::Items(_, values) => {
-                values.push(value)?;
+                values.reserve(1)?;
+                values.push_reserved(value);
                 Ok(())
             }
             Holding::Sequence(fields, slots) => put_in_order(fields, slots, which, value),
@@ -115,11 +116,12 @@ impl<'a> Holding<'a> {
         }
     }
 
-    /// The value whose parts have come, of the definite form or the indefinite one.
+    /// The value whose parts have come, of the definite form or the indefinite one. Where it is to be `fitted`, a list
+    /// gives back the room that it does not need, which takes some time.
     ///
     /// Refused with `Missing` where a component must still come, with `Length` or, of the indefinite form,
     /// `EndOfContents` where nothing has come behind an explicit tag, and with `NoMemory`.
-    pub fn into_value(self, definite: bool) -> Result<Value, Refusal>
+    pub fn into_value(self, definite: bool, fitted: bool) -> Result<Value, Refusal>
         ensures value { IfOk result (λ value. IsValueOf (parts_view self.entry) (value_view value)) }
         ensures none { IfErr result (λ refusal. IsFinal refusal → (v : Val) →
             ¬ IsValueOf (parts_view self.entry) v) }
@@ -132,7 +134,12 @@ impl<'a> Holding<'a> {
             } else {
                 Refusal::EndOfContents
             }),
-            Holding::Items(_, values) => Ok(Value::Items(values)),
+            Holding::Items(_, values) => {
+                if fitted {
+                    return Ok(Value::Items(fit(values)));
+                }
+                Ok(Value::Items(values))
+            }
             Holding::Sequence(fields, slots) => value_of_run(fields, slots),
             Holding::Set(seats) => value_of_seats(seats.each),
         }
@@ -208,13 +215,24 @@ fn put_in_order(
         which (value_view value) (run_view (map field_view fields.now) (map (option_map value_view) slots.new.items))) }
 {
     pass_over(slots, which)?;
+    slots.reserve(1)?;
     let field = &fields[slots.len()];
     if is_default(&field.presence, &value) {
-        slots.push(None)?;
+        slots.push_reserved(None);
     } else {
-        slots.push(Some(value))?;
+        slots.push_reserved(Some(value));
     }
     Ok(())
+}
+
+// The same values in no more room than they need. A call of its own, since few lists are fitted.
+#[inline(never)]
+fn fit(values: Vec<Value>) -> Vec<Value>
+    ensures { result.items ≡ values.items }
+{
+    let mut values = values;
+    values.shrink_to_fit();
+    values
 }
 
 // Leaves so many slots empty.
@@ -223,7 +241,8 @@ fn pass_over(slots: &mut Vec<Option<Value>>, count: usize) -> Result<(), NoMemor
         ≡ map (option_map value_view) slots.old.items ++ replicate count None) }
 {
     for _ in 0..count {
-        slots.push(None)?;
+        slots.reserve(1)?;
+        slots.push_reserved(None);
     }
     Ok(())
 }
@@ -241,7 +260,8 @@ fn value_of_run(fields: &[Field], slots: Vec<Option<Value>>) -> Result<Value, Re
         if !may_be_absent(&field.presence) {
             return Err(Refusal::Missing);
         }
-        slots.push(None)?;
+        slots.reserve(1)?;
+        slots.push_reserved(None);
     }
     Ok(Value::Fields(slots))
 }

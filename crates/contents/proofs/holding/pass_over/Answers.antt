@@ -1,4 +1,4 @@
-use Rattle.std.proofs.Common.{◌∙◌, ap, sym, map, option_map, append-nil}
+use Rattle.std.proofs.Common.{◌∙◌, ap, sym, map, option_map, append-nil, ◌++◌, ◌∷◌, [], None}
 use Rattle.types.specs.View.{value_view}
 use Rattle.contents.proofs.HoldingLemmas.{pass_more}
 use Rattle.contents.proofs.holding.pass_over.Goals as goal
@@ -8,4 +8,4 @@ loop-init c = sym (append-nil (map (option_map value_view) c.args.slots.now.item
 
 pub loop-preserved : goal.loop-preserved
 loop-preserved c =
-    ap (map (option_map value_view)) c.in_ok-push.ensures.items ∙ pass_more c.loop.slots.items (map (option_map value_view) c.args.slots.now.items) c.loop.counter c.loop.invariant
+    ap (map (option_map value_view)) (c.push_reserved.ensures.items ∙ ap (λ l. l ++ (None ∷ [])) c.reserve.ensures.items) ∙ pass_more c.loop.slots.items (map (option_map value_view) c.args.slots.now.items) c.loop.counter c.loop.invariant

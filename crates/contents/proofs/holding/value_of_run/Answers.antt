@@ -1,4 +1,4 @@
-use Rattle.std.proofs.Common.{◌≡◌, ◌∙◌, ap, sym, subst, map, option_map, drop, length, append-nil, arith, List, Option, ◌++◌}
+use Rattle.std.proofs.Common.{◌≡◌, ◌∙◌, ap, sym, subst, map, option_map, drop, length, append-nil, arith, List, Option, ◌++◌, ◌∷◌, [], None}
 use Rattle.std.specs.List.{AllByRecursion}
 use Rattle.types.specs.Conforms.{MayBeAbsent}
 use Rattle.types.specs.Shape.{Val}
@@ -14,7 +14,7 @@ loop-field-init c = (sym (append-nil (map (option_map value_view) c.args.slots.i
 pub loop-field-preserved : goal.loop-field-preserved
 loop-field-preserved c =
     let x = c.field-item.result in (
-      ap (map (option_map value_view)) c.in_ok-push.ensures.items ∙ pass_more c.loop-field.slots.items (map (option_map value_view) c.args.slots.items) c.loop-field.field-index c.loop-field.invariant.0,
+      ap (map (option_map value_view)) (c.push_reserved.ensures.items ∙ ap (λ l. l ++ (None ∷ [])) c.reserve.ensures.items) ∙ pass_more c.loop-field.slots.items (map (option_map value_view) c.args.slots.items) c.loop-field.field-index c.loop-field.invariant.0,
       goes_on AllAbsent _ c.rest-field-items.result.now c.loop-field.field-index x (omega arith) c.field-item.is (absent_first x _) (so _ _ c.may_be_absent.ensures c.if-not-may_be_absent.false) c.loop-field.invariant.1,
     )
 
