@@ -25,3 +25,4 @@ pub mod SameValueLemmas
 pub mod OrderedLemmas
 pub mod OrderedOnceLemmas
 pub mod LeavesLemmas
+pub mod JoinLemmas

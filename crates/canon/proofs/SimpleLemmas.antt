@@ -1,5 +1,6 @@
 -- Lemmas on values whose encodings are primitive.
-use Rattle.std.proofs.Common.{◌≡◌, ◌≤◌, ◌∙◌, ◌^◌, ℕ, false, List, ◌++◌, length, refl, sym, ap, subst, arith, append_assoc}
+use Rattle.std.proofs.Common.{◌≡◌, ◌≤◌, ◌⊎◌, inl, inr, ◌∙◌, ◌^◌, ℕ, ℤ, FitsSigned, Bool, false, true, List, ◌++◌, length, refl, sym, ap, subst, arith, append_assoc}
+use Rattle.std.specs.Int.{w128}
 use Rattle.octets.specs.declared.TheConstants.{MAX_TAG_NUMBER}
 use Rattle.octets.specs.declared.tag.Tag.{Tag}
 use Rattle.octets.specs.Front.{Appends}
@@ -8,12 +9,18 @@ use Rattle.octets.specs.Rule.{Rule, der, IsCanonical}
 use Rattle.octets.proofs.IdentifierOctetsLemmas.{IsIdentifier-size}
 use Rattle.octets.proofs.ShortestLemmas.{IsLength-size}
 use Rattle.octets.proofs.RuleLemmas.{cer_is_canonical, der_is_canonical}
+use Rattle.primitives.specs.Boolean.{IsBoolean, IsCanonicalBoolean}
+use Rattle.primitives.specs.Integer.{IsInteger}
+use Rattle.types.specs.declared.value.Value.{Value}
+use Rattle.types.specs.declared.value.Value as value_is
 use Rattle.types.specs.Shape.{SimpleType, SimpleValue, Val}
+use Rattle.types.specs.View.{value_view}
 use Rattle.types.specs.Contents.{IsContents}
 use Rattle.types.specs.Form.{IsPrimitive}
 use Rattle.types.proofs.CanonicalLemmas.{primitive_by_cer, primitive_by_der}
 use Rattle.types.proofs.ContentsExistenceLemmas.{simple_contents}
 use Rattle.types.proofs.FormLemmas.{length-definite}
+use Rattle.types.proofs.ViewLemmas.{value-Integer, value-Enumerated}
 use Rattle.canon.specs.declared.rule.CanonicalRule.{CanonicalRule}
 use Rattle.canon.specs.declared.rule.CanonicalRule.TheVariants.{Cer, Der}
 use Rattle.canon.specs.Rule.{rule_of}
@@ -87,3 +94,40 @@ simple_size rule tag v n size kept simple few count sizes = record {
   each = λ octets h. sizes h.contents octets (omega (arith, count h.contents h.spelt, few)) (primitive_to_der rule tag h.contents octets h.primitive);
   there = λ within. some_simple rule tag v n kept simple few count;
 }
+
+-- what is written of a BOOLEAN
+boolean_is : (rule : CanonicalRule) (truth : Bool) (b : List ℕ) → IsCanonicalBoolean truth b → IsBoolean (rule_of rule) truth b
+boolean_is Cer truth b h = h.0
+boolean_is Der truth b h = h.1
+
+boolean_count : (rule : CanonicalRule) (truth : Bool) (b : List ℕ) → IsBoolean (rule_of rule) truth b → length b ≡ 1
+boolean_count Cer false b h = ap length h
+boolean_count Cer true b h = ap length h
+boolean_count Der false b h = ap length h
+boolean_count Der true b h = ap length h
+
+pub boolean_counts : (rule : CanonicalRule) (v : Val) (truth : Bool) → v ≡ Val.simple (SimpleValue.boolean truth) → (contents : List ℕ) → IsContentsOf (rule_of rule) v contents → length contents ≡ 1
+boolean_counts rule v truth is contents h = boolean_count rule truth contents (subst (λ w. IsContentsOf (rule_of rule) w contents) is h)
+
+pub boolean_contents : (rule : CanonicalRule) (v : Val) (truth : Bool) (old new : List ℕ) → v ≡ Val.simple (SimpleValue.boolean truth) → Appends (IsCanonicalBoolean truth) old new → Appends (IsContentsOf (rule_of rule) v) old new
+boolean_contents rule v truth old new is h = (h.0, h.1, subst (λ w. IsContentsOf (rule_of rule) w h.0) (sym is) (boolean_is rule truth h.0 h.2))
+
+-- of an INTEGER or ENUMERATED
+abbrev pub IsNumber : Val → ℤ → Type 0
+IsNumber v number = (v ≡ Val.simple (SimpleValue.integer number)) ⊎ (v ≡ Val.simple (SimpleValue.enumerated number))
+
+pub number_counts : (rule : CanonicalRule) (v : Val) (number : ℤ) (n : ℕ) → IsNumber v number → ((contents : List ℕ) → IsInteger number contents → length contents ≡ n) → (contents : List ℕ) → IsContentsOf (rule_of rule) v contents → length contents ≡ n
+number_counts rule v number n (inl is) count contents h = count contents (subst (λ w. IsContentsOf (rule_of rule) w contents) is h)
+number_counts rule v number n (inr is) count contents h = count contents (subst (λ w. IsContentsOf (rule_of rule) w contents) is h)
+
+pub number_contents : (rule : CanonicalRule) (v : Val) (number : ℤ) (old new : List ℕ) → IsNumber v number → Appends (IsInteger number) old new → Appends (IsContentsOf (rule_of rule) v) old new
+number_contents rule v number old new (inl is) h = (h.0, h.1, subst (λ w. IsContentsOf (rule_of rule) w h.0) (sym is) h.2)
+number_contents rule v number old new (inr is) h = (h.0, h.1, subst (λ w. IsContentsOf (rule_of rule) w h.0) (sym is) h.2)
+
+pub number_view : (value : Value) (number : ℤ) → (value ≡ value_is.Integer number) ⊎ (value ≡ value_is.Enumerated number) → IsNumber (value_view value) number
+number_view value number (inl is) = inl (ap value_view is ∙ value-Integer number)
+number_view value number (inr is) = inr (ap value_view is ∙ value-Enumerated number)
+
+pub number_fits : (v : Val) (number : ℤ) → IsNumber v number → IsSimple v → FitsSigned w128 number
+number_fits v number (inl is) h = subst IsSimple is h
+number_fits v number (inr is) h = subst IsSimple is h

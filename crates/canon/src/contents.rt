@@ -65,7 +65,7 @@ pub(crate) fn size_of_contents(rule: CanonicalRule, value: &Value) -> usize
 }
 
 // The same of an INTEGER.
-fn size_of_integer(number: i128) -> usize
+pub(crate) fn size_of_integer(number: i128) -> usize
     ensures size { (contents : List ℕ) → IsInteger number contents → length contents ≡ result }
     ensures at_most { result ≤ 16 }
 {

@@ -1,6 +1,6 @@
 //! What stands around contents octets (X.690 9.1 and 10.1).
 
-ghost use Rattle.std.specs.Prelude.{◌≡◌, ◌≤◌, ◌<◌, ◌+◌, ◌++◌, ℕ, List, length, reverse, OnOk, OnErr};
+ghost use Rattle.std.specs.Prelude.{◌≡◌, ◌≤◌, ◌<◌, ◌+◌, ◌∷◌, [], ◌++◌, ℕ, List, length, reverse, OnOk, OnErr};
 ghost use Rattle.octets.specs.declared.TheConstants.{MAX_TAG_NUMBER};
 ghost use Rattle.octets.specs.Front.{Appends};
 ghost use Rattle.octets.specs.Identifier.{class_bits};
@@ -16,6 +16,7 @@ use crate::spans::turn;
 use octets::{Class, NoMemory, Tag, put_identifier, put_shortest_length};
 
 // Appends what stands before so many contents octets of a primitive encoding: mostly two octets.
+#[inline(always)]
 pub(crate) fn put_primitive_head(
     tag: Tag,
     contents: usize,
@@ -25,11 +26,43 @@ pub(crate) fn put_primitive_head(
     ensures kept { OnErr result (Keeps out.old.items out.new.items) }
 {
     if tag.number < 31 && contents < 0x80 {
-        out.extend_from_slice(&[leading_octet(tag), contents as u8])?;
-        return Ok(());
+        return put_pair(leading_octet(tag), contents as u8, out);
     }
+    put_long_primitive_head(tag, contents, out)
+}
+
+// The same, of any size.
+#[inline(never)]
+fn put_long_primitive_head(tag: Tag, contents: usize, out: &mut Vec<u8>) -> Result<(), NoMemory>
+    ensures appended { OnOk result (Appends (IsPrimitiveHead tag contents) out.old.items out.new.items) }
+    ensures kept { OnErr result (Keeps out.old.items out.new.items) }
+{
     put_identifier(out, tag, false)?;
     put_shortest_length(out, contents)
+}
+
+// Appends two octets: mostly there is room for them.
+#[inline(always)]
+fn put_pair(first: u8, second: u8, out: &mut Vec<u8>) -> Result<(), NoMemory>
+    ensures appended { OnOk result (out.new.items ≡ out.old.items ++ first ∷ second ∷ []) }
+    ensures unchanged { OnErr result (out.new.items ≡ out.old.items) }
+{
+    if out.capacity().saturating_sub(out.len()) < 2 {
+        return grow_by_pair(first, second, out);
+    }
+    out.push_reserved(first);
+    out.push_reserved(second);
+    Ok(())
+}
+
+// The same where there may be none.
+#[inline(never)]
+fn grow_by_pair(first: u8, second: u8, out: &mut Vec<u8>) -> Result<(), NoMemory>
+    ensures appended { OnOk result (out.new.items ≡ out.old.items ++ first ∷ second ∷ []) }
+    ensures unchanged { OnErr result (out.new.items ≡ out.old.items) }
+{
+    out.extend_from_slice(&[first, second])?;
+    Ok(())
 }
 
 // The one identifier octet of a primitive encoding (X.690 8.1.2.2).
@@ -71,9 +104,25 @@ pub(crate) fn put_front(
     ensures kept { OnErr result (Keeps out.old.items out.new.items) }
 {
     if tag.number < 31 && contents < 0x80 {
-        out.extend_from_slice(&[leading_octet(tag) + 0x20, short_length(rule, contents)])?;
-        return Ok(());
+        return put_pair(leading_octet(tag) + 0x20, short_length(rule, contents), out);
     }
+    put_long_front(rule, tag, contents, out)
+}
+
+// The same, of any size.
+#[inline(never)]
+fn put_long_front(
+    rule: CanonicalRule,
+    tag: Tag,
+    contents: usize,
+    out: &mut Vec<u8>,
+) -> Result<(), NoMemory>
+    requires { tag.number ≤ MAX_TAG_NUMBER }
+    ensures appended { OnOk result ((inside : List ℕ) → (rule ≡ Der → length inside ≡ contents) → Appends
+        (λ front. IsConstructed (rule_of rule) tag inside (front ++ (inside ++ end_octets (rule_of rule))))
+        out.old.items out.new.items) }
+    ensures kept { OnErr result (Keeps out.old.items out.new.items) }
+{
     put_identifier(out, tag, true)?;
     match rule {
         CanonicalRule::Cer => out.push(0x80)?,

@@ -10,13 +10,14 @@ ghost use Rattle.canon.specs.Rule.{rule_of};
 ghost use Rattle.canon.specs.Size.{AreShort, HasSize};
 ghost use Rattle.canon.specs.Turned.{Turned};
 
-use crate::contents::{put_contents, size_of_contents};
+use crate::contents::{put_contents, size_of_contents, size_of_integer};
 use crate::heads::put_primitive_head;
 use crate::rule::CanonicalRule;
-use crate::segments::{put_string, size_of_string};
+use crate::segments::{put_octets, put_string, size_of_string};
 use crate::sizes::size_of_definite;
 use crate::spans::turn;
 use octets::{Class, NoMemory, Tag};
+use primitives::{put_boolean, put_integer};
 use types::Value;
 
 // The tags of segments, whatever the tag of the string (X.690 8.6.4 and 8.7.3).
@@ -105,7 +106,7 @@ pub(crate) fn put_forwards(
             )
         }
         Value::Octets(octets) | Value::Text(octets) => {
-            put_string(rule, tag, OCTET_SEGMENT, &[], &[], octets, out)
+            put_octets(rule, tag, OCTET_SEGMENT, octets, out)
         }
         Value::Boolean(_)
         | Value::Integer(_)
@@ -131,6 +132,26 @@ pub(crate) fn put_simple(
     ensures kept { OnErr result (Keeps out.old.items out.new.items) }
     ensures short { AreShort (IsSimplyEncoded (rule_of rule) tag (value_view value.now)) }
 {
-    put_primitive_head(tag, size_of_contents(rule, value), out)?;
-    put_contents(rule, value, out)
+    match value {
+        Value::Boolean(truth) => {
+            put_primitive_head(tag, 1, out)?;
+            put_boolean(out, *truth)
+        }
+        Value::Integer(number) | Value::Enumerated(number) => {
+            put_primitive_head(tag, size_of_integer(*number), out)?;
+            put_integer(out, *number)
+        }
+        Value::Null
+        | Value::Oid(_)
+        | Value::RelativeOid(_)
+        | Value::Bits(_)
+        | Value::Octets(_)
+        | Value::Text(_)
+        | Value::Fields(_)
+        | Value::Items(_)
+        | Value::Chosen(..) => {
+            put_primitive_head(tag, size_of_contents(rule, value), out)?;
+            put_contents(rule, value, out)
+        }
+    }
 }

@@ -73,9 +73,26 @@ pub(crate) fn put_leaves(
     ensures kept { OnErr result (Keeps out.old.items out.new.items) }
 {
     let start = out.len();
+    join_leaves(rule, tag, values, out)?;
+    turn(out, start);
+    Ok(())
+}
+
+// The same, in order.
+pub(crate) fn join_leaves(
+    rule: CanonicalRule,
+    tag: Tag,
+    values: &[Value],
+    out: &mut Vec<u8>,
+) -> Result<(), NoMemory>
+    requires tag { tag.number ≤ MAX_TAG_NUMBER }
+    requires leaves { AllByRecursion IsLeaf (map value_view values.now) }
+    ensures appended { OnOk result (Appends
+        (AreItems (IsLeafEncoding (rule_of rule) tag) (map value_view values.now)) out.old.items out.new.items) }
+    ensures kept { OnErr result (Keeps out.old.items out.new.items) }
+{
     for value in values {
         put_forwards(rule, tag, value, out)?;
     }
-    turn(out, start);
     Ok(())
 }

@@ -7,7 +7,7 @@
 //! That the last segment carries at least one octet of data is this project's own rule
 //! (`docs/PROFILE.md`, "The last segment").
 
-ghost use Rattle.std.specs.Prelude.{◌≡◌, ◌≤◌, ◌<◌, ◌+◌, ◌^◌, ◌++◌, ℕ, List, length, OnOk, OnErr};
+ghost use Rattle.std.specs.Prelude.{◌≡◌, ◌≤◌, ◌<◌, ◌+◌, ◌^◌, ◌++◌, [], ℕ, List, length, OnOk, OnErr};
 ghost use Rattle.octets.specs.declared.TheConstants.{MAX_ENCODING, MAX_TAG_NUMBER};
 ghost use Rattle.octets.specs.Front.{Appends};
 ghost use Rattle.octets.specs.Rule.{cer};
@@ -101,7 +101,30 @@ pub(crate) fn put_string(
     }
 }
 
+// The same of a string whose contents octets begin with no others.
+pub(crate) fn put_octets(
+    rule: CanonicalRule,
+    tag: Tag,
+    segment: Tag,
+    octets: &[u8],
+    out: &mut Vec<u8>,
+) -> Result<(), NoMemory>
+    requires tag { tag.number ≤ MAX_TAG_NUMBER }
+    requires segment { segment.number ≤ 30 }
+    ensures appended { OnOk result
+        (Appends (IsStringOf (rule_of rule) tag segment [] [] octets.now) out.old.items out.new.items) }
+    ensures kept { OnErr result (Keeps out.old.items out.new.items) }
+{
+    match rule {
+        CanonicalRule::Cer if octets.len() > SEGMENT_OCTETS => {
+            put_cut(tag, segment, &[], &[], octets, out)
+        }
+        CanonicalRule::Cer | CanonicalRule::Der => put_primitive(tag, &[], octets, out),
+    }
+}
+
 // Appends the constructed encoding of such a string.
+#[inline(never)]
 fn put_cut(
     tag: Tag,
     segment: Tag,

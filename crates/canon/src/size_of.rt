@@ -98,11 +98,25 @@ fn size_of_components(rule: CanonicalRule, fields: &[Field], slots: &[Option<Val
         let place = count - 1 - done;
         match &slots[place] {
             Some(value) => {
-                let size = size_of(rule, &fields[place].ty, value);
+                let size = size_of_part(rule, &fields[place].ty, value);
                 total = (total + size).min(MAX_ENCODING + 1);
             }
             None => {}
         }
     }
     total
+}
+
+// The same of the encoding of a part.
+#[cycle(size)]
+fn size_of_part(rule: CanonicalRule, ty: &Ty, value: &Value) -> usize
+    requires nodes { HasGoodNodes (ty_view ty.now) }
+    requires conforms { Conforms (ty_view ty.now) (value_view value.now) }
+    ensures at_most { result ≤ MAX_ENCODING + 1 }
+    ensures size { HasSize (IsEncoding (rule_of rule) (ty_view ty.now) (value_view value.now)) result }
+{
+    if let Some(tag) = leaf_tag(ty) {
+        return size_of_leaf(rule, tag, value);
+    }
+    size_of(rule, ty, value)
 }

@@ -1,5 +1,6 @@
-//! Whole values, of known sizes. Explicit tags and a value without parts are written from the first octet
-//! to the last, and a value with parts from the last to the first and then turned round where it stands.
+//! Whole values, of known sizes. Explicit tags, a SEQUENCE, a SEQUENCE OF and a value without parts are
+//! written from the first octet to the last, and a SET or SET OF from the last to the first and then turned
+//! round where it stands.
 
 ghost use Rattle.std.specs.Prelude.{◌≡◌, ◌≤◌, OnOk, OnErr};
 ghost use Rattle.octets.specs.declared.TheConstants.{MAX_ENCODING};
@@ -14,8 +15,9 @@ ghost use Rattle.canon.specs.Size.{HasSomeOf};
 
 use crate::back::put_span;
 use crate::heads::{put_end, put_front};
+use crate::joining::{join_components, join_items};
 use crate::leaf::put_forwards;
-use crate::parts::chosen_in;
+use crate::parts::{chosen_in, items_in, slots_in};
 use crate::rule::CanonicalRule;
 use crate::sizes::size_inside;
 use octets::NoMemory;
@@ -78,7 +80,17 @@ fn put_straight(
         | Ty::Octets(tag)
         | Ty::Text(tag, _)
         | Ty::Time(tag, _) => put_forwards(rule, *tag, value, out),
-        Ty::Sequence(_, _) | Ty::Set(_, _) | Ty::SequenceOf(_, _) | Ty::SetOf(_, _) => {
+        Ty::Sequence(tag, fields) => {
+            put_front(rule, *tag, size_inside(rule, *tag, size), out)?;
+            join_components(alloc, rule, fields, slots_in(value), out)?;
+            put_end(rule, out)
+        }
+        Ty::SequenceOf(tag, inner) => {
+            put_front(rule, *tag, size_inside(rule, *tag, size), out)?;
+            join_items(alloc, rule, inner, items_in(value), out)?;
+            put_end(rule, out)
+        }
+        Ty::Set(_, _) | Ty::SetOf(_, _) => {
             put_span(alloc, rule, ty, value, out)?;
             Ok(())
         }
@@ -91,8 +103,13 @@ fn put_straight(
         Ty::Explicit(tag, inner) => {
             let inside = size_inside(rule, *tag, size);
             put_front(rule, *tag, inside, out)?;
-            put_straight(alloc, rule, inner, value, inside, out)?;
-            put_end(rule, out)
+            match rule {
+                CanonicalRule::Cer => {
+                    put_straight(alloc, rule, inner, value, inside, out)?;
+                    put_end(rule, out)
+                }
+                CanonicalRule::Der => put_straight(alloc, rule, inner, value, inside, out),
+            }
         }
     }
 }

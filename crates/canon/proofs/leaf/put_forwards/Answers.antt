@@ -23,9 +23,9 @@ returns-in-Bits-clause-appended c =
 pub returns-in-Octets-clause-appended : goal.returns-in-Octets-clause-appended
 returns-in-Octets-clause-appended c =
     let string = c.in-Octets.octets.items in
-    appended_by c.put_string-in-Octets.result (IsStringOf (rule_of c.args.rule) c.args.tag octet_segment [] [] c.deref.result.now) (IsLeafEncoding (rule_of c.args.rule) c.args.tag (value_view c.args.value.now)) c.args.out.now.items c.put_string-in-Octets.new.out.items
+    appended_by c.put_octets.result (IsStringOf (rule_of c.args.rule) c.args.tag octet_segment [] [] c.deref.result.now) (IsLeafEncoding (rule_of c.args.rule) c.args.tag (value_view c.args.value.now)) c.args.out.now.items c.put_octets.new.out.items
     (λ b h. octets_put c.args.rule c.args.tag c.args.value.now c.in-Octets.octets c.in-Octets.is c.requires.tag c.requires.leaf b (subst (λ s. IsStringOf (rule_of c.args.rule) c.args.tag octet_segment [] [] s b) c.deref.ensures.value h))
-    c.put_string-in-Octets.ensures.appended
+    c.put_octets.ensures.appended
 
 pub returns-in-Boolean-clause-appended : goal.returns-in-Boolean-clause-appended
 returns-in-Boolean-clause-appended c =

@@ -3,7 +3,7 @@ use Rattle.canon.specs.Leaf.{IsLeafEncoding}
 use Rattle.canon.specs.Rule.{rule_of}
 use Rattle.canon.proofs.KeptLemmas.{always_kept, keeps_chain}
 use Rattle.canon.proofs.LeavesLemmas.{leaf_at, item_behind}
-use Rattle.canon.proofs.leaves.put_leaves.Goals as goal
+use Rattle.canon.proofs.leaves.join_leaves.Goals as goal
 
 pub put_forwards-requires-clause-leaf : goal.put_forwards-requires-clause-leaf
 put_forwards-requires-clause-leaf c = leaf_at c.args.values.now c.loop-value.value-index c.value-item.result (omega arith) c.value-item.is c.requires.leaves

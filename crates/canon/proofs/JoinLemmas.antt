@@ -1,0 +1,149 @@
+-- Lemmas on parts that are written one after another, from the first to the last.
+use Rattle.std.specs.List.{AllByRecursion, AllZip, concat}
+use Rattle.std.proofs.Common.{◌≡◌, ◌∙◌, ◌<◌, ℕ, suc, List, [], ◌∷◌, ◌++◌, Option, Some, None, length, drop, get_or, refl, sym, ap, ap₂, subst, append_assoc, append-nil}
+use Rattle.octets.specs.declared.tag.Tag.{Tag}
+use Rattle.octets.specs.Front.{Appends}
+use Rattle.octets.specs.Rule.{Rule, IsCanonical}
+use Rattle.types.specs.declared.ty.Field.{Field}
+use Rattle.types.specs.declared.value.Value.{Value}
+use Rattle.types.specs.Conforms.{SlotsConform}
+use Rattle.types.specs.Encoding.{Meaning, IsEncoding, AreSlotEncodings, standing}
+use Rattle.types.specs.FirstTags.{HasDistinctTags}
+use Rattle.types.specs.Form.{IsConstructed}
+use Rattle.types.specs.Shape.{Val, Slots, no_slot, absent, present, Items, listed, Shape, Components, no_component, component}
+use Rattle.types.specs.View.{value_view, ty_view, field_view, components_view, slots_view}
+use Rattle.types.specs.WellFormed.{nodes_of, nodes_of_components}
+use Rattle.types.proofs.DepthLemmas.{absent_is_none}
+use Rattle.types.proofs.ListLemmas.{all_append}
+use Rattle.types.proofs.OneEncodingLemmas.{one_encoding}
+use Rattle.canon.specs.Node.{HasGoodNodes, HaveGoodNodes, IsAround, AreItems, AreComponents}
+use Rattle.canon.specs.Rule.{rule_of}
+use Rattle.canon.specs.Size.{HasSomeOf}
+use Rattle.canon.specs.Turned.{end_octets}
+use Rattle.canon.specs.declared.rule.CanonicalRule.{CanonicalRule}
+use Rattle.canon.specs.declared.rule.CanonicalRule.TheVariants.{Der}
+use Rattle.canon.proofs.AlikeLemmas.{HoldAlike}
+use Rattle.canon.proofs.NodeLemmas.{sequence_alike, sequence_of_alike}
+use Rattle.canon.proofs.NodeSizeLemmas.{absent_stands}
+use Rattle.canon.proofs.StepLemmas.{drop_all, element, type_of_field, IsPresent, absent_at, components_from, slots_from_present, slots_from_absent}
+
+module _ (rule : Rule) (fields : List Field) (slots : List (Option Value)) where
+  -- what encodes the components from there on makes, behind these octets, an encoding of all of them
+  abbrev pub BeginsComponents : ℕ → List ℕ → Type 0
+  BeginsComponents i octets = (rest : List ℕ) → AreComponents rule (components_view (drop i fields)) (slots_view (drop i slots)) rest → AreComponents rule (components_view fields) (slots_view slots) (octets ++ rest)
+
+  pub none_joined : (out : List ℕ) → Appends (BeginsComponents 0) out out
+  none_joined out = ([], sym (append-nil out), λ rest h. h)
+
+  pub present_joined : (i : ℕ) (f : Field) (v : Value) (old mid new : List ℕ) → i < length fields → i < length slots → f ≡ get_or fields i f → Some v ≡ get_or slots i (Some v) → IsPresent f (value_view v)
+      → Appends (BeginsComponents i) old mid → Appends (IsEncoding rule (ty_view f.ty) (value_view v)) mid new → Appends (BeginsComponents (suc i)) old new
+  present_joined i f v old mid new l k at stands is h a =
+      let here : IsEncoding rule (field_view f).type (value_view v) a.0 = subst (λ s. IsEncoding rule s (value_view v) a.0) (sym (type_of_field f)) a.2 in (
+        h.0 ++ a.0,
+        a.1 ∙ ap (λ s. s ++ a.0) h.1 ∙ append_assoc old h.0 a.0,
+        λ rest more.
+            let whole : AreComponents rule (component (field_view f).name (field_view f).type (field_view f).requirement (components_view (drop (suc i) fields))) (present (value_view v) (slots_view (drop (suc i) slots))) (a.0 ++ rest) = record {
+              encodings = Some a.0 ∷ more.encodings;
+              each = (here, is.differs, more.each);
+              joined = ap (λ s. a.0 ++ s) more.joined;
+            } in
+            let from : AreComponents rule (components_view (drop i fields)) (slots_view (drop i slots)) (a.0 ++ rest) = subst (λ (c : Components). AreComponents rule c (slots_view (drop i slots)) (a.0 ++ rest)) (sym (components_from fields i f l at))
+            (subst (λ (s : Slots). AreComponents rule (component (field_view f).name (field_view f).type (field_view f).requirement (components_view (drop (suc i) fields))) s (a.0 ++ rest)) (sym (slots_from_present slots i v k stands)) whole) in
+            subst (AreComponents rule (components_view fields) (slots_view slots)) (sym (append_assoc h.0 a.0 rest)) (h.2 (a.0 ++ rest) from),
+      )
+
+  pub absent_joined : (i : ℕ) (old new : List ℕ) → i < length fields → i < length slots → None ≡ get_or slots i None → IsCanonical rule → SlotsConform (components_view fields) (slots_view slots) → Appends (BeginsComponents i) old new
+      → Appends (BeginsComponents (suc i)) old new
+  absent_joined i old new l k stands canonical conform h =
+      let e = element fields i l in
+      let f = e.0 in
+      let may = absent_at fields slots i f k e.1 stands conform in (
+        h.0,
+        h.1,
+        λ rest more.
+            let whole : AreComponents rule (component (field_view f).name (field_view f).type (field_view f).requirement (components_view (drop (suc i) fields))) (absent (slots_view (drop (suc i) slots))) rest = record {
+              encodings = None ∷ more.encodings;
+              each = (absent_stands rule (field_view f).requirement (IsEncoding rule (field_view f).type) canonical may, more.each);
+              joined = more.joined;
+            } in
+            h.2 rest (subst (λ (c : Components). AreComponents rule c (slots_view (drop i slots)) rest) (sym (components_from fields i f l e.1))
+            (subst (λ (s : Slots). AreComponents rule (component (field_view f).name (field_view f).type (field_view f).requirement (components_view (drop (suc i) fields))) s rest) (sym (slots_from_absent slots i k stands)) whole)),
+      )
+
+  pub all_joined : (n : ℕ) (old new : List ℕ) → n ≡ length slots → length slots ≡ length fields → Appends (BeginsComponents n) old new → Appends (AreComponents rule (components_view fields) (slots_view slots)) old new
+  all_joined n old new all same h =
+      let none_left : drop n slots ≡ [] = ap (λ k. drop k slots) all ∙ drop_all slots in
+      let none_there : drop n fields ≡ [] = ap (λ k. drop k fields) (all ∙ same) ∙ drop_all fields in
+      let none : AreComponents rule (components_view (drop n fields)) (slots_view (drop n slots)) [] = subst (λ (fs : List Field). AreComponents rule (components_view fs) (slots_view (drop n slots)) []) (sym none_there)
+      (subst (λ (ss : List (Option Value)). AreComponents rule (components_view []) (slots_view ss) []) (sym none_left) record { encodings = []; each = tt; joined = refl }) in
+      (h.0, h.1, subst (AreComponents rule (components_view fields) (slots_view slots)) (append-nil h.0) (h.2 [] none))
+
+-- parts have one encoding
+one_each : (IsItem : Meaning) → ((v : Val) (a b : List ℕ) → IsItem v a → IsItem v b → a ≡ b) → (vs : List Val) (as' bs : List (List ℕ)) → AllZip IsItem vs as' → AllZip IsItem vs bs → as' ≡ bs
+one_each IsItem one [] [] [] h g = refl
+one_each IsItem one [] [] (b ∷ bs) h g = elim g [ ]
+one_each IsItem one [] (a ∷ as') bs h g = elim h [ ]
+one_each IsItem one (v ∷ vs) [] bs h g = elim h [ ]
+one_each IsItem one (v ∷ vs) (a ∷ as') [] h g = elim g [ ]
+one_each IsItem one (v ∷ vs) (a ∷ as') (b ∷ bs) h g = ap₂ (λ x xs. x ∷ xs) (one v a b h.0 g.0) (one_each IsItem one vs as' bs h.1 g.1)
+
+pub one_items : (rule : Rule) (type : Shape) (vs : List Val) → IsCanonical rule → HasGoodNodes type → (a b : List ℕ) → AreItems (IsEncoding rule type) vs a → AreItems (IsEncoding rule type) vs b → a ≡ b
+one_items rule type vs canonical good a b h g =
+    h.joined ∙ ap concat (one_each (IsEncoding rule type) (λ w x y m n. one_encoding rule canonical type w x y good.tags m n) vs h.encodings g.encodings h.each g.each) ∙ sym g.joined
+
+module _ (rule : Rule) (canonical : IsCanonical rule) where
+  one_slot_each : (components : Components) (slots : Slots) (es ds : List (Option (List ℕ))) → AllByRecursion HasDistinctTags (nodes_of_components components) → AreSlotEncodings rule components slots es → AreSlotEncodings rule components slots ds → es ≡ ds
+  one_slot_each no_component no_slot [] [] well h g = refl
+  one_slot_each no_component no_slot [] (d ∷ ds) well h g = elim g [ ]
+  one_slot_each no_component no_slot (e ∷ es) ds well h g = elim h [ ]
+  one_slot_each no_component (absent slots) es ds well h g = elim h [ ]
+  one_slot_each no_component (present value slots) es ds well h g = elim h [ ]
+  one_slot_each (component name type requirement others) no_slot es ds well h g = elim h [ ]
+  one_slot_each (component name type requirement others) (absent slots) [] ds well h g = elim h [ ]
+  one_slot_each (component name type requirement others) (absent slots) (e ∷ es) [] well h g = elim g [ ]
+  one_slot_each (component name type requirement others) (absent slots) (e ∷ es) (d ∷ ds) well h g =
+      let parts = all_append HasDistinctTags (nodes_of type) (nodes_of_components others) well in
+      let left : e ≡ None = absent_is_none rule requirement (IsEncoding rule type) e canonical h.0 in
+      let right : d ≡ None = absent_is_none rule requirement (IsEncoding rule type) d canonical g.0 in
+      ap₂ (λ x xs. x ∷ xs) (left ∙ sym right) (one_slot_each others slots es ds parts.1 h.1 g.1)
+  one_slot_each (component name type requirement others) (present value slots) [] ds well h g = elim h [ ]
+  one_slot_each (component name type requirement others) (present value slots) (None ∷ es) ds well h g = elim h [ ]
+  one_slot_each (component name type requirement others) (present value slots) (Some a ∷ es) [] well h g = elim g [ ]
+  one_slot_each (component name type requirement others) (present value slots) (Some a ∷ es) (None ∷ ds) well h g = elim g [ ]
+  one_slot_each (component name type requirement others) (present value slots) (Some a ∷ es) (Some b ∷ ds) well h g =
+      let parts = all_append HasDistinctTags (nodes_of type) (nodes_of_components others) well in
+      ap₂ (λ x xs. x ∷ xs) (ap Some (one_encoding rule canonical type value a b parts.0 h.0 g.0)) (one_slot_each others slots es ds parts.1 h.2 g.2)
+
+  pub one_components : (components : Components) (slots : Slots) → HaveGoodNodes components → (a b : List ℕ) → AreComponents rule components slots a → AreComponents rule components slots b → a ≡ b
+  one_components components slots good a b h g = h.joined ∙ ap (λ e. concat (standing e)) (one_slot_each components slots h.encodings g.encodings good.tags h.each g.each) ∙ sym g.joined
+
+-- the contents octets of an encoding of a size
+pub inside_some : (rule : Rule) (tag : Tag) (IsInside : List ℕ → Type 0) (shape : Shape) (v : Val) (size inside : ℕ) → HoldAlike (IsAround IsInside rule tag) (IsEncoding rule shape v) → HasSomeOf (IsEncoding rule shape v) size
+    → ((contents octets : List ℕ) → length octets ≡ size → IsConstructed rule tag contents octets → length contents ≡ inside) → HasSomeOf IsInside inside
+inside_some rule tag IsInside shape v size inside alike some counts =
+    let e = alike.from some.octets some.holds in
+    record { octets = e.contents; holds = e.inside; count = counts e.contents some.octets some.count e.whole }
+
+-- a head, contents octets and what ends the encoding around them
+pub around_straight : (rule : CanonicalRule) (tag : Tag) (IsInside : List ℕ → Type 0) (inside : ℕ) (old one two new : List ℕ) → ((a b : List ℕ) → IsInside a → IsInside b → a ≡ b) → HasSomeOf IsInside inside
+    → ((contents : List ℕ) → (rule ≡ Der → length contents ≡ inside) → Appends (λ front. IsConstructed (rule_of rule) tag contents (front ++ (contents ++ end_octets (rule_of rule)))) old one)
+    → Appends IsInside one two → new ≡ two ++ end_octets (rule_of rule) → Appends (IsAround IsInside (rule_of rule) tag) old new
+around_straight rule tag IsInside inside old one two new unique some head put end =
+    let same : put.0 ≡ some.octets = unique put.0 some.octets put.2 some.holds in
+    let front = head put.0 (λ e. ap length same ∙ some.count) in
+    let after = end_octets (rule_of rule) in (
+      front.0 ++ (put.0 ++ after),
+      end ∙ ap (λ s. s ++ after) put.1 ∙ append_assoc one put.0 after ∙ ap (λ s. s ++ (put.0 ++ after)) front.1 ∙ append_assoc old front.0 (put.0 ++ after),
+      record { contents = put.0; inside = put.2; whole = front.2 },
+    )
+
+-- of a SEQUENCE and of a SEQUENCE OF
+pub sequence_around : (rule : Rule) (tag : Tag) (components : Components) (slots : Slots) (shape : Shape) (v : Val) → shape ≡ Shape.sequence tag components → v ≡ Val.fields slots → HoldAlike (IsAround (AreComponents rule components slots) rule tag) (IsEncoding rule shape v)
+sequence_around rule tag components slots shape v is fields =
+    subst (λ s. HoldAlike (IsAround (AreComponents rule components slots) rule tag) (IsEncoding rule s v)) (sym is)
+    (subst (λ w. HoldAlike (IsAround (AreComponents rule components slots) rule tag) (IsEncoding rule (Shape.sequence tag components) w)) (sym fields) (sequence_alike rule tag components slots))
+
+pub sequence_of_around : (rule : Rule) (tag : Tag) (type : Shape) (items : Items) (shape : Shape) (v : Val) → shape ≡ Shape.sequence_of tag type → v ≡ Val.items items → HoldAlike (IsAround (AreItems (IsEncoding rule type) (listed items)) rule tag) (IsEncoding rule shape v)
+sequence_of_around rule tag type items shape v is held =
+    subst (λ s. HoldAlike (IsAround (AreItems (IsEncoding rule type) (listed items)) rule tag) (IsEncoding rule s v)) (sym is)
+    (subst (λ w. HoldAlike (IsAround (AreItems (IsEncoding rule type) (listed items)) rule tag) (IsEncoding rule (Shape.sequence_of tag type) w)) (sym held) (sequence_of_alike rule tag type items))

@@ -1,0 +1,88 @@
+//! The parts of a value one after another, from the first octet to the last. One with parts of its own is
+//! written from the last to the first and then turned round where it stands.
+
+ghost use Rattle.std.specs.Prelude.{OnOk, OnErr, map};
+ghost use Rattle.std.specs.List.{AllByRecursion};
+ghost use Rattle.octets.specs.Front.{Appends};
+ghost use Rattle.types.specs.Conforms.{Conforms, SlotsConform};
+ghost use Rattle.types.specs.Encoding.{IsEncoding};
+ghost use Rattle.types.specs.View.{ty_view, value_view, components_view, slots_view};
+ghost use Rattle.canon.specs.Node.{HasGoodNodes, HaveGoodNodes, AreItems, AreComponents};
+ghost use Rattle.canon.specs.Part.{Keeps};
+ghost use Rattle.canon.specs.Rule.{rule_of};
+
+use crate::back::put_span;
+use crate::leaf::put_forwards;
+use crate::leaves::{join_leaves, leaf_tag};
+use crate::rule::CanonicalRule;
+use octets::NoMemory;
+use std::alloc::Global;
+use types::{Field, Ty, Value};
+
+// Appends the encodings of items, in order.
+pub(crate) fn join_items(
+    alloc: Global,
+    rule: CanonicalRule,
+    ty: &Ty,
+    items: &[Value],
+    out: &mut Vec<u8>,
+) -> Result<(), NoMemory>
+    requires nodes { HasGoodNodes (ty_view ty.now) }
+    requires conform { AllByRecursion (Conforms (ty_view ty.now)) (map value_view items.now) }
+    ensures appended { OnOk result (Appends
+        (AreItems (IsEncoding (rule_of rule) (ty_view ty.now)) (map value_view items.now)) out.old.items out.new.items) }
+    ensures kept { OnErr result (Keeps out.old.items out.new.items) }
+{
+    if let Some(tag) = leaf_tag(ty) {
+        return join_leaves(rule, tag, items, out);
+    }
+    for item in items {
+        put_span(alloc, rule, ty, item, out)?;
+    }
+    Ok(())
+}
+
+// Appends the encodings of components, in order of declaration.
+pub(crate) fn join_components(
+    alloc: Global,
+    rule: CanonicalRule,
+    fields: &[Field],
+    slots: &[Option<Value>],
+    out: &mut Vec<u8>,
+) -> Result<(), NoMemory>
+    requires nodes { HaveGoodNodes (components_view fields.now) }
+    requires conform { SlotsConform (components_view fields.now) (slots_view slots.now) }
+    ensures appended { OnOk result (Appends
+        (AreComponents (rule_of rule) (components_view fields.now) (slots_view slots.now)) out.old.items out.new.items) }
+    ensures kept { OnErr result (Keeps out.old.items out.new.items) }
+{
+    let count = fields.len().min(slots.len());
+    for place in 0..count {
+        match &slots[place] {
+            Some(value) => put_part(alloc, rule, &fields[place].ty, value, out)?,
+            None => {}
+        }
+    }
+    Ok(())
+}
+
+// Appends the encoding of a part.
+fn put_part(
+    alloc: Global,
+    rule: CanonicalRule,
+    ty: &Ty,
+    value: &Value,
+    out: &mut Vec<u8>,
+) -> Result<(), NoMemory>
+    requires nodes { HasGoodNodes (ty_view ty.now) }
+    requires conforms { Conforms (ty_view ty.now) (value_view value.now) }
+    ensures appended { OnOk result (Appends
+        (IsEncoding (rule_of rule) (ty_view ty.now) (value_view value.now)) out.old.items out.new.items) }
+    ensures kept { OnErr result (Keeps out.old.items out.new.items) }
+{
+    if let Some(tag) = leaf_tag(ty) {
+        return put_forwards(rule, tag, value, out);
+    }
+    put_span(alloc, rule, ty, value, out)?;
+    Ok(())
+}
