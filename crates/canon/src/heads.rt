@@ -91,6 +91,7 @@ pub(crate) fn put_end(rule: CanonicalRule, out: &mut Vec<u8>) -> Result<(), NoMe
 }
 
 // Appends what stands before so many contents octets of a constructed encoding.
+#[inline(always)]
 pub(crate) fn put_front(
     rule: CanonicalRule,
     tag: Tag,

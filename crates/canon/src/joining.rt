@@ -67,6 +67,7 @@ pub(crate) fn join_components(
 }
 
 // Appends the encoding of a part.
+#[inline(always)]
 fn put_part(
     alloc: Global,
     rule: CanonicalRule,

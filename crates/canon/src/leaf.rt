@@ -81,6 +81,7 @@ pub(crate) fn put_leaf(
 }
 
 // Appends the encoding of a value under `tag`.
+#[inline(always)]
 pub(crate) fn put_forwards(
     rule: CanonicalRule,
     tag: Tag,
@@ -119,6 +120,7 @@ pub(crate) fn put_forwards(
 }
 
 // The same of a value whose encodings are primitive.
+#[inline(always)]
 pub(crate) fn put_simple(
     rule: CanonicalRule,
     tag: Tag,

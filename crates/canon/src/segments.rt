@@ -102,6 +102,7 @@ pub(crate) fn put_string(
 }
 
 // The same of a string whose contents octets begin with no others.
+#[inline(always)]
 pub(crate) fn put_octets(
     rule: CanonicalRule,
     tag: Tag,
@@ -176,6 +177,7 @@ fn append_segments(
 }
 
 // Appends the primitive encoding under `tag` whose contents octets are `lead` and then `octets`.
+#[inline(always)]
 fn put_primitive(tag: Tag, lead: &[u8], octets: &[u8], out: &mut Vec<u8>) -> Result<(), NoMemory>
     requires tag { tag.number ≤ MAX_TAG_NUMBER }
     requires lead { length lead.now ≤ 1 }
