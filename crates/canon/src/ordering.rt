@@ -38,7 +38,7 @@ pub fn order(alloc: Global, ty: &WellTyped, value: &Value) -> Result<Value, NoMe
 }
 
 // An item of a SET OF, and where its encoding stands.
-#[derive(Debug, Drop)]
+#[derive(Drop)]
 pub(crate) struct Placed {
     // The item.
     pub value: Value,

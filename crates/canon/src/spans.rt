@@ -13,7 +13,7 @@ use std::alloc::Global;
 use std::cmp::Ordering;
 
 /// Where a part of a buffer stands.
-#[derive(Clone, Copy, Debug, PartialEq, Eq)]
+#[derive(Clone, Copy, PartialEq, Eq)]
 pub(crate) struct Span {
     /// The index of its first octet.
     pub start: usize,
@@ -22,7 +22,7 @@ pub(crate) struct Span {
 }
 
 /// A part of a buffer with the tag that it is ordered by.
-#[derive(Clone, Copy, Debug, PartialEq, Eq)]
+#[derive(Clone, Copy, PartialEq, Eq)]
 pub(crate) struct Tagged {
     /// The tag.
     pub tag: Tag,
