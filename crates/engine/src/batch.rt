@@ -61,6 +61,7 @@ impl Batch {
     }
 
     // Adds what stands for a value, which ends here.
+    #[inline(always)]
     fn add_last<P: Put>(&mut self, writer: &P, value: Value) -> Result<(), Refusal>
         requires { Conforms (P.shape writer.now) (value_view value) }
         ensures added { OnOk result (IsAdded (P.stands writer.now (value_view value))
