@@ -60,7 +60,8 @@ fn outcome(alloc: Global, ty: &Ty, tags: &[u8], definite: bool) -> Result<Vec<i1
             }
         }
     }
-    match holding.into_value(definite) {
+    // a list is the same whether it is fitted or not
+    match holding.into_value(definite, definite) {
         Ok(Value::Fields(slots)) => {
             for slot in &slots {
                 told.push(number_in(slot))?;
