@@ -51,6 +51,7 @@ fn is_simple(ty: &Ty) -> bool
 }
 
 // The value of one of those types that the contents octets are.
+#[inline(always)]
 fn simple_value(ty: &Ty, contents: &[u8]) -> Option<Value>
     ensures { IfSome result (λ value. Conforms (ty_view ty.now) (value_view value)
         × HoldsContents ber (ty_view ty.now) (value_view value) contents.now) }
