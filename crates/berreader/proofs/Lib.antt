@@ -2,9 +2,6 @@ pub mod AcceptedLemmas
 pub mod PartsOrderLemmas
 pub mod PartsForthLemmas
 pub mod PartsDueLemmas
-pub mod PartsPutLemmas
-pub mod PartsValueLemmas
-pub mod PartsOpenLemmas
 pub mod PartsBeginLemmas
 pub mod NestLemmas
 pub mod NestBackLemmas

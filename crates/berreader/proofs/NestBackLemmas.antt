@@ -13,9 +13,9 @@ use Rattle.berreader.specs.Nest.{StandsAt, IsDueInside, IsDueNext, IsComeInside,
 use Rattle.contents.proofs.ChoiceLemmas.{node_good, node_own}
 use Rattle.contents.proofs.CompletingLemmas.{constructed_of_frame}
 use Rattle.berreader.proofs.PartsDueLemmas.{due_good}
-use Rattle.berreader.proofs.PartsOpenLemmas.{none_holds, parts_good}
-use Rattle.berreader.proofs.PartsPutLemmas.{put_holds, put_good, put_parts_of}
-use Rattle.berreader.proofs.PartsValueLemmas.{value_encodes}
+use Rattle.contents.proofs.PartsOpenLemmas.{none_holds, parts_good}
+use Rattle.contents.proofs.PartsPutLemmas.{put_holds, put_good, put_parts_of}
+use Rattle.contents.proofs.PartsValueLemmas.{value_encodes}
 
 -- which part is open changes nothing of what has come
 pub stands_which : (shape : Shape) (layers : List Layer) (which : ℕ) (octets : List ℕ) → StandsAt shape layers octets → StandsAt shape (with_which layers which) octets

@@ -29,8 +29,8 @@ use Rattle.contents.proofs.EndLemmas.{begins_above}
 use Rattle.berreader.proofs.PartsBeginLemmas.{part_above, part_begins, parts_apart}
 use Rattle.berreader.proofs.PartsDueLemmas.{due_once}
 use Rattle.berreader.proofs.PartsForthLemmas.{fill_step}
-use Rattle.berreader.proofs.PartsOpenLemmas.{IsOpened, opens, none_at_zero}
-use Rattle.berreader.proofs.PartsPutLemmas.{put_fills}
+use Rattle.contents.proofs.PartsOpenLemmas.{IsOpened, opens, none_at_zero}
+use Rattle.contents.proofs.PartsPutLemmas.{put_fills}
 use Rattle.contents.proofs.StepLemmas.{end_alone, opening_unique, extent_of_opening}
 
 contents_fit : (f : Frame) (place : ℕ) (mark : List ℕ) → IsEndOf f place mark → place ≤ f.end

@@ -13,3 +13,6 @@ pub mod ChoiceLemmas
 pub mod EndLemmas
 pub mod SeatLemmas
 pub mod HoldingLemmas
+pub mod PartsPutLemmas
+pub mod PartsValueLemmas
+pub mod PartsOpenLemmas

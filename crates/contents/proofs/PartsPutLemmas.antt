@@ -18,17 +18,17 @@ standing_append (None ∷ xs) ys = standing_append xs ys
 standing_append (Some octets ∷ xs) ys = ap (λ z. octets ∷ z) (standing_append xs ys)
 
 -- one more at the end
-concat_more : (xs : List (List ℕ)) (x : List ℕ) → concat (xs ++ (x ∷ [])) ≡ concat xs ++ x
+pub concat_more : (xs : List (List ℕ)) (x : List ℕ) → concat (xs ++ (x ∷ [])) ≡ concat xs ++ x
 concat_more xs x = concat-append xs (x ∷ []) ∙ ap (λ z. concat xs ++ z) (append-nil x)
 
-items_more : (levels : ℕ) (type : Shape) (values : List Val) (encodings : List (List ℕ)) (v : Val) (part : List ℕ) → AllZip (IsPartOf levels type) values encodings → IsPartOf levels type v part → AllZip (IsPartOf levels type) (values ++ (v ∷ [])) (encodings ++ (part ∷ []))
+pub items_more : (levels : ℕ) (type : Shape) (values : List Val) (encodings : List (List ℕ)) (v : Val) (part : List ℕ) → AllZip (IsPartOf levels type) values encodings → IsPartOf levels type v part → AllZip (IsPartOf levels type) (values ++ (v ∷ [])) (encodings ++ (part ∷ []))
 items_more levels type [] [] v part h is = (is, tt)
 items_more levels type [] (encoding ∷ encodings) v part h is = elim h [ ]
 items_more levels type (value ∷ values) [] v part h is = elim h [ ]
 items_more levels type (value ∷ values) (encoding ∷ encodings) v part h is = (h.0, items_more levels type values encodings v part h.1 is)
 
 -- an encoding of a value stands for its slot
-slot_come : (levels : ℕ) (name : List ℕ) (type : Shape) (requirement : Requirement) (v : Val) (slot : Option Val) (part : List ℕ) → IsSlotOf requirement v slot → IsPartOf levels type v part → IsCome levels record { name = name; type = type; requirement = requirement } slot (Some part)
+pub slot_come : (levels : ℕ) (name : List ℕ) (type : Shape) (requirement : Requirement) (v : Val) (slot : Option Val) (part : List ℕ) → IsSlotOf requirement v slot → IsPartOf levels type v part → IsCome levels record { name = name; type = type; requirement = requirement } slot (Some part)
 slot_come levels name type required v None part h is = cc
 slot_come levels name type required v (Some kept) part h is = let same : v ≡ kept = cc h in (subst (λ x. IsPartOf levels type x part) same is, tt)
 slot_come levels name type optional v None part h is = cc

@@ -16,7 +16,7 @@ use Rattle.types.proofs.ZipLemmas.{zip_map}
 use Rattle.types.proofs.BeginningLemmas.{all_zip, all_permutation, explicit_parts}
 use Rattle.types.proofs.DepthLemmas.{nested_around}
 use Rattle.contents.specs.Parts.{Parts, Seat, IsPartOf, IsCome, AreCome, IsSeated, AreItemsCome, Holds, ArePartsOf, IsValueOf, IsGoodType}
-use Rattle.berreader.proofs.PartsPutLemmas.{standing_append}
+use Rattle.contents.proofs.PartsPutLemmas.{standing_append}
 
 -- nothing stands for a component that may be absent
 absent_stands : (requirement : Requirement) (Encodes : Meaning) → MayBeAbsent requirement → StandsForAbsent ber requirement Encodes None
@@ -108,13 +108,13 @@ items_nested levels type values encodings h = all_zip (IsPartOf levels type) (Is
 same_tag : (t u : Tag) → t ∷ [] ≡ u ∷ [] → u ≡ t
 same_tag t u h = cc
 
-explicit_encodes : (levels : ℕ) (tag : Tag) (type : Shape) (v : Val) (contents octets : List ℕ) → IsUsable tag → IsPartOf levels type v contents → IsConstructed ber tag contents octets → IsPartOf (suc levels) (Shape.explicit tag type) v octets
+pub explicit_encodes : (levels : ℕ) (tag : Tag) (type : Shape) (v : Val) (contents octets : List ℕ) → IsUsable tag → IsPartOf levels type v contents → IsConstructed ber tag contents octets → IsPartOf (suc levels) (Shape.explicit tag type) v octets
 explicit_encodes levels tag type v contents octets usable h whole = record {
   encoding = record { inner = contents; encodes = h.encoding; whole = whole };
   depth = nested_around ber levels tag (contents ∷ []) octets usable (h.depth, tt) (explicit_parts ber tag contents octets whole);
 }
 
-sequence_of_encodes : (levels : ℕ) (tag : Tag) (type : Shape) (values : List Val) (contents octets : List ℕ) → IsUsable tag → AreItemsCome levels type values contents → IsConstructed ber tag contents octets → IsPartOf (suc levels) (Shape.sequence_of tag type) (Val.items (items_of values)) octets
+pub sequence_of_encodes : (levels : ℕ) (tag : Tag) (type : Shape) (values : List Val) (contents octets : List ℕ) → IsUsable tag → AreItemsCome levels type values contents → IsConstructed ber tag contents octets → IsPartOf (suc levels) (Shape.sequence_of tag type) (Val.items (items_of values)) octets
 sequence_of_encodes levels tag type values contents octets usable h whole =
     let joined : IsConstructed ber tag (concat h.encodings) octets = subst (λ x. IsConstructed ber tag x octets) h.joined whole in
     record {
@@ -122,7 +122,7 @@ sequence_of_encodes levels tag type values contents octets usable h whole =
       depth = nested_around ber levels tag h.encodings octets usable (items_nested levels type values h.encodings h.each) joined;
     }
 
-set_of_encodes : (levels : ℕ) (tag : Tag) (type : Shape) (values : List Val) (contents octets : List ℕ) → IsUsable tag → AreItemsCome levels type values contents → IsConstructed ber tag contents octets → IsPartOf (suc levels) (Shape.set_of tag type) (Val.items (items_of values)) octets
+pub set_of_encodes : (levels : ℕ) (tag : Tag) (type : Shape) (values : List Val) (contents octets : List ℕ) → IsUsable tag → AreItemsCome levels type values contents → IsConstructed ber tag contents octets → IsPartOf (suc levels) (Shape.set_of tag type) (Val.items (items_of values)) octets
 set_of_encodes levels tag type values contents octets usable h whole =
     let joined : IsConstructed ber tag (concat h.encodings) octets = subst (λ x. IsConstructed ber tag x octets) h.joined whole in
     record {
@@ -130,7 +130,7 @@ set_of_encodes levels tag type values contents octets usable h whole =
       depth = nested_around ber levels tag h.encodings octets usable (items_nested levels type values h.encodings h.each) joined;
     }
 
-sequence_encodes : (levels : ℕ) (tag : Tag) (passed left : List ComponentView) (slots : List (Option Val)) (contents octets : List ℕ) → IsUsable tag → Holds levels (Parts.sequence passed slots left) contents → AllByRecursion (λ c. MayBeAbsent c.requirement) left → IsConstructed ber tag contents octets
+pub sequence_encodes : (levels : ℕ) (tag : Tag) (passed left : List ComponentView) (slots : List (Option Val)) (contents octets : List ℕ) → IsUsable tag → Holds levels (Parts.sequence passed slots left) contents → AllByRecursion (λ c. MayBeAbsent c.requirement) left → IsConstructed ber tag contents octets
     → IsPartOf (suc levels) (Shape.sequence tag (components_of (passed ++ left))) (Val.fields (slots_of (slots ++ map (λ c. None) left))) octets
 sequence_encodes levels tag passed left slots contents octets usable h absent whole =
     let joined : IsConstructed ber tag (concat (standing h.encodings)) octets = subst (λ x. IsConstructed ber tag x octets) h.joined whole in

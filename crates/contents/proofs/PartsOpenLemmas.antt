@@ -186,7 +186,7 @@ none_holds levels (Parts.sequence (c ∷ passed) slots left) none = let e : c �
 none_holds levels (Parts.set seats) none =
     record { encodings = map (λ s. None) seats; each = seats_seated levels seats none; order = []; permutes = subst (λ x. IsPermutation x []) (sym (none_stands seats)) (IsPermutation-refl []); joined = refl }
 
-components_good : (left : List ComponentView) → AllByRecursion IsNodeWithin (nodes_of_components (components_of left)) → AllByRecursion HasDistinctTags (nodes_of_components (components_of left)) → AllByRecursion HasGoodDefaults (nodes_of_components (components_of left)) → AreGoodDefaults (components_of left) → AllByRecursion IsGoodComponent left
+pub components_good : (left : List ComponentView) → AllByRecursion IsNodeWithin (nodes_of_components (components_of left)) → AllByRecursion HasDistinctTags (nodes_of_components (components_of left)) → AllByRecursion HasGoodDefaults (nodes_of_components (components_of left)) → AreGoodDefaults (components_of left) → AllByRecursion IsGoodComponent left
 components_good [] within tags defaults good = tt
 components_good (c ∷ left) within tags defaults good =
     let w = all_append IsNodeWithin (nodes_of c.type) (nodes_of_components (components_of left)) within in
