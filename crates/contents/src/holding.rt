@@ -3,7 +3,7 @@
 //! Slots are made for all components when the encoding opens, and components that come in order are
 //! found and put without a walk over the others.
 
-ghost use Rattle.std.specs.Prelude.{◌≡◌, ◌++◌, ℕ, None, replicate, map, drop, Contains, MatchOption, IfOk, IfErr, OnOk, option_map};
+ghost use Rattle.std.specs.Prelude.{◌≡◌, ◌<◌, ◌++◌, ℕ, vec_len, vec_capacity, None, replicate, map, drop, Contains, MatchOption, IfOk, IfErr, OnOk, option_map};
 ghost use Rattle.types.specs.FirstTags.{first_tags};
 ghost use Rattle.types.specs.Leaf.{IsLeaf};
 ghost use Rattle.types.specs.Refusal.{IsFinal};
@@ -104,7 +104,7 @@ impl<'a> Holding<'a> {
                 Ok(())
             }
             Holding::Items(_, values) => {
-                values.reserve(1)?;
+                grow(values)?;
                 values.push_reserved(value);
                 Ok(())
             }
@@ -221,6 +221,19 @@ fn put_in_order(
         slots.push_reserved(None);
     } else {
         slots.push_reserved(Some(value));
+    }
+    Ok(())
+}
+
+// Makes room for one value more: for one alone at first, and then for as many again, so that a list of two items, of
+// which a large value may have a hundred thousand, has no room to give back.
+fn grow(values: &mut Vec<Value>) -> Result<(), NoMemory>
+    ensures items { values.new.items ≡ values.old.items }
+    ensures room { OnOk result (vec_len values.new < vec_capacity values.new) }
+{
+    let count = values.len();
+    if count == values.capacity() {
+        values.reserve_exact(count.max(1))?;
     }
     Ok(())
 }
