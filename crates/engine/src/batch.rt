@@ -73,9 +73,7 @@ impl Batch {
         ensures long { result ≡ Err Refusal.OutputTooLong → P.can_be_too_long }
         ensures numbers { IfErr result IsOfWriting }
     {
-        let result = self.add(writer, &value);
-        drop(value);
-        result
+        self.add(writer, &value)
     }
 
     /// Gathers what stands for the values that a piece completes, in place of what was gathered.
