@@ -14,9 +14,7 @@ mod stack;
 
 pub use reader::{Reader, Step};
 pub use reading::read;
-
-/// How many constructed encodings may nest.
-pub const MAX_NESTED: usize = 64;
+pub use whole::MAX_NESTED;
 
 #[cfg(test)]
 mod tests;

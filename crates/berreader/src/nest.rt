@@ -15,7 +15,6 @@ ghost use Rattle.berreader.specs.Nest.{end_inside, CanFinish, EndsInside, IsEndI
 ghost use Rattle.contents.specs.Parts.{IsGoodType, IsWrapped};
 ghost use Rattle.berreader.specs.Strings.{IsClosed, IsFound, IsOpenedString, IsSoundString, IsString};
 
-use crate::MAX_NESTED;
 use crate::stack::{Open, Stack};
 use contents::{
     Kind, OUTSIDE, Segments, begin_string, begins, holding_of, is_node, named, node_within,
@@ -24,6 +23,7 @@ use contents::{
 use octets::{NoMemory, Tag};
 use std::alloc::Global;
 use types::{Refusal, Ty, Value};
+use whole::MAX_NESTED;
 
 /// Behind so many octets of a value, a list that ends gives back the room that it does not need.
 const ROOMY: usize = 4096;

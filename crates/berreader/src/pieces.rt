@@ -9,10 +9,10 @@ ghost use Rattle.berreader.specs.Cursor.{taken_of, CanFinish, IsSoundCursor, IsS
 ghost use Rattle.berreader.specs.Feeding.{GoesOn, HasBeenFed, HasValue, IsFed, IsFinished, IsFresh, IsGoingOn, IsOfFeeding, IsSoundPieces, IsSoundReader, IsTakenCut, IsTakenWhole, shape_of};
 
 use crate::cursor::Cursor;
-use contents::read_simple;
 use octets::{Head, Length, MAX_ENCODING, read_identifier, read_length};
 use std::alloc::Global;
 use types::{Refusal, Ty, Value};
+use whole::read_whole;
 
 /// A value whose octets come in pieces.
 #[derive(Debug, Drop)]
@@ -68,7 +68,8 @@ impl<'a> Pieces<'a> {
         }
     }
 
-    // Keeps the refusal, and nothing else.
+    // Keeps the refusal, and nothing else. A call of its own, since most pieces are not refused.
+    #[inline(never)]
     fn refuse(&mut self, refusal: Refusal)
         ensures refused { self.new.refused ≡ Some refusal }
         ensures layers { layers_of self.new.cursor.nest.layers ≡ [] }
@@ -94,8 +95,8 @@ impl<'a> Pieces<'a> {
         }
     }
 
-    // Takes a piece behind those octets that are kept, which mostly are none. A value that is begun by none of them
-    // and needs no memory may be read at once.
+    // Takes a piece behind those octets that are kept, which mostly are none. A value that is whole in the piece may be
+    // read at once.
     fn take(&mut self, piece: &[u8], whole: &mut Option<Value>) -> Result<usize, Refusal>
         requires accepts { self.old.refused ≡ None }
         requires sound { IsSoundPieces self.old }
@@ -111,7 +112,7 @@ impl<'a> Pieces<'a> {
             return self.take_on(piece, whole);
         }
         if self.cursor.is_fresh() {
-            if let Some(used) = read_simple(self.cursor.nest.ty, piece, whole) {
+            if let Some(used) = read_whole(self.alloc, self.cursor.nest.ty, piece, whole) {
                 return Ok(used);
             }
         }

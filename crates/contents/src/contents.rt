@@ -15,7 +15,10 @@ use primitives::{
 use std::alloc::Global;
 use types::{Refusal, Ty, Value, conforms};
 
-// The value of `ty` that the contents octets are.
+/// The value of a type without parts that the contents octets of a primitive encoding are.
+///
+/// Refused with `Contents`, or `Alphabet` of a text, where they are those of no value, and with `NoMemory`: all values
+/// but those of BOOLEAN, INTEGER, ENUMERATED and NULL take memory.
 pub fn read_contents(alloc: Global, ty: &Ty, contents: &[u8]) -> Result<Value, Refusal>
     requires { IsLeaf (ty_view ty.now) }
     ensures value { IfOk result (λ value. Conforms (ty_view ty.now) (value_view value)

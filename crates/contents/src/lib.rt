@@ -18,18 +18,17 @@ mod lengths;
 mod parts;
 mod seats;
 mod segments;
-mod simple;
 
 pub use choices::{begins, is_node, node_of, node_within, wrap};
+pub use contents::read_contents;
 pub use frame::{Frame, INLINE, OUTSIDE};
 pub use head::{named, read_head_tag};
 pub use holding::{Holding, holding_of};
 pub use joined::{Joined, Kind};
 pub use leaf::{begin_string, read_leaf};
 pub use parts::read_opening;
-pub use seats::{Seat, Seats, not_due};
+pub use seats::{Seat, Seats, is_default, not_due, seats_of};
 pub use segments::{Segments, read_end};
-pub use simple::read_simple;
 
 #[cfg(test)]
 mod tests;

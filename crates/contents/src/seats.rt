@@ -35,7 +35,7 @@ pub struct Seat<'a> {
     pub came: bool,
 }
 
-// A seat for each component; none has come.
+/// A seat for each component; none has come. Refused where memory runs out.
 pub fn seats_of<'a>(alloc: Global, fields: &'a [Field]) -> Result<Vec<Seat<'a>>, NoMemory>
     ensures components { IfOk result (λ seats.
         map (λ s. s.component) (map seat_view seats.items) ≡ map field_view fields.now) }
@@ -165,7 +165,7 @@ fn slot_of(presence: &Presence, value: Value) -> Option<Value>
     }
 }
 
-// Whether the value is the component's default.
+/// Whether the value is the component's default. Takes no memory.
 pub fn is_default(presence: &Presence, value: &Value) -> bool
     ensures default { IsTrue result → IsSlotOf (requirement_view presence.now) (value_view value.now) None }
     ensures other { result ≡ false →

@@ -1,7 +1,6 @@
 mod alternatives;
 mod holdings;
 mod leaves;
-mod simple;
 
 use crate::{Frame, named, not_due, read_end, read_head_tag, read_opening};
 use octets::{Class, MAX_ENCODING, Tag};

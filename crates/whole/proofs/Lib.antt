@@ -1,0 +1,4 @@
+-- Lemmas on values that are read at once.
+pub mod HeadLemmas
+pub mod LeafLemmas
+pub mod ReadingLemmas

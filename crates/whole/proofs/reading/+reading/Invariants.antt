@@ -1,0 +1,24 @@
+use Rattle.std.specs.Prelude.{⊤}
+use Rattle.std.proofs.Common.{length, map, take, ◌-◌}
+use Rattle.types.specs.View.{ty_view, field_view}
+use Rattle.contents.specs.Holding.{parts_view}
+use Rattle.whole.specs.Reading.{AreComponentsRead, AreItemsRead, AreMembersRead}
+use Rattle.whole.proofs.reading.+reading.Given as goal
+
+abbrev pub invariant-read_chosen-loop-which : goal.invariant-read_chosen-loop-which
+invariant-read_chosen-loop-which l = ⊤
+
+abbrev pub invariant-read_components-loop-field : goal.invariant-read_components-loop-field
+invariant-read_components-loop-field l = AreComponentsRead l.levels (map field_view (take l.field-index l.fields)) l.octets l.slots.items l.at
+
+abbrev pub invariant-read_items-loop-alloc : goal.invariant-read_items-loop-alloc
+invariant-read_items-loop-alloc l = AreItemsRead l.levels (ty_view l.inner) l.inside.octets.now l.items.items l.at
+
+abbrev pub decreases-read_items-loop-alloc : goal.decreases-read_items-loop-alloc
+decreases-read_items-loop-alloc l = length l.inside.octets.now - l.at
+
+abbrev pub invariant-read_members-loop-alloc : goal.invariant-read_members-loop-alloc
+invariant-read_members-loop-alloc l = AreMembersRead l.levels (map field_view l.fields) l.inside.octets.now (parts_view l.holding) l.at
+
+abbrev pub decreases-read_members-loop-alloc : goal.decreases-read_members-loop-alloc
+decreases-read_members-loop-alloc l = length l.inside.octets.now - l.at

@@ -1,0 +1,131 @@
+//! Primitive encodings of types without parts.
+
+ghost use Rattle.std.specs.Prelude.{◌≡◌, ℕ, IsTrue, IfSome, MatchOption};
+ghost use Rattle.octets.specs.Rule.{ber};
+ghost use Rattle.types.specs.Conforms.{Conforms};
+ghost use Rattle.types.specs.Leaf.{tag_of, IsLeaf};
+ghost use Rattle.types.specs.Shape.{Shape, StringType};
+ghost use Rattle.types.specs.View.{ty_view, value_view};
+ghost use Rattle.contents.specs.Contents.{HoldsContents};
+ghost use Rattle.contents.specs.Parts.{IsGoodType};
+ghost use Rattle.whole.specs.Reading.{IsRead, IsHeld};
+
+use crate::heads::primitive;
+use contents::read_contents;
+use octets::Tag;
+use primitives::{read_boolean, read_integer};
+use std::alloc::Global;
+use strings::{TextKind, allowed};
+use types::{Ty, Value};
+
+// Reads the primitive encoding at the front, of a type without parts.
+#[inline(never)]
+pub fn read_leaf(
+    alloc: Global,
+    ty: &Ty,
+    tag: Tag,
+    octets: &[u8],
+    slot: &mut Option<Value>,
+) -> Option<usize>
+    requires leaf { IsLeaf (ty_view ty.now) }
+    requires tag { tag_of (ty_view ty.now) ≡ tag }
+    requires good { IsGoodType (ty_view ty.now) }
+    ensures { IfSome result (λ used. (levels : ℕ) → IsRead levels (ty_view ty.now) octets.now slot.new used) }
+{
+    let (contents, used) = primitive(tag, octets)?;
+    if fill(alloc, ty, contents, slot) {
+        Some(used)
+    } else {
+        None
+    }
+}
+
+// Puts the value of the contents octets into the slot, if they have one. The types that are met most have ways of
+// their own, since a value is large to hand on.
+fn fill(alloc: Global, ty: &Ty, contents: &[u8], slot: &mut Option<Value>) -> bool
+    requires { IsLeaf (ty_view ty.now) }
+    ensures { IsTrue result → IsHeld (ty_view ty.now) contents.now slot.new }
+{
+    match ty {
+        Ty::Boolean(_) => match read_boolean(contents) {
+            Some(truth) => {
+                *slot = Some(Value::Boolean(truth));
+                true
+            }
+            None => false,
+        },
+        Ty::Integer(_) => match read_integer(contents) {
+            Some(number) => {
+                *slot = Some(Value::Integer(number));
+                true
+            }
+            None => false,
+        },
+        Ty::Octets(tag) => fill_octets(alloc, *tag, contents, slot),
+        Ty::Text(tag, kind) => fill_text(alloc, *tag, *kind, contents, slot),
+        Ty::Enumerated(_, _)
+        | Ty::Null(_)
+        | Ty::Oid(_)
+        | Ty::RelativeOid(_)
+        | Ty::Bits(_)
+        | Ty::Time(_, _)
+        | Ty::Sequence(_, _)
+        | Ty::Set(_, _)
+        | Ty::SequenceOf(_, _)
+        | Ty::SetOf(_, _)
+        | Ty::Choice(_)
+        | Ty::Explicit(_, _) => fill_any(alloc, ty, contents, slot),
+    }
+}
+
+// The same of an OCTET STRING.
+#[inline(never)]
+fn fill_octets(alloc: Global, tag: Tag, contents: &[u8], slot: &mut Option<Value>) -> bool
+    ensures { IsTrue result → IsHeld (Shape.string tag StringType.octet_string) contents.now slot.new }
+{
+    match Vec::from_slice(alloc, contents) {
+        Ok(octets) => {
+            *slot = Some(Value::Octets(octets));
+            true
+        }
+        Err(_) => false,
+    }
+}
+
+// The same of a character string.
+#[inline(never)]
+fn fill_text(
+    alloc: Global,
+    tag: Tag,
+    kind: TextKind,
+    contents: &[u8],
+    slot: &mut Option<Value>,
+) -> bool
+    ensures { IsTrue result → IsHeld (Shape.string tag (StringType.text kind)) contents.now slot.new }
+{
+    if !allowed(kind, contents) {
+        return false;
+    }
+    match Vec::from_slice(alloc, contents) {
+        Ok(octets) => {
+            *slot = Some(Value::Text(octets));
+            true
+        }
+        Err(_) => false,
+    }
+}
+
+// The same of any type.
+#[inline(never)]
+fn fill_any(alloc: Global, ty: &Ty, contents: &[u8], slot: &mut Option<Value>) -> bool
+    requires { IsLeaf (ty_view ty.now) }
+    ensures { IsTrue result → IsHeld (ty_view ty.now) contents.now slot.new }
+{
+    match read_contents(alloc, ty, contents) {
+        Ok(value) => {
+            *slot = Some(value);
+            true
+        }
+        Err(_) => false,
+    }
+}
