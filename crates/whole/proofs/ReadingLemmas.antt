@@ -1,6 +1,6 @@
 -- Lemmas on values that are read at once.
 use Rattle.std.specs.List.{AllByRecursion, concat}
-use Rattle.std.proofs.Common.{◌≡◌, ◌≢◌, ◌+◌, ◌-◌, ◌<◌, ◌≤◌, ℕ, zero, suc, false, List, [], ◌∷◌, ◌++◌, Option, Some, None, Vec, Global, Box, IfSome, MatchOption, string_bytes, refl, sym, ap, ◌∙◌, subst, arith, take, drop, map, option_map, length, get_or, append-nil, append_assoc}
+use Rattle.std.proofs.Common.{◌≡◌, ◌≢◌, ◌+◌, ◌-◌, ◌<◌, ◌≤◌, ℕ, zero, suc, false, List, [], ◌∷◌, ◌++◌, Option, Some, None, Vec, Global, Box, IfSome, MatchOption, string_bytes, refl, sym, ap, ◌∙◌, subst, arith, take, drop, set, map, option_map, length, get_or, append-nil, append_assoc}
 use Rattle.std.proofs.Math.Seq.{take-add}
 use Rattle.std.proofs.lemmas.List.{map_push, map_more, length-drop, take_rest}
 use Rattle.octets.specs.declared.tag.Tag.{Tag}
@@ -97,6 +97,11 @@ item_read levels type octets items v at used h is =
 -- no component yet
 pub no_components : (levels : ℕ) (octets : List ℕ) (slots : List (Option Value)) → slots ≡ [] → AreComponentsRead levels [] octets slots 0
 no_components levels octets slots none = rw none record { there = omega arith; come = record { encodings = []; each = tt; joined = refl } }
+
+-- the last of a list, set anew
+pub set_last : (xs : List (Option Value)) (x y : Option Value) → set (xs ++ (x ∷ [])) (length xs) y ≡ xs ++ (y ∷ [])
+set_last [] x y = refl
+set_last (z ∷ xs) x y = ap (λ l. z ∷ l) (set_last xs x y)
 
 -- one component more
 pub component_read : (levels : ℕ) (fields : List Field) (i : ℕ) (f : Field) (octets : List ℕ) (slots : List (Option Value)) (slot : Option Value) (at used : ℕ) → i < length fields → f ≡ get_or fields i f

@@ -4,19 +4,19 @@ ghost use Rattle.std.specs.Prelude.{◌≡◌, ℕ, IsTrue, IfSome, MatchOption}
 ghost use Rattle.octets.specs.Rule.{ber};
 ghost use Rattle.types.specs.Conforms.{Conforms};
 ghost use Rattle.types.specs.Leaf.{tag_of, IsLeaf};
-ghost use Rattle.types.specs.Shape.{Shape, StringType};
+ghost use Rattle.types.specs.Shape.{Shape, SimpleType, StringType};
 ghost use Rattle.types.specs.View.{ty_view, value_view};
-ghost use Rattle.contents.specs.Contents.{HoldsContents};
+ghost use Rattle.contents.specs.Contents.{HoldsContents, IsEnumerated};
 ghost use Rattle.contents.specs.Parts.{IsGoodType};
 ghost use Rattle.whole.specs.Reading.{IsRead, IsHeld};
 
 use crate::heads::primitive;
 use contents::read_contents;
 use octets::Tag;
-use primitives::{read_boolean, read_integer};
+use primitives::{read_bits, read_boolean, read_integer, read_oid};
 use std::alloc::Global;
-use strings::{TextKind, allowed};
-use types::{Ty, Value};
+use strings::{TextKind, TimeKind, allowed, is_time};
+use types::{Ty, Value, conforms};
 
 // Reads the primitive encoding at the front, of a type without parts.
 #[inline(never)]
@@ -63,12 +63,12 @@ fn fill(alloc: Global, ty: &Ty, contents: &[u8], slot: &mut Option<Value>) -> bo
         },
         Ty::Octets(tag) => fill_octets(alloc, *tag, contents, slot),
         Ty::Text(tag, kind) => fill_text(alloc, *tag, *kind, contents, slot),
-        Ty::Enumerated(_, _)
-        | Ty::Null(_)
-        | Ty::Oid(_)
+        Ty::Time(tag, kind) => fill_time(alloc, *tag, *kind, contents, slot),
+        Ty::Oid(tag) => fill_oid(alloc, *tag, contents, slot),
+        Ty::Bits(tag) => fill_bits(alloc, *tag, contents, slot),
+        Ty::Enumerated(_, _) => fill_item(ty, contents, slot),
+        Ty::Null(_)
         | Ty::RelativeOid(_)
-        | Ty::Bits(_)
-        | Ty::Time(_, _)
         | Ty::Sequence(_, _)
         | Ty::Set(_, _)
         | Ty::SequenceOf(_, _)
@@ -113,6 +113,74 @@ fn fill_text(
         }
         Err(_) => false,
     }
+}
+
+// The same of a time.
+#[inline(never)]
+fn fill_time(
+    alloc: Global,
+    tag: Tag,
+    kind: TimeKind,
+    contents: &[u8],
+    slot: &mut Option<Value>,
+) -> bool
+    ensures { IsTrue result → IsHeld (Shape.string tag (StringType.time kind)) contents.now slot.new }
+{
+    if !is_time(kind, contents) {
+        return false;
+    }
+    match Vec::from_slice(alloc, contents) {
+        Ok(octets) => {
+            *slot = Some(Value::Text(octets));
+            true
+        }
+        Err(_) => false,
+    }
+}
+
+// The same of an OBJECT IDENTIFIER.
+#[inline(never)]
+fn fill_oid(alloc: Global, tag: Tag, contents: &[u8], slot: &mut Option<Value>) -> bool
+    ensures { IsTrue result → IsHeld (Shape.simple tag SimpleType.oid) contents.now slot.new }
+{
+    match read_oid(alloc, contents) {
+        Ok(arcs) => {
+            *slot = Some(Value::Oid(arcs));
+            true
+        }
+        Err(_) => false,
+    }
+}
+
+// The same of a BIT STRING.
+#[inline(never)]
+fn fill_bits(alloc: Global, tag: Tag, contents: &[u8], slot: &mut Option<Value>) -> bool
+    ensures { IsTrue result → IsHeld (Shape.string tag StringType.bit_string) contents.now slot.new }
+{
+    match read_bits(alloc, contents) {
+        Ok(bits) => {
+            *slot = Some(Value::Bits(bits));
+            true
+        }
+        Err(_) => false,
+    }
+}
+
+// The same of an ENUMERATED.
+#[inline(never)]
+fn fill_item(ty: &Ty, contents: &[u8], slot: &mut Option<Value>) -> bool
+    requires { IsEnumerated ty.now }
+    ensures { IsTrue result → IsHeld (ty_view ty.now) contents.now slot.new }
+{
+    let Some(number) = read_integer(contents) else {
+        return false;
+    };
+    let value = Value::Enumerated(number);
+    if !conforms(ty, &value) {
+        return false;
+    }
+    *slot = Some(value);
+    true
 }
 
 // The same of any type.

@@ -140,12 +140,12 @@ fn read_components(
 {
     let mut at = 0;
     for field in fields {
-        let mut slot = None;
-        at += read_component(alloc, field, levels, &octets[at..], &mut slot)?;
+        let place = slots.len();
         if slots.reserve(1).is_err() {
             return None;
         }
-        slots.push_reserved(slot);
+        slots.push_reserved(None);
+        at += read_component(alloc, field, levels, &octets[at..], &mut slots[place])?;
     }
     Some(at)
 }

@@ -1,4 +1,4 @@
-use Rattle.std.proofs.Common.{rules, ◌≡◌, ◌+◌, ◌-◌, ◌<◌, ◌≤◌, [], ◌∷◌, ◌++◌, Some, sym, ap, ◌∙◌, subst, arith, take, drop, map, length}
+use Rattle.std.proofs.Common.{rules, ◌≡◌, ◌+◌, ◌-◌, ◌<◌, ◌≤◌, [], ◌∷◌, ◌++◌, Some, None, set, sym, ap, ◌∙◌, subst, arith, take, drop, map, length}
 use Rattle.std.proofs.lemmas.Bool.{ltb-true}
 use Rattle.std.proofs.lemmas.List.{take_all, take_rest, length-drop}
 use Rattle.octets.specs.declared.tag.Tag.{Tag}
@@ -13,7 +13,7 @@ use Rattle.contents.specs.Parts.{IsDue, IsGoodType}
 use Rattle.contents.specs.Holding.{parts_view}
 use Rattle.whole.specs.Heads.{IsOpened}
 use Rattle.whole.specs.Reading.{IsRead, IsComponentRead, AreComponentsRead, AreItemsRead}
-use Rattle.whole.proofs.ReadingLemmas.{both_of, read_behind, read_some, explicit_read, sequence_read, sequence_of_read, set_of_read, no_items, item_read, no_components, component_read, component_stands, good_components, good_component, good_alternative, chosen_read, no_members, member_behind, member_read, member_some, field_type, due_field, set_read, good_members}
+use Rattle.whole.proofs.ReadingLemmas.{both_of, read_behind, read_some, explicit_read, sequence_read, sequence_of_read, set_of_read, no_items, item_read, no_components, set_last, component_read, component_stands, good_components, good_component, good_alternative, chosen_read, no_members, member_behind, member_read, member_some, field_type, due_field, set_read, good_members}
 use Rattle.whole.proofs.reading.+reading.Goals as goal
 
 -- src/reading.rt:265:5
@@ -80,9 +80,12 @@ read_components-loop-field-preserved t c =
     let slot = c.read_component.new.slot in
     let one : IsComponentRead c.args.levels (field_view f) (drop at octets) slot c.in_ok-at.field-0 = subst (λ o. IsComponentRead c.args.levels (field_view f) o slot c.in_ok-at.field-0) (take_rest octets at) c.in_ok-at.ensures in
     let more = component_read c.args.levels fields c.loop-field.field-index f octets c.loop-field.slots.items slot at c.in_ok-at.field-0 (omega arith) c.field-item.is c.loop-field.invariant one in
-    subst (λ l. AreComponentsRead c.args.levels (map field_view (take (c.loop-field.field-index + 1) fields)) octets l (at + c.in_ok-at.field-0)) (sym (c.push_reserved.ensures.items ∙ ap (λ l. l ++ (slot ∷ [])) c.reserve.ensures.items)) more
+    let items = c.loop-field.slots.items in
+    let place : c.len-place.result ≡ length items = search rules in
+    let grown : c.push_reserved.new.self.items ≡ items ++ (None ∷ []) = c.push_reserved.ensures.items ∙ ap (λ l. l ++ (None ∷ [])) c.reserve.ensures.items in
+    let filled : set c.push_reserved.new.self.items c.len-place.result slot ≡ items ++ (slot ∷ []) = ap (λ l. set l c.len-place.result slot) grown ∙ ap (λ n. set (items ++ (None ∷ [])) n slot) place ∙ set_last items None slot in
+    subst (λ l. AreComponentsRead c.args.levels (map field_view (take (c.loop-field.field-index + 1) fields)) octets l (at + c.in_ok-at.field-0)) (sym filled) more
 
--- src/reading.rt:132:1
 pub read_components-returns : goal.read_components-returns
 read_components-returns t c =
     let fields = c.args.fields.now in
