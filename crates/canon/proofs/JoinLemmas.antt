@@ -1,27 +1,15 @@
 -- Lemmas on parts that are written one after another, from the first to the last.
-use Rattle.std.specs.List.{AllByRecursion, AllZip, concat}
-use Rattle.std.proofs.Common.{◌≡◌, ◌∙◌, ◌<◌, ℕ, suc, List, [], ◌∷◌, ◌++◌, Option, Some, None, length, drop, get_or, refl, sym, ap, ap₂, subst, append_assoc, append-nil}
+use Rattle.std.proofs.Common.{◌≡◌, ◌∙◌, ◌<◌, ℕ, suc, List, [], ◌∷◌, ◌++◌, Option, Some, None, length, drop, get_or, refl, sym, ap, subst, append_assoc, append-nil}
 use Rattle.octets.specs.declared.tag.Tag.{Tag}
 use Rattle.octets.specs.Front.{Appends}
 use Rattle.octets.specs.Rule.{Rule, IsCanonical}
 use Rattle.types.specs.declared.ty.Field.{Field}
 use Rattle.types.specs.declared.value.Value.{Value}
 use Rattle.types.specs.Conforms.{SlotsConform}
-use Rattle.types.specs.Encoding.{Meaning, IsEncoding, AreSlotEncodings, standing}
-use Rattle.types.specs.FirstTags.{HasDistinctTags}
-use Rattle.types.specs.Form.{IsConstructed}
-use Rattle.types.specs.Shape.{Val, Slots, no_slot, absent, present, Items, listed, Shape, Components, no_component, component}
+use Rattle.types.specs.Encoding.{IsEncoding}
+use Rattle.types.specs.Shape.{Val, Slots, absent, present, Items, listed, Shape, Components, component}
 use Rattle.types.specs.View.{value_view, ty_view, field_view, components_view, slots_view}
-use Rattle.types.specs.WellFormed.{nodes_of, nodes_of_components}
-use Rattle.types.proofs.DepthLemmas.{absent_is_none}
-use Rattle.types.proofs.ListLemmas.{all_append}
-use Rattle.types.proofs.OneEncodingLemmas.{one_encoding}
-use Rattle.canon.specs.Node.{HasGoodNodes, HaveGoodNodes, IsAround, AreItems, AreComponents}
-use Rattle.canon.specs.Rule.{rule_of}
-use Rattle.canon.specs.Size.{HasSomeOf}
-use Rattle.canon.specs.Turned.{end_octets}
-use Rattle.canon.specs.declared.rule.CanonicalRule.{CanonicalRule}
-use Rattle.canon.specs.declared.rule.CanonicalRule.TheVariants.{Der}
+use Rattle.canon.specs.Node.{IsAround, AreItems, AreComponents}
 use Rattle.canon.proofs.AlikeLemmas.{HoldAlike}
 use Rattle.canon.proofs.NodeLemmas.{sequence_alike, sequence_of_alike}
 use Rattle.canon.proofs.NodeSizeLemmas.{absent_stands}
@@ -77,65 +65,6 @@ module _ (rule : Rule) (fields : List Field) (slots : List (Option Value)) where
       let none : AreComponents rule (components_view (drop n fields)) (slots_view (drop n slots)) [] = subst (λ (fs : List Field). AreComponents rule (components_view fs) (slots_view (drop n slots)) []) (sym none_there)
       (subst (λ (ss : List (Option Value)). AreComponents rule (components_view []) (slots_view ss) []) (sym none_left) record { encodings = []; each = tt; joined = refl }) in
       (h.0, h.1, subst (AreComponents rule (components_view fields) (slots_view slots)) (append-nil h.0) (h.2 [] none))
-
--- parts have one encoding
-one_each : (IsItem : Meaning) → ((v : Val) (a b : List ℕ) → IsItem v a → IsItem v b → a ≡ b) → (vs : List Val) (as' bs : List (List ℕ)) → AllZip IsItem vs as' → AllZip IsItem vs bs → as' ≡ bs
-one_each IsItem one [] [] [] h g = refl
-one_each IsItem one [] [] (b ∷ bs) h g = elim g [ ]
-one_each IsItem one [] (a ∷ as') bs h g = elim h [ ]
-one_each IsItem one (v ∷ vs) [] bs h g = elim h [ ]
-one_each IsItem one (v ∷ vs) (a ∷ as') [] h g = elim g [ ]
-one_each IsItem one (v ∷ vs) (a ∷ as') (b ∷ bs) h g = ap₂ (λ x xs. x ∷ xs) (one v a b h.0 g.0) (one_each IsItem one vs as' bs h.1 g.1)
-
-pub one_items : (rule : Rule) (type : Shape) (vs : List Val) → IsCanonical rule → HasGoodNodes type → (a b : List ℕ) → AreItems (IsEncoding rule type) vs a → AreItems (IsEncoding rule type) vs b → a ≡ b
-one_items rule type vs canonical good a b h g =
-    h.joined ∙ ap concat (one_each (IsEncoding rule type) (λ w x y m n. one_encoding rule canonical type w x y good.tags m n) vs h.encodings g.encodings h.each g.each) ∙ sym g.joined
-
-module _ (rule : Rule) (canonical : IsCanonical rule) where
-  one_slot_each : (components : Components) (slots : Slots) (es ds : List (Option (List ℕ))) → AllByRecursion HasDistinctTags (nodes_of_components components) → AreSlotEncodings rule components slots es → AreSlotEncodings rule components slots ds → es ≡ ds
-  one_slot_each no_component no_slot [] [] well h g = refl
-  one_slot_each no_component no_slot [] (d ∷ ds) well h g = elim g [ ]
-  one_slot_each no_component no_slot (e ∷ es) ds well h g = elim h [ ]
-  one_slot_each no_component (absent slots) es ds well h g = elim h [ ]
-  one_slot_each no_component (present value slots) es ds well h g = elim h [ ]
-  one_slot_each (component name type requirement others) no_slot es ds well h g = elim h [ ]
-  one_slot_each (component name type requirement others) (absent slots) [] ds well h g = elim h [ ]
-  one_slot_each (component name type requirement others) (absent slots) (e ∷ es) [] well h g = elim g [ ]
-  one_slot_each (component name type requirement others) (absent slots) (e ∷ es) (d ∷ ds) well h g =
-      let parts = all_append HasDistinctTags (nodes_of type) (nodes_of_components others) well in
-      let left : e ≡ None = absent_is_none rule requirement (IsEncoding rule type) e canonical h.0 in
-      let right : d ≡ None = absent_is_none rule requirement (IsEncoding rule type) d canonical g.0 in
-      ap₂ (λ x xs. x ∷ xs) (left ∙ sym right) (one_slot_each others slots es ds parts.1 h.1 g.1)
-  one_slot_each (component name type requirement others) (present value slots) [] ds well h g = elim h [ ]
-  one_slot_each (component name type requirement others) (present value slots) (None ∷ es) ds well h g = elim h [ ]
-  one_slot_each (component name type requirement others) (present value slots) (Some a ∷ es) [] well h g = elim g [ ]
-  one_slot_each (component name type requirement others) (present value slots) (Some a ∷ es) (None ∷ ds) well h g = elim g [ ]
-  one_slot_each (component name type requirement others) (present value slots) (Some a ∷ es) (Some b ∷ ds) well h g =
-      let parts = all_append HasDistinctTags (nodes_of type) (nodes_of_components others) well in
-      ap₂ (λ x xs. x ∷ xs) (ap Some (one_encoding rule canonical type value a b parts.0 h.0 g.0)) (one_slot_each others slots es ds parts.1 h.2 g.2)
-
-  pub one_components : (components : Components) (slots : Slots) → HaveGoodNodes components → (a b : List ℕ) → AreComponents rule components slots a → AreComponents rule components slots b → a ≡ b
-  one_components components slots good a b h g = h.joined ∙ ap (λ e. concat (standing e)) (one_slot_each components slots h.encodings g.encodings good.tags h.each g.each) ∙ sym g.joined
-
--- the contents octets of an encoding of a size
-pub inside_some : (rule : Rule) (tag : Tag) (IsInside : List ℕ → Type 0) (shape : Shape) (v : Val) (size inside : ℕ) → HoldAlike (IsAround IsInside rule tag) (IsEncoding rule shape v) → HasSomeOf (IsEncoding rule shape v) size
-    → ((contents octets : List ℕ) → length octets ≡ size → IsConstructed rule tag contents octets → length contents ≡ inside) → HasSomeOf IsInside inside
-inside_some rule tag IsInside shape v size inside alike some counts =
-    let e = alike.from some.octets some.holds in
-    record { octets = e.contents; holds = e.inside; count = counts e.contents some.octets some.count e.whole }
-
--- a head, contents octets and what ends the encoding around them
-pub around_straight : (rule : CanonicalRule) (tag : Tag) (IsInside : List ℕ → Type 0) (inside : ℕ) (old one two new : List ℕ) → ((a b : List ℕ) → IsInside a → IsInside b → a ≡ b) → HasSomeOf IsInside inside
-    → ((contents : List ℕ) → (rule ≡ Der → length contents ≡ inside) → Appends (λ front. IsConstructed (rule_of rule) tag contents (front ++ (contents ++ end_octets (rule_of rule)))) old one)
-    → Appends IsInside one two → new ≡ two ++ end_octets (rule_of rule) → Appends (IsAround IsInside (rule_of rule) tag) old new
-around_straight rule tag IsInside inside old one two new unique some head put end =
-    let same : put.0 ≡ some.octets = unique put.0 some.octets put.2 some.holds in
-    let front = head put.0 (λ e. ap length same ∙ some.count) in
-    let after = end_octets (rule_of rule) in (
-      front.0 ++ (put.0 ++ after),
-      end ∙ ap (λ s. s ++ after) put.1 ∙ append_assoc one put.0 after ∙ ap (λ s. s ++ (put.0 ++ after)) front.1 ∙ append_assoc old front.0 (put.0 ++ after),
-      record { contents = put.0; inside = put.2; whole = front.2 },
-    )
 
 -- of a SEQUENCE and of a SEQUENCE OF
 pub sequence_around : (rule : Rule) (tag : Tag) (components : Components) (slots : Slots) (shape : Shape) (v : Val) → shape ≡ Shape.sequence tag components → v ≡ Val.fields slots → HoldAlike (IsAround (AreComponents rule components slots) rule tag) (IsEncoding rule shape v)

@@ -8,7 +8,6 @@ pub mod PartLemmas
 pub mod KeptLemmas
 pub mod SortLemmas
 pub mod SimpleLemmas
-pub mod LengthSizeLemmas
 pub mod NodeLemmas
 pub mod NodeSizeLemmas
 pub mod StepLemmas
@@ -16,6 +15,7 @@ pub mod TagOrderLemmas
 pub mod TyLemmas
 pub mod TurnLemmas
 pub mod PutLemmas
+pub mod OpeningLemmas
 pub mod StraightLemmas
 pub mod TagPutLemmas
 pub mod LeastLemmas

@@ -1,13 +1,12 @@
 -- Lemmas on octets that were appended turned round.
-use Rattle.std.proofs.Common.{◌≡◌, ◌<◌, ◌+◌, inl, arith, ℕ, true, List, [], ◌∷◌, ◌++◌, length, take, drop, refl, sym, ap, ◌∙◌, subst, append_assoc, append-nil}
+use Rattle.std.proofs.Common.{◌≡◌, ℕ, true, List, [], ◌∷◌, ◌++◌, length, take, drop, refl, sym, ap, ◌∙◌, subst, append_assoc, append-nil}
 use Rattle.std.specs.Prelude.{reverse}
 use Rattle.std.proofs.lemmas.List.{reverse-append, reverse-reverse}
 use Rattle.octets.specs.declared.tag.Tag.{Tag}
 use Rattle.octets.specs.Front.{Appends}
-use Rattle.octets.specs.Identifier.{IsIdentifier, class_bits}
+use Rattle.octets.specs.Identifier.{IsIdentifier}
 use Rattle.octets.specs.Length.{IsShortestLength}
 use Rattle.octets.specs.Rule.{Rule, cer, der}
-use Rattle.octets.proofs.LengthLemmas.{IsShortestLength-short}
 use Rattle.types.specs.Form.{IsConstructed}
 use Rattle.canon.specs.Node.{IsAround}
 use Rattle.canon.specs.Rule.{rule_of}
@@ -58,19 +57,6 @@ der_front tag n before one two contents front size count = (
     joined = ap (λ s. (front.0 ++ size.0) ++ s) (append-nil contents) ∙ append_assoc front.0 size.0 contents;
   },
 )
-
--- one identifier octet and one length octet
-short_front_of : (rule : CanonicalRule) (tag : Tag) (first second n : ℕ) (before new contents : List ℕ) → IsIdentifier tag true (first ∷ []) → n < 128 → (rule ≡ Cer → second ≡ 128) → (rule ≡ Der → second ≡ n) → (rule ≡ Der → length contents ≡ n)
-    → new ≡ (before ++ first ∷ []) ++ second ∷ [] → Appends (λ front. IsConstructed (rule_of rule) tag contents (front ++ (contents ++ end_octets (rule_of rule)))) before new
-short_front_of Cer tag first second n before new contents tagged few indefinite definite count is =
-    cer_front tag before (before ++ first ∷ []) new contents (first ∷ [], refl, tagged) (is ∙ ap (λ octet. (before ++ first ∷ []) ++ octet ∷ []) (indefinite refl))
-short_front_of Der tag first second n before new contents tagged few indefinite definite count is =
-    der_front tag n before (before ++ first ∷ []) new contents (first ∷ [], refl, tagged) (second ∷ [], is, subst (λ octet. IsShortestLength n (octet ∷ [])) (sym (definite refl)) (IsShortestLength-short n few)) (count refl)
-
-pub short_front : (rule : CanonicalRule) (tag : Tag) (first second n : ℕ) (before new contents : List ℕ) → first ≡ class_bits tag.class + 32 + tag.number → tag.number < 31 → n < 128 → (rule ≡ Cer → second ≡ 128) → (rule ≡ Der → second ≡ n) → (rule ≡ Der → length contents ≡ n)
-    → new ≡ before ++ first ∷ second ∷ [] → Appends (λ front. IsConstructed (rule_of rule) tag contents (front ++ (contents ++ end_octets (rule_of rule)))) before new
-short_front rule tag first second n before new contents spelt low few indefinite definite count is =
-    short_front_of rule tag first second n before new contents (inl record { low = omega (arith, low); spelt = ap (λ octet. octet ∷ []) spelt }) few indefinite definite count (is ∙ sym (append_assoc before (first ∷ []) (second ∷ [])))
 
 -- contents between what ends the encoding and its head
 pub around_made : (rule : Rule) (tag : Tag) (IsInside : List ℕ → Type 0) (start : ℕ) (old one two new : List ℕ) → start ≡ length old → one ≡ old ++ end_octets rule → (a : Appends (Turned IsInside) one two)

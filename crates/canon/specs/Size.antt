@@ -10,9 +10,3 @@ pub record HasSize (Is : List ℕ → Type 0) (size : ℕ) : Type 0 where
 pub record AreShort (Is : List ℕ → Type 0) : Type 0 where
   pub each : (octets : List ℕ) → Is octets → length octets ≤ 1_048_576
   pub there : (octets : List ℕ) × Is octets
-
--- there are such octets, so many
-pub record HasSomeOf (Is : List ℕ → Type 0) (size : ℕ) : Type 0 where
-  pub octets : List ℕ
-  pub holds : Is octets
-  pub count : length octets ≡ size

@@ -1,12 +1,14 @@
 //! What stands around contents octets (X.690 9.1 and 10.1).
 
-ghost use Rattle.std.specs.Prelude.{◌≡◌, ◌≤◌, ◌<◌, ◌+◌, ◌∷◌, [], ◌++◌, ℕ, List, length, reverse, OnOk, OnErr};
+ghost use Rattle.std.specs.Prelude.{◌≡◌, ◌≤◌, ◌<◌, ◌+◌, ◌∷◌, [], ◌++◌, ℕ, List, length, reverse, IfOk, OnOk, OnErr};
 ghost use Rattle.octets.specs.declared.TheConstants.{MAX_TAG_NUMBER};
+ghost use Rattle.octets.specs.declared.tag.Tag.{Tag as TagOf};
 ghost use Rattle.octets.specs.Front.{Appends};
 ghost use Rattle.octets.specs.Identifier.{class_bits};
 ghost use Rattle.types.specs.Form.{IsConstructed};
 ghost use Rattle.canon.specs.declared.rule.CanonicalRule.TheVariants.{Cer, Der};
 ghost use Rattle.canon.specs.Leaf.{IsPrimitiveHead};
+ghost use Rattle.canon.specs.Opening.{IsOpening, IsLengthPut};
 ghost use Rattle.canon.specs.Part.{Keeps};
 ghost use Rattle.canon.specs.Rule.{rule_of};
 ghost use Rattle.canon.specs.Turned.{Turned, end_octets};
@@ -90,29 +92,89 @@ pub(crate) fn put_end(rule: CanonicalRule, out: &mut Vec<u8>) -> Result<(), NoMe
     }
 }
 
-// Appends what stands before so many contents octets of a constructed encoding.
+// Appends the identifier octets of a constructed encoding and the octet 80, and returns where the latter
+// stands.
 #[inline(always)]
-pub(crate) fn put_front(
-    rule: CanonicalRule,
-    tag: Tag,
-    contents: usize,
-    out: &mut Vec<u8>,
-) -> Result<(), NoMemory>
-    requires { tag.number ≤ MAX_TAG_NUMBER }
-    ensures appended { OnOk result ((inside : List ℕ) → (rule ≡ Der → length inside ≡ contents) → Appends
-        (λ front. IsConstructed (rule_of rule) tag inside (front ++ (inside ++ end_octets (rule_of rule))))
-        out.old.items out.new.items) }
+pub(crate) fn put_opening(tag: Tag, out: &mut Vec<u8>) -> Result<usize, NoMemory>
+    ensures opened { IfOk result (IsOpening tag out.old.items out.new.items) }
     ensures kept { OnErr result (Keeps out.old.items out.new.items) }
 {
-    if tag.number < 31 && contents < 0x80 {
-        return put_pair(leading_octet(tag) + 0x20, short_length(rule, contents), out);
+    if tag.number < 31 {
+        put_pair(leading_octet(tag) + 0x20, 0x80, out)?;
+        return Ok(out.len() - 1);
     }
-    put_long_front(rule, tag, contents, out)
+    put_long_opening(tag, out)
 }
 
-// The same, of any size.
+// The same, whatever the tag.
 #[inline(never)]
-fn put_long_front(
+fn put_long_opening(tag: Tag, out: &mut Vec<u8>) -> Result<usize, NoMemory>
+    ensures opened { IfOk result (IsOpening tag out.old.items out.new.items) }
+    ensures kept { OnErr result (Keeps out.old.items out.new.items) }
+{
+    put_identifier(out, tag, true)?;
+    out.push(0x80)?;
+    Ok(out.len() - 1)
+}
+
+// Ends the constructed encoding that was opened at `place`: by end-of-contents octets, or by a length in
+// the place of the octet 80 (X.690 9.1 and 10.1).
+#[inline(always)]
+pub(crate) fn put_closing(
+    rule: CanonicalRule,
+    place: usize,
+    out: &mut Vec<u8>,
+) -> Result<(), NoMemory>
+    requires { place < length out.old.items }
+    ensures closed { OnOk result ((tag : TagOf) (before opened inside : List ℕ) →
+        IsOpening tag before opened place → out.old.items ≡ opened ++ inside →
+        Appends (IsConstructed (rule_of rule) tag inside) before out.new.items) }
+    ensures kept { OnErr result (Keeps out.old.items out.new.items) }
+{
+    match rule {
+        CanonicalRule::Cer => put_end(rule, out),
+        CanonicalRule::Der => put_length(place, out),
+    }
+}
+
+// Puts the shortest length of what stands behind `place` there.
+fn put_length(place: usize, out: &mut Vec<u8>) -> Result<(), NoMemory>
+    requires { place < length out.old.items }
+    ensures put { OnOk result (IsLengthPut place out.old.items out.new.items) }
+    ensures kept { OnErr result (Keeps out.old.items out.new.items) }
+{
+    let contents = out.len() - place - 1;
+    if contents < 0x80 {
+        out[place] = contents as u8;
+        return Ok(());
+    }
+    put_long_length(place, contents, out)
+}
+
+// The same of so many octets, whatever they are.
+#[inline(never)]
+fn put_long_length(place: usize, contents: usize, out: &mut Vec<u8>) -> Result<(), NoMemory>
+    requires { place + 1 + contents ≡ length out.old.items }
+    ensures put { OnOk result (IsLengthPut place out.old.items out.new.items) }
+    ensures kept { OnErr result (Keeps out.old.items out.new.items) }
+{
+    put_shortest_length(out, contents)?;
+    out.remove(place);
+    bring_forward(place, contents, out);
+    Ok(())
+}
+
+// Moves what stands behind the `count` octets at `place` before them.
+fn bring_forward(place: usize, count: usize, out: &mut Vec<u8>)
+    requires { place + count ≤ length out.old.items }
+    ensures { (front inside moved : List ℕ) → length front ≡ place → length inside ≡ count →
+        out.old.items ≡ front ++ (inside ++ moved) → out.new.items ≡ front ++ (moved ++ inside) }
+{
+    out[place..].rotate_left(count);
+}
+
+// Appends what stands before so many contents octets of a constructed encoding.
+pub(crate) fn put_front(
     rule: CanonicalRule,
     tag: Tag,
     contents: usize,
@@ -130,18 +192,6 @@ fn put_long_front(
         CanonicalRule::Der => put_shortest_length(out, contents)?,
     }
     Ok(())
-}
-
-// The one length octet of a constructed encoding with so many contents octets (X.690 9.1 and 10.1).
-fn short_length(rule: CanonicalRule, contents: usize) -> u8
-    requires { contents < 128 }
-    ensures indefinite { rule ≡ Cer → result ≡ 128 }
-    ensures definite { rule ≡ Der → result ≡ contents }
-{
-    match rule {
-        CanonicalRule::Cer => 0x80,
-        CanonicalRule::Der => contents as u8,
-    }
 }
 
 // Appends what stands before the contents octets, turned round, where the encoding began at `start`.

@@ -42,23 +42,6 @@ pub(crate) fn leaf_tag(ty: &Ty) -> Option<Tag>
     }
 }
 
-// How many octets the encodings of values under `tag` have.
-pub(crate) fn size_of_leaves(rule: CanonicalRule, tag: Tag, values: &[Value]) -> usize
-    requires tag { tag.number ≤ MAX_TAG_NUMBER }
-    requires leaves { AllByRecursion IsLeaf (map value_view values.now) }
-    ensures at_most { result ≤ MAX_ENCODING + 1 }
-    ensures size { HasSize
-        (AreItems (IsLeafEncoding (rule_of rule) tag) (map value_view values.now)) result }
-{
-    let count = values.len();
-    let mut total = 0usize;
-    for done in 0..count {
-        let size = size_of_leaf(rule, tag, &values[count - 1 - done]);
-        total = (total + size).min(MAX_ENCODING + 1);
-    }
-    total
-}
-
 // Appends the encodings of values under `tag`, all of them turned round at once.
 pub(crate) fn put_leaves(
     rule: CanonicalRule,

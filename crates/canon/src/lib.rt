@@ -1,10 +1,10 @@
 //! Writers of the canonical encodings: CER and DER (X.690 clauses 9 to 11).
 //!
-//! Each gives a value one encoding. Its length is known before the vector grows, so that being out of
-//! memory never hides one that is too long, and room for the whole is made once. Explicit tags, an
-//! outermost SEQUENCE or SEQUENCE OF and values without parts are written as they stand. The encoding of
-//! another value with parts is written from the last octet to the first, so that each length is known once
-//! it comes, and then turned round where it stands.
+//! Each gives a value one encoding, written from the first octet to the last: DER's length of a
+//! constructed encoding is put in its place once the contents octets stand. A SET or SET OF is written from
+//! the last octet to the first, its parts sorted, and then turned round where it stands. Where an encoding
+//! is too long or memory runs out its octets are counted, without memory, so that the latter never hides
+//! the former.
 #![tactic(auto)]
 
 mod back;
@@ -14,7 +14,6 @@ mod contents;
 mod copying;
 mod der;
 mod heads;
-mod joining;
 mod laws;
 mod leaf;
 mod leaves;

@@ -14,12 +14,13 @@ ghost use Rattle.canon.specs.Size.{AreShort};
 use crate::leaf::put_simple;
 use crate::rule::CanonicalRule;
 use crate::size_of::size_of;
-use crate::straight::put_sized;
+use crate::straight::put_straight;
 use octets::{MAX_ENCODING, NoMemory, Tag};
 use std::alloc::Global;
 use types::{Refusal, Ty, Value, WellTyped};
 
-// Appends the encoding of `value`. Its length is known before anything grows.
+// Appends the encoding of `value`. Its octets are counted where it is too long or memory ran out: being
+// out of memory never hides that it is too long.
 pub(crate) fn put_within(
     alloc: Global,
     rule: CanonicalRule,
@@ -39,14 +40,16 @@ pub(crate) fn put_within(
     if let Some(tag) = simple_tag(shape) {
         return put_short(rule, tag, value, out);
     }
-    let size = size_of(rule, shape, value);
-    if size > MAX_ENCODING {
+    let before = out.len();
+    let put = put_straight(alloc, rule, shape, value, out);
+    if put.is_ok() && out.len() - before <= MAX_ENCODING {
+        return Ok(());
+    }
+    out.truncate(before);
+    if size_of(rule, shape, value) > MAX_ENCODING {
         return Err(Refusal::OutputTooLong);
     }
-    match put_sized(alloc, rule, shape, value, size, out) {
-        Ok(()) => Ok(()),
-        Err(NoMemory) => Err(Refusal::NoMemory),
-    }
+    Err(Refusal::NoMemory)
 }
 
 // Appends the encoding of a value that has a short one, whatever it is.

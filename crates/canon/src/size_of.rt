@@ -1,4 +1,5 @@
-//! How many octets the encoding of a value has, counted up to one past the limit.
+//! How many octets the encoding of a value has, counted up to one past the limit: for one that was not
+//! written.
 
 ghost use Rattle.std.specs.Prelude.{◌≤◌, ◌+◌, map};
 ghost use Rattle.std.specs.List.{AllByRecursion};
@@ -11,7 +12,6 @@ ghost use Rattle.canon.specs.Rule.{rule_of};
 ghost use Rattle.canon.specs.Size.{HasSize};
 
 use crate::leaf::size_of_leaf;
-use crate::leaves::{leaf_tag, size_of_leaves};
 use crate::parts::{chosen_in, items_in, slots_in};
 use crate::rule::CanonicalRule;
 use crate::sizes::size_of_constructed;
@@ -71,9 +71,6 @@ fn size_of_items(rule: CanonicalRule, ty: &Ty, items: &[Value]) -> usize
     ensures size { HasSize
         (AreItems (IsEncoding (rule_of rule) (ty_view ty.now)) (map value_view items.now)) result }
 {
-    if let Some(tag) = leaf_tag(ty) {
-        return size_of_leaves(rule, tag, items);
-    }
     let count = items.len();
     let mut total = 0usize;
     for done in 0..count {
@@ -98,25 +95,11 @@ fn size_of_components(rule: CanonicalRule, fields: &[Field], slots: &[Option<Val
         let place = count - 1 - done;
         match &slots[place] {
             Some(value) => {
-                let size = size_of_part(rule, &fields[place].ty, value);
+                let size = size_of(rule, &fields[place].ty, value);
                 total = (total + size).min(MAX_ENCODING + 1);
             }
             None => {}
         }
     }
     total
-}
-
-// The same of the encoding of a part.
-#[cycle(size)]
-fn size_of_part(rule: CanonicalRule, ty: &Ty, value: &Value) -> usize
-    requires nodes { HasGoodNodes (ty_view ty.now) }
-    requires conforms { Conforms (ty_view ty.now) (value_view value.now) }
-    ensures at_most { result ≤ MAX_ENCODING + 1 }
-    ensures size { HasSize (IsEncoding (rule_of rule) (ty_view ty.now) (value_view value.now)) result }
-{
-    if let Some(tag) = leaf_tag(ty) {
-        return size_of_leaf(rule, tag, value);
-    }
-    size_of(rule, ty, value)
 }

@@ -72,32 +72,3 @@ pub(crate) fn size_of_length(octets: usize) -> usize
         _ => 4,
     }
 }
-
-// How many contents octets a constructed encoding of so many octets has.
-pub(crate) fn size_inside(rule: CanonicalRule, tag: Tag, size: usize) -> usize
-    requires tag { tag.number ≤ MAX_TAG_NUMBER }
-    requires within { size ≤ MAX_ENCODING }
-    ensures inside { (inside octets : List ℕ) → length octets ≡ size →
-        IsConstructed (rule_of rule) tag inside octets → length inside ≡ result }
-    ensures at_most { result ≤ size }
-{
-    let rest = size.saturating_sub(size_of_identifier(tag));
-    match rule {
-        CanonicalRule::Cer => rest.saturating_sub(3),
-        CanonicalRule::Der => rest.saturating_sub(size_of_length_in(rest)),
-    }
-}
-
-// How many octets the shortest length has, where it and what it counts are so many octets.
-fn size_of_length_in(octets: usize) -> usize
-    requires { octets ≤ MAX_ENCODING }
-    ensures { (counted : ℕ) (b : List ℕ) → IsShortestLength counted b → length b + counted ≡ octets →
-        length b ≡ result }
-{
-    match octets {
-        0..=0x80 => 1,
-        0x81..=0x101 => 2,
-        0x102..=0x1_0002 => 3,
-        _ => 4,
-    }
-}

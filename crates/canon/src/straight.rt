@@ -1,72 +1,39 @@
-//! Whole values, of known sizes. Explicit tags, a SEQUENCE, a SEQUENCE OF and a value without parts are
-//! written from the first octet to the last, and a SET or SET OF from the last to the first and then turned
-//! round where it stands.
+//! Whole values, written from the first octet to the last. A SET or SET OF is written from the last to the
+//! first and then turned round where it stands.
 
-ghost use Rattle.std.specs.Prelude.{◌≡◌, ◌≤◌, OnOk, OnErr};
-ghost use Rattle.octets.specs.declared.TheConstants.{MAX_ENCODING};
+ghost use Rattle.std.specs.Prelude.{OnOk, OnErr, map};
+ghost use Rattle.std.specs.List.{AllByRecursion};
 ghost use Rattle.octets.specs.Front.{Appends};
-ghost use Rattle.types.specs.Conforms.{Conforms};
+ghost use Rattle.types.specs.Conforms.{Conforms, SlotsConform};
 ghost use Rattle.types.specs.Encoding.{IsEncoding};
-ghost use Rattle.types.specs.View.{ty_view, value_view};
-ghost use Rattle.canon.specs.Node.{HasGoodNodes};
+ghost use Rattle.types.specs.View.{ty_view, value_view, components_view, slots_view};
+ghost use Rattle.canon.specs.Node.{HasGoodNodes, HaveGoodNodes, AreItems, AreComponents};
 ghost use Rattle.canon.specs.Part.{Keeps};
 ghost use Rattle.canon.specs.Rule.{rule_of};
-ghost use Rattle.canon.specs.Size.{HasSomeOf};
 
 use crate::back::put_span;
-use crate::heads::{put_end, put_front};
-use crate::joining::{join_components, join_items};
+use crate::heads::{put_closing, put_opening};
 use crate::leaf::put_forwards;
+use crate::leaves::{join_leaves, leaf_tag};
 use crate::parts::{chosen_in, items_in, slots_in};
 use crate::rule::CanonicalRule;
-use crate::sizes::size_inside;
 use octets::NoMemory;
 use std::alloc::Global;
-use types::{Ty, Value};
+use types::{Field, Ty, Value};
 
-// Appends the encoding of `value`, of so many octets, with room for them from the start.
-pub(crate) fn put_sized(
+// Appends the encoding of `value`, or a part of it where memory runs out.
+#[cycle(straight)]
+pub(crate) fn put_straight(
     alloc: Global,
     rule: CanonicalRule,
     ty: &Ty,
     value: &Value,
-    size: usize,
     out: &mut Vec<u8>,
 ) -> Result<(), NoMemory>
     requires nodes { HasGoodNodes (ty_view ty.now) }
     requires conforms { Conforms (ty_view ty.now) (value_view value.now) }
-    requires size { HasSomeOf (IsEncoding (rule_of rule) (ty_view ty.now) (value_view value.now)) size }
-    requires within { size ≤ MAX_ENCODING }
-    ensures appended { OnOk result
-        (Appends (IsEncoding (rule_of rule) (ty_view ty.now) (value_view value.now)) out.old.items out.new.items) }
-    ensures unchanged { OnErr result (out.new.items ≡ out.old.items) }
-{
-    let start = out.len();
-    out.reserve(size)?;
-    match put_straight(alloc, rule, ty, value, size, out) {
-        Ok(()) => Ok(()),
-        Err(NoMemory) => {
-            out.truncate(start);
-            Err(NoMemory)
-        }
-    }
-}
-
-// The same, or a part of it where memory runs out.
-fn put_straight(
-    alloc: Global,
-    rule: CanonicalRule,
-    ty: &Ty,
-    value: &Value,
-    size: usize,
-    out: &mut Vec<u8>,
-) -> Result<(), NoMemory>
-    requires nodes { HasGoodNodes (ty_view ty.now) }
-    requires conforms { Conforms (ty_view ty.now) (value_view value.now) }
-    requires size { HasSomeOf (IsEncoding (rule_of rule) (ty_view ty.now) (value_view value.now)) size }
-    requires within { size ≤ MAX_ENCODING }
-    ensures appended { OnOk result
-        (Appends (IsEncoding (rule_of rule) (ty_view ty.now) (value_view value.now)) out.old.items out.new.items) }
+    ensures appended { OnOk result (Appends
+        (IsEncoding (rule_of rule) (ty_view ty.now) (value_view value.now)) out.old.items out.new.items) }
     ensures kept { OnErr result (Keeps out.old.items out.new.items) }
 {
     match ty {
@@ -81,14 +48,14 @@ fn put_straight(
         | Ty::Text(tag, _)
         | Ty::Time(tag, _) => put_forwards(rule, *tag, value, out),
         Ty::Sequence(tag, fields) => {
-            put_front(rule, *tag, size_inside(rule, *tag, size), out)?;
+            let place = put_opening(*tag, out)?;
             join_components(alloc, rule, fields, slots_in(value), out)?;
-            put_end(rule, out)
+            put_closing(rule, place, out)
         }
         Ty::SequenceOf(tag, inner) => {
-            put_front(rule, *tag, size_inside(rule, *tag, size), out)?;
+            let place = put_opening(*tag, out)?;
             join_items(alloc, rule, inner, items_in(value), out)?;
-            put_end(rule, out)
+            put_closing(rule, place, out)
         }
         Ty::Set(_, _) | Ty::SetOf(_, _) => {
             put_span(alloc, rule, ty, value, out)?;
@@ -98,18 +65,83 @@ fn put_straight(
             let Some((which, chosen)) = chosen_in(value) else {
                 unreachable!()
             };
-            put_straight(alloc, rule, &alternatives[which].ty, chosen, size, out)
+            put_straight(alloc, rule, &alternatives[which].ty, chosen, out)
         }
         Ty::Explicit(tag, inner) => {
-            let inside = size_inside(rule, *tag, size);
-            put_front(rule, *tag, inside, out)?;
-            match rule {
-                CanonicalRule::Cer => {
-                    put_straight(alloc, rule, inner, value, inside, out)?;
-                    put_end(rule, out)
-                }
-                CanonicalRule::Der => put_straight(alloc, rule, inner, value, inside, out),
-            }
+            let place = put_opening(*tag, out)?;
+            put_straight(alloc, rule, inner, value, out)?;
+            put_closing(rule, place, out)
         }
     }
+}
+
+// Appends the encodings of items, in order.
+#[cycle(straight)]
+fn join_items(
+    alloc: Global,
+    rule: CanonicalRule,
+    ty: &Ty,
+    items: &[Value],
+    out: &mut Vec<u8>,
+) -> Result<(), NoMemory>
+    requires nodes { HasGoodNodes (ty_view ty.now) }
+    requires conform { AllByRecursion (Conforms (ty_view ty.now)) (map value_view items.now) }
+    ensures appended { OnOk result (Appends
+        (AreItems (IsEncoding (rule_of rule) (ty_view ty.now)) (map value_view items.now)) out.old.items out.new.items) }
+    ensures kept { OnErr result (Keeps out.old.items out.new.items) }
+{
+    if let Some(tag) = leaf_tag(ty) {
+        return join_leaves(rule, tag, items, out);
+    }
+    for item in items {
+        put_straight(alloc, rule, ty, item, out)?;
+    }
+    Ok(())
+}
+
+// Appends the encodings of components, in order of declaration.
+#[cycle(straight)]
+fn join_components(
+    alloc: Global,
+    rule: CanonicalRule,
+    fields: &[Field],
+    slots: &[Option<Value>],
+    out: &mut Vec<u8>,
+) -> Result<(), NoMemory>
+    requires nodes { HaveGoodNodes (components_view fields.now) }
+    requires conform { SlotsConform (components_view fields.now) (slots_view slots.now) }
+    ensures appended { OnOk result (Appends
+        (AreComponents (rule_of rule) (components_view fields.now) (slots_view slots.now)) out.old.items out.new.items) }
+    ensures kept { OnErr result (Keeps out.old.items out.new.items) }
+{
+    let count = fields.len().min(slots.len());
+    for place in 0..count {
+        match &slots[place] {
+            Some(value) => put_part(alloc, rule, &fields[place].ty, value, out)?,
+            None => {}
+        }
+    }
+    Ok(())
+}
+
+// Appends the encoding of a part.
+#[cycle(straight)]
+#[inline(always)]
+fn put_part(
+    alloc: Global,
+    rule: CanonicalRule,
+    ty: &Ty,
+    value: &Value,
+    out: &mut Vec<u8>,
+) -> Result<(), NoMemory>
+    requires nodes { HasGoodNodes (ty_view ty.now) }
+    requires conforms { Conforms (ty_view ty.now) (value_view value.now) }
+    ensures appended { OnOk result (Appends
+        (IsEncoding (rule_of rule) (ty_view ty.now) (value_view value.now)) out.old.items out.new.items) }
+    ensures kept { OnErr result (Keeps out.old.items out.new.items) }
+{
+    if let Some(tag) = leaf_tag(ty) {
+        return put_forwards(rule, tag, value, out);
+    }
+    put_straight(alloc, rule, ty, value, out)
 }

@@ -1,79 +1,48 @@
-use Rattle.std.proofs.Common.{inl, ◌≡◌, IfErr, ◌≤◌, refl, sym, subst, arith}
+use Rattle.std.proofs.Common.{◌≡◌, OnOk, IfErr, Ok, Err, true, is_ok, sym, subst, ap, arith, length, length-append}
+use Rattle.std.specs.declared.result.Result.{Result}
+use Rattle.octets.specs.Front.{Appends}
 use Rattle.types.specs.declared.ty.Ty.{Ty}
 use Rattle.types.specs.declared.refusal.Refusal.TheVariants.{NoMemory, OutputTooLong}
-use Rattle.types.specs.Conforms.{Conforms}
 use Rattle.types.specs.Encoding.{IsAccepted, IsEncoding}
 use Rattle.types.specs.View.{ty_view, value_view}
 use Rattle.canon.specs.Leaf.{IsSimpleOf, IsSimplyEncoded}
-use Rattle.canon.specs.Node.{HasGoodNodes}
 use Rattle.canon.specs.Rule.{rule_of}
 use Rattle.canon.specs.Size.{HasSize}
-use Rattle.canon.proofs.AcceptedLemmas.{accepted, good_nodes, simple_accepted, simple_is_accepted}
+use Rattle.canon.proofs.AcceptedLemmas.{accepted, simple_accepted, simple_is_accepted}
 use Rattle.canon.proofs.AlikeLemmas.{appended_by}
-use Rattle.canon.proofs.LeafLemmas.{simple_conforms}
-use Rattle.canon.proofs.TyLemmas.{leaf_kept}
 use Rattle.canon.proofs.put.put_within.Goals as goal
 
-pub size_of-size-requires : goal.size_of-size-requires
-size_of-size-requires c = record {
-  nodes = subst (λ (t : Ty). HasGoodNodes (ty_view t)) (sym c.as_type-shape.ensures.value) (good_nodes (ty_view c.args.ty.now) c.as_type-shape.ensures.well_formed);
-  conforms = subst (λ (t : Ty). Conforms (ty_view t) (value_view c.args.value.now)) (sym c.as_type-shape.ensures.value) c.requires;
-}
+-- what was appended where a call was not refused
+appended_where_ok : {E : Type 0} (r : Result (Unit {0}) E) (P : Type 0) → is_ok r ≡ true → OnOk r P → P
+appended_where_ok (Ok x) P here h = h
+appended_where_ok (Err e) P here h = cc
 
-pub put_sized-requires : goal.put_sized-requires
-put_sized-requires c =
-    let within : c.size_of-size.result ≤ 1_048_576 = omega (arith, c.if-size-gt-MAX_ENCODING.false) in
-    let some = c.size_of-size.ensures.size.there within in record {
-      nodes = subst (λ (t : Ty). HasGoodNodes (ty_view t)) (sym c.as_type-shape.ensures.value) (good_nodes (ty_view c.args.ty.now) c.as_type-shape.ensures.well_formed);
-      conforms = subst (λ (t : Ty). Conforms (ty_view t) (value_view c.args.value.now)) (sym c.as_type-shape.ensures.value) c.requires;
-      size = record { octets = some.0; holds = some.1; count = omega (arith, within, c.size_of-size.ensures.size.each some.0 some.1) };
-      within = within;
-    }
-
-pub returns-then-size-gt-MAX_ENCODING-clause-too_long : goal.returns-then-size-gt-MAX_ENCODING-clause-too_long
-returns-then-size-gt-MAX_ENCODING-clause-too_long c =
-    let sized = subst (λ (t : Ty). HasSize (IsEncoding (rule_of c.args.rule) (ty_view t) (value_view c.args.value.now)) c.size_of-size.result) c.as_type-shape.ensures.value c.size_of-size.ensures.size in (
-      λ same b h. absurd (omega (arith, sized.each b h.encoding, h.size, c.if-size-gt-MAX_ENCODING.true)),
-      λ none. refl,
-    )
-
-pub returns-in-Ok-clause-appended : goal.returns-in-Ok-clause-appended
-returns-in-Ok-clause-appended c =
+pub returns-then-len-before-le-MAX_ENCODING-clause-appended : goal.returns-then-len-before-le-MAX_ENCODING-clause-appended
+returns-then-len-before-le-MAX_ENCODING-clause-appended c =
     let shape = ty_view c.args.ty.now in
     let v = value_view c.args.value.now in
-    let sized = subst (λ (t : Ty). HasSize (IsEncoding (rule_of c.args.rule) (ty_view t) v) c.size_of-size.result) c.as_type-shape.ensures.value c.size_of-size.ensures.size in
-    let h = c.in-Ok.ensures.appended in
+    let old = c.args.out.now.items in
+    let h = appended_where_ok c.put_straight-put.result (Appends (IsEncoding (rule_of c.args.rule) (ty_view c.as_type-shape.result.now) v) old c.put_straight-put.new.out.items) (sym c.if-is_ok.ensures.value) c.put_straight-put.ensures.appended in
     let e = subst (λ (t : Ty). IsEncoding (rule_of c.args.rule) (ty_view t) v h.0) c.as_type-shape.ensures.value h.2 in
-    (h.0, h.1, accepted c.args.rule shape v h.0 c.as_type-shape.ensures.well_formed e (omega (arith, sized.each h.0 e, c.if-size-gt-MAX_ENCODING.false)))
+    (h.0, h.1, accepted c.args.rule shape v h.0 c.as_type-shape.ensures.well_formed e (omega (arith, c.if-len-before-le-MAX_ENCODING.true, c.len.ensures, c.len-before.ensures, ap length h.1, length-append old h.0)))
 
-pub returns-in-Ok-clause-too_long : goal.returns-in-Ok-clause-too_long
-returns-in-Ok-clause-too_long c =
-    let shape = ty_view c.args.ty.now in
-    let v = value_view c.args.value.now in
-    let sized = subst (λ (t : Ty). HasSize (IsEncoding (rule_of c.args.rule) (ty_view t) v) c.size_of-size.result) c.as_type-shape.ensures.value c.size_of-size.ensures.size in
-    let h = c.in-Ok.ensures.appended in
-    let e = subst (λ (t : Ty). IsEncoding (rule_of c.args.rule) (ty_view t) v h.0) c.as_type-shape.ensures.value h.2 in (
+pub returns-then-len-before-le-MAX_ENCODING-clause-too_long : goal.returns-then-len-before-le-MAX_ENCODING-clause-too_long
+returns-then-len-before-le-MAX_ENCODING-clause-too_long c =
+    let accepts = returns-then-len-before-le-MAX_ENCODING-clause-appended c in (
       λ same. cc,
-      λ none. absurd (none h.0 (accepted c.args.rule shape v h.0 c.as_type-shape.ensures.well_formed e (omega (arith, sized.each h.0 e, c.if-size-gt-MAX_ENCODING.false)))),
+      λ none. absurd (none accepts.0 accepts.2),
     )
 
-pub returns-in-Err-clause-too_long : goal.returns-in-Err-clause-too_long
-returns-in-Err-clause-too_long c =
+pub returns-clause-too_long : goal.returns-clause-too_long
+returns-clause-too_long c =
     let shape = ty_view c.args.ty.now in
     let v = value_view c.args.value.now in
-    let sized = subst (λ (t : Ty). HasSize (IsEncoding (rule_of c.args.rule) (ty_view t) v) c.size_of-size.result) c.as_type-shape.ensures.value c.size_of-size.ensures.size in (
+    let sized = subst (λ (t : Ty). HasSize (IsEncoding (rule_of c.args.rule) (ty_view t) v) c.size_of.result) c.as_type-shape.ensures.value c.size_of.ensures.size in (
       λ same. cc,
       λ none.
-          let some = sized.there (omega (arith, c.if-size-gt-MAX_ENCODING.false)) in
-          absurd (none some.0 (accepted c.args.rule shape v some.0 c.as_type-shape.ensures.well_formed some.1 (omega (arith, sized.each some.0 some.1, c.if-size-gt-MAX_ENCODING.false)))),
+          let some = sized.there (omega (arith, c.if-size_of-gt-MAX_ENCODING.false)) in
+          absurd (none some.0 (accepted c.args.rule shape v some.0 c.as_type-shape.ensures.well_formed some.1 (omega (arith, sized.each some.0 some.1, c.if-size_of-gt-MAX_ENCODING.false)))),
     )
-
-pub put_short-requires : goal.put_short-requires
-put_short-requires c =
-    let is = subst (λ (t : Ty). IsSimpleOf c.in-Some.tag (ty_view t)) c.as_type-shape.ensures.value c.in-Some.ensures in record {
-      tag = leaf_kept c.in-Some.tag (ty_view c.args.ty.now) (inl is) (good_nodes (ty_view c.args.ty.now) c.as_type-shape.ensures.well_formed);
-      simple = simple_conforms c.in-Some.tag (ty_view c.args.ty.now) (value_view c.args.value.now) is c.requires;
-    }
 
 pub returns-in-Some-clause-appended : goal.returns-in-Some-clause-appended
 returns-in-Some-clause-appended c =

@@ -15,8 +15,7 @@ use Rattle.canon.specs.Node.{HasGoodNodes, AreItems, AreComponents}
 use Rattle.canon.specs.Rule.{rule_of}
 use Rattle.canon.specs.Size.{HasSize}
 use Rattle.canon.proofs.AlikeLemmas.{size_alike, alike-chain}
-use Rattle.canon.proofs.LeafLemmas.{leaf_alike, leaf_conforms}
-use Rattle.canon.proofs.LeavesLemmas.{leaves_conform, leaves_alike}
+use Rattle.canon.proofs.LeafLemmas.{leaf_alike}
 use Rattle.canon.proofs.NodeLemmas.{choice_parts, choice_alike, has_items, has_slots, has_inner, explicit_alike}
 use Rattle.canon.proofs.NodeSizeLemmas.{around_size}
 use Rattle.canon.proofs.SimpleLemmas.{rule_is_canonical}
@@ -137,13 +136,6 @@ size_of-returns-in-Boolean-clause-size t c =
     let v = value_view c.args.value.now in
     size_alike _ _ c.size_of_leaf.result (leaf_alike (rule_of c.args.rule) tag shape v (leaf_view c.args.ty.now tag c.in-Boolean.is) c.requires.conforms) c.size_of_leaf.ensures.size
 
-pub size_of_items-size_of_leaves-requires-clause-leaves : goal.size_of_items-size_of_leaves-requires-clause-leaves
-size_of_items-size_of_leaves-requires-clause-leaves t c = leaves_conform c.in-Some.tag (ty_view c.args.ty.now) c.in-Some.ensures (map value_view c.args.items.now) c.requires.conform
-
-pub size_of_items-returns-in-Some-clause-size : goal.size_of_items-returns-in-Some-clause-size
-size_of_items-returns-in-Some-clause-size t c =
-    size_alike _ _ c.size_of_leaves.result (leaves_alike c.in-Some.tag (ty_view c.args.ty.now) c.in-Some.ensures (rule_of c.args.rule) (map value_view c.args.items.now) c.requires.conform) c.size_of_leaves.ensures.size
-
 pub size_of_items-size_of-requires : goal.size_of_items-size_of-requires
 size_of_items-size_of-requires t c =
     (search rules, (c.requires.nodes, item_conforms (ty_view c.args.ty.now) c.args.items.now (length c.args.items.now - 1 - c.loop-done.done) c.index-items-count.result (omega arith) c.index-items-count.is c.requires.conform))
@@ -168,8 +160,8 @@ size_of_components-loop-done-init t c =
       size = size_from_end (rule_of c.args.rule) c.args.fields.now c.args.slots.now (c.min-count.result - 0) (omega (arith, c.min-count.ensures, many)) many;
     }
 
-pub size_of_components-size_of_part-size-requires : goal.size_of_components-size_of_part-size-requires
-size_of_components-size_of_part-size-requires t c =
+pub size_of_components-size_of-size-requires : goal.size_of_components-size_of-size-requires
+size_of_components-size_of-size-requires t c =
     let fields = c.args.fields.now in
     let slots = c.args.slots.now in
     let place = c.min-count.result - 1 - c.loop-done.done in
@@ -199,8 +191,8 @@ size_of_components-loop-done-preserved t c =
           let stands : Some v ≡ get_or slots i (Some v) = sym w.in-Some.is ∙ c.index-slots-place.is ∙ ap (λ k. get_or slots k c.index-slots-place.result) place ∙ ap (λ (d : Option Value). get_or slots i d) w.in-Some.is in
           let at : f ≡ get_or fields i f = w.index-fields-place.is ∙ ap (λ k. get_or fields k f) place in
           let is = present_at fields slots i f v here at stands c.requires.conform c.requires.nodes in
-          let size = present_size rule fields slots i j f v w.size_of_part-size.result c.loop-done.total there here (omega arith) at stands is (subst (λ (g : Field). HasSize (IsEncoding rule (ty_view g.ty) (value_view v)) w.size_of_part-size.result) (sym w.index-fields-place.is) w.size_of_part-size.ensures.size) c.loop-done.invariant.size in
-          let capped : min (c.loop-done.total + w.size_of_part-size.result) 1_048_577 ≡ c.match-slots-place.total = omega (arith, w.min-total.ensures, w.total-is) in
+          let size = present_size rule fields slots i j f v w.size_of-size.result c.loop-done.total there here (omega arith) at stands is (subst (λ (g : Field). HasSize (IsEncoding rule (ty_view g.ty) (value_view v)) w.size_of-size.result) (sym w.index-fields-place.is) w.size_of-size.ensures.size) c.loop-done.invariant.size in
+          let capped : min (c.loop-done.total + w.size_of-size.result) 1_048_577 ≡ c.match-slots-place.total = omega (arith, w.min-total.ensures, w.total-is) in
           record { at_most = omega (arith, w.min-total.ensures, w.total-is); size = subst (λ n. HasSize (AreComponents rule (components_view (drop i fields)) (slots_view (drop i slots))) n) capped size }
       | size_of_components-in-None w ↦
           let stands : None ≡ get_or slots i None = sym w.in-None.is ∙ c.index-slots-place.is ∙ ap (λ k. get_or slots k c.index-slots-place.result) place ∙ ap (λ (d : Option Value). get_or slots i d) w.in-None.is in
@@ -212,10 +204,3 @@ pub size_of_components-returns-clause-size : goal.size_of_components-returns-cla
 size_of_components-returns-clause-size t c =
     let none_left : c.min-count.result - c.loop-done.done ≡ 0 = omega arith in
     subst (λ k. HasSize (AreComponents (rule_of c.args.rule) (components_view (drop k c.args.fields.now)) (slots_view (drop k c.args.slots.now))) c.loop-done.total) none_left c.loop-done.invariant.size
-
-pub size_of_part-size_of_leaf-requires-clause-leaf : goal.size_of_part-size_of_leaf-requires-clause-leaf
-size_of_part-size_of_leaf-requires-clause-leaf t c = leaf_conforms c.in-Some.tag (ty_view c.args.ty.now) (value_view c.args.value.now) c.in-Some.ensures c.requires.conforms
-
-pub size_of_part-returns-in-Some-clause-size : goal.size_of_part-returns-in-Some-clause-size
-size_of_part-returns-in-Some-clause-size t c =
-    size_alike _ _ c.size_of_leaf.result (leaf_alike (rule_of c.args.rule) c.in-Some.tag (ty_view c.args.ty.now) (value_view c.args.value.now) c.in-Some.ensures c.requires.conforms) c.size_of_leaf.ensures.size

@@ -1,0 +1,82 @@
+-- Lemmas on constructed encodings whose length is put in its place at the end.
+use Rattle.std.proofs.Common.{◌≡◌, ◌∙◌, ◌+◌, ◌-◌, ◌<◌, ℕ, suc, OnOk, true, List, [], ◌∷◌, ◌++◌, length, take, drop, slice_set, refl, ap, ap₂, subst, arith, append_assoc, length-append, length-drop, length-take}
+use Rattle.std.proofs.lemmas.List.{set_split, take-append-le, drop-append-le}
+use Rattle.std.specs.declared.result.Result.{Result}
+use Rattle.octets.specs.declared.tag.Tag.{Tag}
+use Rattle.octets.specs.Front.{Appends}
+use Rattle.octets.specs.Identifier.{IsIdentifier}
+use Rattle.octets.specs.Length.{IsShortestLength}
+use Rattle.octets.specs.Rule.{Rule, cer, der}
+use Rattle.octets.proofs.LengthLemmas.{IsShortestLength-short}
+use Rattle.octets.proofs.ResultLemmas.{OnOk-map}
+use Rattle.types.specs.Form.{IsConstructed}
+use Rattle.canon.specs.Node.{IsAround}
+use Rattle.canon.specs.Opening.{IsOpening, IsLengthPut}
+use Rattle.canon.specs.Part.{Keeps}
+use Rattle.canon.proofs.PartLemmas.{take_front, drop_front}
+
+pub opened_kept : (tag : Tag) (old new : List ℕ) (place : ℕ) → IsOpening tag old new place → Keeps old new
+opened_kept tag old new place h = (h.identifier ++ 128 ∷ [], h.is ∙ append_assoc old h.identifier (128 ∷ []), tt)
+
+-- the octet 80 was appended to identifier octets
+pub opened : (tag : Tag) (old one new : List ℕ) (place : ℕ) → Appends (IsIdentifier tag true) old one → new ≡ one ++ 128 ∷ [] → place + 1 ≡ length new → IsOpening tag old new place
+opened tag old one new place h push count = record {
+  identifier = h.0;
+  tagged = h.2;
+  is = push ∙ ap (λ s. s ++ 128 ∷ []) h.1;
+  at = omega (arith, count, ap length push, length-append one (128 ∷ []), ap length h.1);
+}
+
+-- the octets behind the octet 80, and those before it
+whole_of : (before identifier inside end : List ℕ) → (((before ++ identifier) ++ 128 ∷ []) ++ inside) ++ end ≡ before ++ (identifier ++ (128 ∷ (inside ++ end)))
+whole_of before identifier inside end =
+    append_assoc ((before ++ identifier) ++ 128 ∷ []) inside end ∙ append_assoc (before ++ identifier) (128 ∷ []) (inside ++ end)
+    ∙ append_assoc before identifier (128 ∷ (inside ++ end))
+
+-- ends by end-of-contents octets, or by a length
+pub closed_cer : (tag : Tag) (place : ℕ) (before one inside two new : List ℕ) → IsOpening tag before one place → two ≡ one ++ inside → new ≡ two ++ 0 ∷ 0 ∷ [] → Appends (IsConstructed cer tag inside) before new
+closed_cer tag place before one inside two new h is end = (
+  h.identifier ++ (128 ∷ (inside ++ 0 ∷ 0 ∷ [])),
+  end ∙ ap (λ s. s ++ 0 ∷ 0 ∷ []) (is ∙ ap (λ s. s ++ inside) h.is) ∙ whole_of before h.identifier inside (0 ∷ 0 ∷ []),
+  record { identifier = h.identifier; tagged = h.tagged; joined = refl },
+)
+
+pub closed_der : (tag : Tag) (place : ℕ) (before one inside two new : List ℕ) → IsOpening tag before one place → two ≡ one ++ inside → IsLengthPut place two new → Appends (IsConstructed der tag inside) before new
+closed_der tag place before one inside two new h is put =
+    let head = before ++ h.identifier in
+    let split : two ≡ head ++ (128 ∷ inside) = is ∙ ap (λ s. s ++ inside) h.is ∙ append_assoc head (128 ∷ []) inside in
+    let front : take place two ≡ head = ap (take place) split ∙ take_front head (128 ∷ inside) place h.at in
+    let behind : suc place ≡ length one = omega (arith, h.at, ap length h.is, length-append head (128 ∷ [])) in
+    let rest : drop (suc place) two ≡ inside = ap (drop (suc place)) is ∙ drop_front one inside (suc place) behind in
+    let count : length two - suc place ≡ length inside = omega (arith, behind, ap length is, length-append one inside) in (
+      h.identifier ++ (put.size ++ inside),
+      put.is ∙ ap₂ (λ x y. x ++ (put.size ++ y)) front rest ∙ append_assoc before h.identifier (put.size ++ inside),
+      record { identifier = h.identifier; size = put.size; tagged = h.tagged; sized = subst (λ n. IsShortestLength n put.size) count put.sized; joined = refl },
+    )
+
+-- one length octet in the place of the octet there, and several
+pub short_length_put : (place n : ℕ) (old new : List ℕ) → place + 1 + n ≡ length old → n < 128 → new ≡ slice_set old place n → IsLengthPut place old new
+short_length_put place n old new count few is = record {
+  size = n ∷ [];
+  sized = subst (λ k. IsShortestLength k (n ∷ [])) (omega (arith, count)) (IsShortestLength-short n few);
+  is = is ∙ set_split old place n (omega (arith, count));
+}
+
+pub long_length_put : (place n : ℕ) (old one two new : List ℕ) → place + 1 + n ≡ length old → Appends (IsShortestLength n) old one → two ≡ take place one ++ drop (place + 1) one
+    → ((front inside moved : List ℕ) → length front ≡ place → length inside ≡ n → two ≡ front ++ (inside ++ moved) → new ≡ front ++ (moved ++ inside)) → IsLengthPut place old new
+long_length_put place n old one two new count put gone moved =
+    let next : place + 1 ≡ suc place = omega arith in
+    let before : take place one ≡ take place old = ap (take place) put.1 ∙ take-append-le place old put.0 (omega (arith, count)) in
+    let behind : drop (place + 1) one ≡ drop (suc place) old ++ put.0 = ap (λ k. drop k one) next ∙ ap (drop (suc place)) put.1 ∙ drop-append-le (suc place) old put.0 (omega (arith, count)) in
+    let left : length (drop (suc place) old) ≡ n = omega (arith, length-drop (suc place) old, count) in
+    record {
+      size = put.0;
+      sized = subst (λ k. IsShortestLength k put.0) (omega (arith, count)) put.2;
+      is = moved (take place old) (drop (suc place) old) put.0 (omega (arith, length-take place old, count)) left (gone ∙ ap₂ (λ x y. x ++ y) before behind);
+    }
+
+-- contents octets between an opening and what ends it
+pub around_closed : {E : Type 0} (r : Result (Unit {0}) E) (rule : Rule) (tag : Tag) (P Q : List ℕ → Type 0) (place : ℕ) (old one two new : List ℕ) → IsOpening tag old one place → Appends P one two → ((b : List ℕ) → IsAround P rule tag b → Q b)
+    → OnOk r ((of : Tag) (before opening inside : List ℕ) → IsOpening of before opening place → two ≡ opening ++ inside → Appends (IsConstructed rule of inside) before new) → OnOk r (Appends Q old new)
+around_closed r rule tag P Q place old one two new h a f closed =
+    OnOk-map r _ _ (λ close. let w = close tag old one a.0 h a.1 in (w.0, w.1, f w.0 record { contents = a.0; inside = a.2; whole = w.2 })) closed
