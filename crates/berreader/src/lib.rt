@@ -15,6 +15,3 @@ mod stack;
 pub use reader::{Reader, Step};
 pub use reading::read;
 pub use whole::MAX_NESTED;
-
-#[cfg(test)]
-mod tests;

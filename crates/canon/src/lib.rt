@@ -38,6 +38,3 @@ pub use sameness::same;
 
 /// The most contents octets of a primitive encoding of a string under CER (X.690 9.2).
 pub const SEGMENT_OCTETS: usize = 1_000;
-
-#[cfg(test)]
-mod tests;

@@ -7,6 +7,3 @@
 mod reading;
 
 pub use reading::{read_cer, read_der};
-
-#[cfg(test)]
-mod tests;

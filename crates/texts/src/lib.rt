@@ -13,6 +13,3 @@ mod showing;
 
 pub use laws::same_values_have_one_text;
 pub use showing::{show, show_behind};
-
-#[cfg(test)]
-mod tests;

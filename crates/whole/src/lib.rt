@@ -13,6 +13,3 @@ pub use reading::read_whole;
 
 /// How many constructed encodings may nest.
 pub const MAX_NESTED: usize = 64;
-
-#[cfg(test)]
-mod tests;

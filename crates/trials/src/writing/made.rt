@@ -1,6 +1,6 @@
 //! Types and values made in code, from plans that tables can hold.
 
-use crate::{Canon, Cer, Der};
+use canon::{Canon, Cer, Der};
 use octets::{Class, Tag};
 use primitives::Bits;
 use std::alloc::Global;

@@ -6,9 +6,9 @@ use super::made::Plan::{
 };
 use super::made::{Given, Part, Plan};
 use super::shows;
-use crate::show;
 use octets::Tag;
 use std::test::Fail;
+use texts::show;
 use types::{Ty, Value, WellTyped, conforms};
 
 const YES: Given = Given::Boolean(true);

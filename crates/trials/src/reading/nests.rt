@@ -2,7 +2,7 @@
 
 use super::readers::comes_as_read;
 use super::refusal_of;
-use crate::read;
+use berreader::read;
 use octets::{Class, Tag};
 use std::alloc::Global;
 use std::test::Fail;

@@ -1,7 +1,7 @@
-use crate::{read_cer, read_der};
 use octets::{Class, Tag};
 use std::alloc::Global;
 use std::test::Fail;
+use strict::{read_cer, read_der};
 use types::{Field, Presence, Refusal, Ty, Value, WellTyped};
 
 fn context(number: u32) -> Tag {

@@ -3,7 +3,7 @@
 ghost use Rattle.std.specs.Prelude.{◌≤◌};
 
 use super::{Answer, bit_string, is_answer, octet_string, universal};
-use crate::{Reader, Step, read};
+use berreader::{Reader, Step, read};
 use octets::{Class, Tag};
 use std::alloc::Global;
 use std::test::Fail;

@@ -3,10 +3,10 @@ mod parts;
 mod quoted;
 mod simple;
 
-use crate::show;
 use made::{Given, Plan, ty_of, value_of};
 use std::process::Abort;
 use std::test::Fail;
+use texts::show;
 use types::{WellTyped, conforms};
 
 // Whether each value is shown with its text.

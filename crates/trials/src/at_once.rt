@@ -1,9 +1,9 @@
-use crate::read_whole;
 use octets::{Class, Tag};
 use std::alloc::Global;
 use std::test::Fail;
 use strings::{TextKind, TimeKind};
 use types::{Alternative, Field, Item, Presence, Ty, Value, WellTyped};
+use whole::read_whole;
 
 fn universal(number: u32) -> Tag {
     let class = Class::Universal;

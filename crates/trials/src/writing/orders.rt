@@ -5,7 +5,7 @@ use super::made::Plan::{
     Bits, Boolean, Choice, Empty, Explicit, Integer, Octets, Oid, Sequence, SequenceOf, Set, SetOf,
 };
 use super::made::{Given, Plan, typed, value_of};
-use crate::{order, same};
+use canon::{order, same};
 use std::test::Fail;
 use types::conforms;
 

@@ -1,7 +1,7 @@
 mod nests;
 mod readers;
 
-use crate::read;
+use berreader::read;
 use octets::{Class, Tag};
 use readers::comes_as_read;
 use std::alloc::Global;

@@ -1,7 +1,7 @@
 //! Encodings at the limit of 1,048,576 octets and past it.
 
 use super::made::{Plan, typed};
-use crate::{Canon, Cer, Der};
+use canon::{Canon, Cer, Der};
 use std::alloc::Global;
 use std::test::Fail;
 use types::{Refusal, Value, conforms};

@@ -8,7 +8,7 @@ use strings::{TextKind, TimeKind};
 use types::{Alternative, Field, Item, Presence, Ty, Value};
 
 /// A type. But for `Tagged` and `Explicit` it has its universal tag.
-#[cycle(plan)]
+#[cycle(shown)]
 #[derive(Drop)]
 pub enum Plan {
     Boolean,
@@ -36,7 +36,7 @@ pub enum Plan {
 }
 
 /// A component and its name.
-#[cycle(plan)]
+#[cycle(shown)]
 #[derive(Drop)]
 pub enum Part {
     Required(&'static str, Plan),

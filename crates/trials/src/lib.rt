@@ -1,0 +1,16 @@
+//! Tests of the crates that read and write values, of each by itself, through what it offers: `whole`
+//! (`at_once`), `berreader` (`reading`), `canon` (`writing`), `strict` (`canonical`) and `texts` (`shown`).
+//!
+//! They stand here and not in those crates, since the check of a crate's tests proves the crate once more.
+#![tactic(auto)]
+
+#[cfg(test)]
+mod at_once;
+#[cfg(test)]
+mod canonical;
+#[cfg(test)]
+mod reading;
+#[cfg(test)]
+mod shown;
+#[cfg(test)]
+mod writing;
