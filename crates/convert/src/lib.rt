@@ -36,6 +36,3 @@ pub use words::line;
 
 /// The most octets that a hexadecimal text may have, white space counted.
 pub const MAX_HEX_TEXT: usize = 4_194_304;
-
-#[cfg(test)]
-mod tests;

@@ -31,6 +31,3 @@ pub const MAX_TEXT: usize = 262_144;
 
 /// The greatest number in a module's text, 2 to the power of 127.
 pub const MAX_NUMBER: u128 = 1 << 127;
-
-#[cfg(test)]
-mod tests;

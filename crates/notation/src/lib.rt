@@ -18,6 +18,3 @@ pub use syntax::{
     Alternative, Assignment, Component, DefaultValue, Expr, Group, Item, Module, Presence,
     SignedNumber, Simple, TagClass, TagMode, TagPrefix, Tagging, parse,
 };
-
-#[cfg(test)]
-mod tests;

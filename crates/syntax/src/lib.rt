@@ -19,6 +19,3 @@ pub use tree::{
     Alternative, Assignment, Component, DefaultValue, Expr, Group, Item, Module, Presence,
     SignedNumber, Simple, TagClass, TagMode, TagPrefix, Tagging,
 };
-
-#[cfg(test)]
-mod tests;

@@ -1,5 +1,5 @@
-//! Tests of the crates that read and write values, of each by itself, through what it offers: `whole`
-//! (`at_once`), `berreader` (`reading`), `canon` (`writing`), `strict` (`canonical`) and `texts` (`shown`).
+//! Tests of the crates that have, read and write values, of each by itself, through what it offers: `types` (`typed`),
+//! `whole` (`at_once`), `berreader` (`reading`), `canon` (`writing`), `strict` (`canonical`) and `texts` (`shown`).
 //!
 //! They stand here and not in those crates, since the check of a crate's tests proves the crate once more.
 #![tactic(auto)]
@@ -12,5 +12,7 @@ mod canonical;
 mod reading;
 #[cfg(test)]
 mod shown;
+#[cfg(test)]
+mod typed;
 #[cfg(test)]
 mod writing;

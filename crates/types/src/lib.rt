@@ -35,6 +35,3 @@ pub const MAX_LEVELS: usize = 60;
 
 /// The most components of one SEQUENCE or SET, alternatives of one CHOICE and items of one ENUMERATED.
 pub const MAX_LIST: usize = 256;
-
-#[cfg(test)]
-mod tests;

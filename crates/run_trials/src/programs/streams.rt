@@ -1,7 +1,7 @@
 //! Streams from sources that give one octet a call or many, to sinks that take one octet a call or many.
 
 use super::dripping::{Dripping, Filling, boolean, counted, type_of};
-use crate::{
+use convert::{
     Canonical, FromReader, FromSlice, Rule, Stopped, ToVec, ToWriter, check, convert, list,
 };
 use std::alloc::Global;

@@ -1,7 +1,7 @@
 //! What is read.
 
-use crate::{Tagging, parse};
 use std::test::Fail;
+use syntax::{Tagging, parse};
 
 #[test]
 fn places_of_assignments(rt: HostRuntime) -> Result<(), Fail> {

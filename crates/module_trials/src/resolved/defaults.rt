@@ -1,6 +1,6 @@
 //! Values behind DEFAULT.
 
-use crate::tests::told_of;
+use super::told_of;
 use std::test::Fail;
 
 #[test]

@@ -1,7 +1,7 @@
 //! Hexadecimal text.
 
 use super::spaces;
-use crate::{HexFault, unhex};
+use convert::{HexFault, unhex};
 use std::test::Fail;
 
 #[test]

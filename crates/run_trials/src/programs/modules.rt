@@ -2,7 +2,7 @@
 
 use super::dripping::Dripping;
 use super::{check_run_of, line_to_der, spaces};
-use crate::{Canonical, Line, Verb, cannot_read_module, read_module};
+use convert::{Canonical, Line, Verb, cannot_read_module, read_module};
 use std::alloc::{AllocError, Global};
 use std::io;
 use std::io::ErrorKind;

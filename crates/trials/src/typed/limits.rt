@@ -5,10 +5,10 @@ use super::made::Plan::{
     Boolean, Choice, Empty, Enumerated, Explicit, Octets, Sequence, SequenceOf, Set, Tagged,
 };
 use super::made::{Plan, context, ty_of, universal};
-use crate::{Alternative, Field, Item, Presence, Ty, TypeFault, WellTyped};
 use octets::Class::Context;
 use std::alloc::Global;
 use std::test::Fail;
+use types::{Alternative, Field, Item, Presence, Ty, TypeFault, WellTyped};
 
 const LARGE: Option<TypeFault> = Some(TypeFault::TooLarge);
 

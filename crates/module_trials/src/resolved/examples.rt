@@ -1,6 +1,6 @@
 //! Modules that users bring, trimmed to the profile.
 
-use crate::tests::told;
+use super::told;
 use std::test::Fail;
 
 /// Names and algorithms of certificates (RFC 5280), their open types trimmed.

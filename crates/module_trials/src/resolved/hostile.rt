@@ -1,6 +1,6 @@
 //! Modules that are made to be hard.
 
-use crate::tests::{resolved, told};
+use super::{resolved, told};
 use std::alloc::{AllocError, Global};
 use std::test::Fail;
 

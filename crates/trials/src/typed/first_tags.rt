@@ -5,10 +5,10 @@ use super::made::Plan::{
     Boolean, Choice, Empty, Explicit, Integer, Sequence, SequenceOf, Set, SetOf, Tagged,
 };
 use super::made::{Given, Plan, context, ty_of, universal};
-use crate::{TypeFault, WellTyped};
 use octets::Class::{Context, Universal};
 use octets::Tag;
 use std::test::Fail;
+use types::{TypeFault, WellTyped};
 
 const EQUAL: Option<TypeFault> = Some(TypeFault::TagsNotDistinct);
 

@@ -2,10 +2,10 @@
 
 use super::made::Part::Default;
 use super::made::{Given, Plan, ty_of};
-use crate::{TypeFault, WellTyped};
 use octets::Class::Context;
 use std::test::Fail;
 use strings::{TextKind, TimeKind};
+use types::{TypeFault, WellTyped};
 
 const TAGGED: Plan = Plan::Explicit(Context, 0, &Plan::Integer);
 

@@ -1,7 +1,7 @@
 //! What a run prints and returns over devices that do not fail.
 
 use super::{check_run, line_to_der, spaces};
-use crate::{Canonical, Rule, Verb};
+use convert::{Canonical, Rule, Verb};
 use std::test::Fail;
 
 #[test]

@@ -2,7 +2,7 @@
 
 use super::dripping::{Dripping, Filling};
 use super::line_to_der;
-use crate::{Canonical, Line, Verb, run};
+use convert::{Canonical, Line, Verb, run};
 use std::alloc::{AllocError, Global};
 use std::test::Fail;
 

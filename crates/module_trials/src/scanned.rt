@@ -1,4 +1,4 @@
-use crate::{
+use lexis::{
     Fault, Kind, Lexeme, Symbol, Token, Word, fault_at, lexeme_of, symbol_of, tokens, word_of,
 };
 use std::process::Abort;

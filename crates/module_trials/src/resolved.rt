@@ -1,6 +1,6 @@
 //! Tests of the types that names mean.
 
-use crate::{Fault, parse, resolve};
+use notation::{Fault, parse, resolve};
 use outline::outline;
 use std::alloc::{AllocError, Global};
 use types::WellTyped;

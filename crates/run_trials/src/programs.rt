@@ -1,6 +1,6 @@
 //! Tests of the engine, and what they share.
 
-use crate::{Canonical, Line, Rule, Verb, run};
+use convert::{Canonical, Line, Rule, Verb, run};
 use std::alloc::{AllocError, Global};
 use std::process::Abort;
 

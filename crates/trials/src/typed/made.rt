@@ -1,14 +1,14 @@
 //! Types and values made in code, from plans that tables can hold.
 
-use crate::{Alternative, Field, Item, Presence, Ty, Value};
 use octets::{Class, Tag};
 use primitives::Bits;
 use std::alloc::Global;
 use std::test::Fail;
 use strings::{TextKind, TimeKind};
+use types::{Alternative, Field, Item, Presence, Ty, Value};
 
 /// A type. But for `Tagged` and `Explicit` it has its universal tag.
-#[cycle(plan)]
+#[cycle(typed)]
 #[derive(Drop)]
 pub enum Plan {
     Boolean,
@@ -33,7 +33,7 @@ pub enum Plan {
 }
 
 /// A component.
-#[cycle(plan)]
+#[cycle(typed)]
 #[derive(Drop)]
 pub enum Part {
     Required(Plan),

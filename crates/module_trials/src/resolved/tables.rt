@@ -1,6 +1,6 @@
 //! Tags and numbers of the types of small modules.
 
-use crate::tests::told_of;
+use super::told_of;
 use std::test::Fail;
 
 #[test]

@@ -1,10 +1,10 @@
 //! Numbers and names of refusals, as the program prints them.
 
-use crate::{Refusal, TypeFault};
 use octets::NoMemory;
 use primitives::Fault;
 use std::alloc::AllocError;
 use std::test::Fail;
+use types::{Refusal, TypeFault};
 
 #[test]
 fn names_and_numbers(rt: HostRuntime) {

@@ -6,11 +6,11 @@ use super::made::Plan::{
     Sequence, Set, SetOf, Text, Time,
 };
 use super::made::{Given, Plan, ty_of, value_of};
-use crate::conforms;
 use octets::Class::Context;
 use std::test::Fail;
 use strings::TextKind::{Bmp, Ia5, Numeric, Printable, Utf8, Visible};
 use strings::TimeKind::{Generalized, Utc};
+use types::conforms;
 
 const ONE: Given = Given::Integer(1);
 

@@ -1,6 +1,6 @@
 //! The numbers and places of faults.
 
-use crate::tests::{told, told_of};
+use super::{told, told_of};
 use std::test::Fail;
 
 #[test]

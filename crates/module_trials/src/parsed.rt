@@ -1,7 +1,7 @@
 //! Tests of the parser.
 
-use crate::parse;
 use std::alloc::{AllocError, Global};
+use syntax::parse;
 
 mod faults;
 mod limits;

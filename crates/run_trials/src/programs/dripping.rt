@@ -1,6 +1,6 @@
 //! Readers and writers of one octet a call, which fail once so many calls went well.
 
-use crate::{Stopped, Tag, Ty, WellTyped};
+use convert::{Stopped, Tag, Ty, WellTyped};
 use std::alloc::Global;
 use std::io;
 use std::io::{ErrorKind, Read, Write};
