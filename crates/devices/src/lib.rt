@@ -24,6 +24,3 @@ pub use source::Source;
 pub use to_vec::ToVec;
 pub use to_writer::ToWriter;
 pub use writing::{whole_parts, write_all};
-
-#[cfg(test)]
-mod tests;

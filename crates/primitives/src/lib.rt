@@ -28,6 +28,3 @@ pub use oid::{put_oid, put_relative_oid, read_oid, read_relative_oid};
 
 /// The most subidentifiers of one value.
 pub const MAX_SUBIDENTIFIERS: usize = 128;
-
-#[cfg(test)]
-mod tests;

@@ -1,7 +1,10 @@
-//! Tests of `convert`, through what it offers: command lines, hexadecimal text, runs, and streams over devices of every kind.
+//! Tests of `convert`, through what it offers: command lines, hexadecimal text, runs, and streams over devices of every
+//! kind (`programs`); and of `devices` (`on_devices`).
 //!
-//! They stand here and not in `convert`, since the check of a crate's tests proves the crate once more.
+//! They stand here and not in those crates, since the check of a crate's tests proves the crate once more.
 #![tactic(auto)]
 
+#[cfg(test)]
+mod on_devices;
 #[cfg(test)]
 mod programs;

@@ -9,6 +9,3 @@ mod time;
 
 pub use text::{TextKind, allowed};
 pub use time::{TimeKind, is_time};
-
-#[cfg(test)]
-mod tests;

@@ -1,4 +1,4 @@
-use crate::{
+use primitives::{
     Bits, Fault, put_bits, put_boolean, put_integer, put_null, put_oid, put_relative_oid,
     read_bits, read_boolean, read_integer, read_null, read_oid, read_relative_oid,
 };

@@ -1,7 +1,7 @@
 //! What sources give, and when they fail.
 
 use super::Dripping;
-use crate::{Failed, FromReader, FromSlice, Source};
+use devices::{Failed, FromReader, FromSlice, Source};
 use std::alloc::AllocError;
 use std::io::ErrorKind;
 use std::test::Fail;

@@ -1,5 +1,5 @@
-use crate::{TextKind, TimeKind, allowed, is_time};
 use std::test::Fail;
+use strings::{TextKind, TimeKind, allowed, is_time};
 
 #[test]
 fn character_strings(rt: HostRuntime) {

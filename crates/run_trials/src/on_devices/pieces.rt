@@ -1,7 +1,7 @@
 //! Pieces of a source, and parts of what is written.
 
 use super::Dripping;
-use crate::{Failed, FromReader, FromSlice, Piece, Source, whole_parts};
+use devices::{Failed, FromReader, FromSlice, Piece, Source, whole_parts};
 use std::alloc::{AllocError, Global};
 use std::io::ErrorKind;
 use std::test::Fail;

@@ -1,7 +1,7 @@
 //! What sinks take, and when they fail.
 
 use super::Filling;
-use crate::{Failed, Sink, ToVec, ToWriter, write_all};
+use devices::{Failed, Sink, ToVec, ToWriter, write_all};
 use std::io::ErrorKind;
 use std::test::Fail;
 
