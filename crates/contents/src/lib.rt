@@ -29,6 +29,3 @@ pub use leaf::{begin_string, read_leaf};
 pub use parts::read_opening;
 pub use seats::{Seat, Seats, is_default, not_due, seats_of};
 pub use segments::{Segments, read_end};
-
-#[cfg(test)]
-mod tests;

@@ -1,84 +1,35 @@
-use octets::{Class, Tag};
+use crate::made::{EXPLICIT, NESTED_CHOICE, Plan, SEQUENCE, SEQUENCE_OF, SET, SET_OF, ty_of};
+use octets::Tag;
 use std::alloc::Global;
 use std::test::Fail;
 use strings::{TextKind, TimeKind};
-use types::{Alternative, Field, Item, Presence, Ty, Value, WellTyped};
+use types::{Ty, Value, WellTyped};
 use whole::read_whole;
 
-fn universal(number: u32) -> Tag {
-    let class = Class::Universal;
-    Tag { class, number }
-}
-
-fn context(number: u32) -> Tag {
-    let class = Class::Context;
-    Tag { class, number }
-}
-
-// ENUMERATED { a (2), b (7) }
-fn enumerated(alloc: Global) -> Result<Ty, Fail> {
-    let mut items = Vec::new(alloc);
-    let name = String::from_str(alloc, "a")?;
-    items.push(Item { name, number: 2 })?;
-    let name = String::from_str(alloc, "b")?;
-    items.push(Item { name, number: 7 })?;
-    Ok(Ty::Enumerated(universal(10), items))
-}
-
-fn field(alloc: Global, ty: Ty, presence: Presence) -> Result<Field, Fail> {
-    let name = String::from_str(alloc, "a")?;
-    Ok(Field { name, ty, presence })
-}
-
-// An INTEGER, a BOOLEAN that may be absent, and [0] IMPLICIT INTEGER DEFAULT 5.
-fn fields(alloc: Global) -> Result<Vec<Field>, Fail> {
-    let mut fields = Vec::new(alloc);
-    fields.push(field(alloc, Ty::Integer(universal(2)), Presence::Required)?)?;
-    fields.push(field(alloc, Ty::Boolean(universal(1)), Presence::Optional)?)?;
-    let five = Presence::Default(Value::Integer(5));
-    fields.push(field(alloc, Ty::Integer(context(0)), five)?)?;
-    Ok(fields)
-}
-
-fn alternative(alloc: Global, ty: Ty) -> Result<Alternative, Fail> {
-    let name = String::from_str(alloc, "a")?;
-    Ok(Alternative { name, ty })
-}
-
-// CHOICE { INTEGER, CHOICE { BOOLEAN, SEQUENCE OF INTEGER } }
-fn choice(alloc: Global) -> Result<Ty, Fail> {
-    let integer = Box::new(alloc, Ty::Integer(universal(2)))?;
-    let mut within = Vec::new(alloc);
-    within.push(alternative(alloc, Ty::Boolean(universal(1)))?)?;
-    within.push(alternative(alloc, Ty::SequenceOf(universal(16), integer))?)?;
-    let mut alternatives = Vec::new(alloc);
-    alternatives.push(alternative(alloc, Ty::Integer(universal(2)))?)?;
-    alternatives.push(alternative(alloc, Ty::Choice(within))?)?;
-    Ok(Ty::Choice(alternatives))
-}
+const ENUMERATED: Plan = Plan::Enumerated(&[2, 7]);
 
 // The type that a letter stands for.
 fn type_of(alloc: Global, letter: u8) -> Result<Ty, Fail> {
-    let integer = Box::new(alloc, Ty::Integer(universal(2)))?;
-    Ok(match letter {
-        b'b' => Ty::Boolean(universal(1)),
-        b'i' => Ty::Integer(universal(2)),
-        b'h' => Ty::Integer(context(31)),
-        b'e' => enumerated(alloc)?,
-        b'n' => Ty::Null(universal(5)),
-        b'd' => Ty::Oid(universal(6)),
-        b'r' => Ty::RelativeOid(universal(13)),
-        b'v' => Ty::Bits(universal(3)),
-        b'o' => Ty::Octets(universal(4)),
-        b'p' => Ty::Text(universal(19), TextKind::Printable),
-        b't' => Ty::Time(universal(23), TimeKind::Utc),
-        b'x' => Ty::Explicit(context(1), integer),
-        b's' => Ty::Sequence(universal(16), fields(alloc)?),
-        b'S' => Ty::Set(universal(17), fields(alloc)?),
-        b'l' => Ty::SequenceOf(universal(16), integer),
-        b'L' => Ty::SetOf(universal(17), integer),
-        _ => choice(alloc)?,
-    })
+    let plan = match letter {
+        b'b' => Plan::Boolean,
+        b'i' => Plan::Integer,
+        b'h' => Plan::TaggedInteger(31),
+        b'e' => ENUMERATED,
+        b'n' => Plan::Empty,
+        b'd' => Plan::Oid,
+        b'r' => Plan::RelativeOid,
+        b'v' => Plan::Bits,
+        b'o' => Plan::Octets,
+        b'p' => return Ok(Ty::Text(Tag::universal(19), TextKind::Printable)),
+        b't' => return Ok(Ty::Time(Tag::universal(23), TimeKind::Utc)),
+        b'x' => EXPLICIT,
+        b's' => SEQUENCE,
+        b'S' => SET,
+        b'l' => SEQUENCE_OF,
+        b'L' => SET_OF,
+        _ => NESTED_CHOICE,
+    };
+    ty_of(alloc, &plan)
 }
 
 // What is read at once, and how many octets it has.

@@ -1,37 +1,28 @@
-use octets::{Class, Tag};
+use crate::made::{Given, Part, Plan, SET_OF, typed};
+use octets::Class;
 use std::alloc::Global;
 use std::test::Fail;
 use strict::{read_cer, read_der};
-use types::{Field, Presence, Refusal, Ty, Value, WellTyped};
+use types::{Refusal, Value, WellTyped};
 
-fn context(number: u32) -> Tag {
-    let class = Class::Context;
-    Tag { class, number }
-}
+// SEQUENCE { INTEGER DEFAULT 5 }
+const WITH_DEFAULT: Plan = Plan::Sequence(&[Part::Default(Plan::Integer, Given::Integer(5))]);
+
+// [0] EXPLICIT INTEGER
+const TAGGED: Plan = Plan::Explicit(Class::Context, 0, &Plan::Integer);
 
 // The type that a letter stands for.
 fn type_of(alloc: Global, letter: u8) -> Result<WellTyped, Fail> {
-    let integer = Ty::Integer(Tag::universal(2));
-    let ty = match letter {
-        b'b' => Ty::Boolean(Tag::universal(1)),
-        b'i' => integer,
-        b'u' => Ty::Bits(Tag::universal(3)),
-        b'o' => Ty::Octets(Tag::universal(4)),
-        b's' => Ty::Sequence(Tag::universal(16), with_a_default(alloc)?),
-        b'e' => Ty::Explicit(context(0), Box::new(alloc, integer)?),
-        _ => Ty::SetOf(Tag::universal(17), Box::new(alloc, integer)?),
+    let plan = match letter {
+        b'b' => Plan::Boolean,
+        b'i' => Plan::Integer,
+        b'u' => Plan::Bits,
+        b'o' => Plan::Octets,
+        b's' => WITH_DEFAULT,
+        b'e' => TAGGED,
+        _ => SET_OF,
     };
-    Ok(WellTyped::new(ty)?)
-}
-
-// One component: an INTEGER DEFAULT 5.
-fn with_a_default(alloc: Global) -> Result<Vec<Field>, Fail> {
-    let name = String::from_str(alloc, "a")?;
-    let ty = Ty::Integer(Tag::universal(2));
-    let presence = Presence::Default(Value::Integer(5));
-    let mut fields = Vec::new(alloc);
-    fields.push(Field { name, ty, presence })?;
-    Ok(fields)
+    typed(alloc, &plan)
 }
 
 // What a reader makes of octets: how many it takes, or the refusal's number with 100 added.

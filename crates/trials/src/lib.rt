@@ -1,6 +1,6 @@
 //! Tests of the crates that have, read and write values, of each by itself, through what it offers: `octets` (`headed`),
-//! `primitives` (`primitive`), `strings` (`lettered`), `types` (`typed`), `whole` (`at_once`), `berreader` (`reading`),
-//! `canon` (`writing`), `strict` (`canonical`) and `texts` (`shown`).
+//! `primitives` (`primitive`), `strings` (`lettered`), `types` (`typed`), `contents` (`by_parts`), `whole` (`at_once`),
+//! `berreader` (`reading`), `canon` (`writing`), `strict` (`canonical`) and `texts` (`shown`).
 //!
 //! They stand here and not in those crates, since the check of a crate's tests proves the crate once more.
 #![tactic(auto)]
@@ -8,11 +8,15 @@
 #[cfg(test)]
 mod at_once;
 #[cfg(test)]
+mod by_parts;
+#[cfg(test)]
 mod canonical;
 #[cfg(test)]
 mod headed;
 #[cfg(test)]
 mod lettered;
+#[cfg(test)]
+mod made;
 #[cfg(test)]
 mod primitive;
 #[cfg(test)]

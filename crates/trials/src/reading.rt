@@ -9,17 +9,12 @@ use std::test::Fail;
 use strings::{TextKind, TimeKind};
 use types::{Refusal, Ty, Value, WellTyped};
 
-fn universal(number: u32) -> Tag {
-    let class = Class::Universal;
-    Tag { class, number }
-}
-
 fn octet_string() -> Ty {
-    Ty::Octets(universal(4))
+    Ty::Octets(Tag::universal(4))
 }
 
 fn bit_string() -> Ty {
-    Ty::Bits(universal(3))
+    Ty::Bits(Tag::universal(3))
 }
 
 fn implicit_octets() -> Ty {
@@ -28,7 +23,7 @@ fn implicit_octets() -> Ty {
 }
 
 fn boolean() -> Ty {
-    Ty::Boolean(universal(1))
+    Ty::Boolean(Tag::universal(1))
 }
 
 // What was read of the octets: how many there are, what a string holds, and how many bits are unused.
@@ -138,14 +133,14 @@ fn octets_in_segments(rt: HostRuntime) {
 
 #[test]
 fn texts_in_segments(rt: HostRuntime) {
-    let visible = Ty::Text(universal(26), TextKind::Visible);
+    let visible = Ty::Text(Tag::universal(26), TextKind::Visible);
     let octets = [0x3A, 0x06, 0x04, 0x01, 0x4A, 0x04, 0x01, 0x6F];
     assert!(rt; is_read(rt.alloc(), visible, &octets, b"Jo", 0));
     // a character of two octets, one in each segment
-    let utf8 = Ty::Text(universal(12), TextKind::Utf8);
+    let utf8 = Ty::Text(Tag::universal(12), TextKind::Utf8);
     let octets = [0x2C, 0x06, 0x04, 0x01, 0xC3, 0x04, 0x01, 0xA9];
     assert!(rt; is_read(rt.alloc(), utf8, &octets, &[0xC3, 0xA9], 0));
-    let utc = Ty::Time(universal(23), TimeKind::Utc);
+    let utc = Ty::Time(Tag::universal(23), TimeKind::Utc);
     let octets = b"\x37\x80\x04\x06240229\x04\x07120000Z\x00\x00";
     assert!(rt; is_read(rt.alloc(), utc, octets, b"240229120000Z", 0));
 }
@@ -154,31 +149,43 @@ fn texts_in_segments(rt: HostRuntime) {
 fn refused_texts(rt: HostRuntime) {
     // (type, octets, the refusal's number)
     let cases: [(Ty, &[u8], u8); 8] = [
-        (Ty::Time(universal(23), TimeKind::Utc), &[0x17, 0x05], 7),
-        (Ty::Text(universal(30), TextKind::Bmp), &[0x1E, 0x03], 7),
-        (Ty::Text(universal(30), TextKind::Bmp), &[0x1E, 0x02], 1),
         (
-            Ty::Text(universal(26), TextKind::Visible),
+            Ty::Time(Tag::universal(23), TimeKind::Utc),
+            &[0x17, 0x05],
+            7,
+        ),
+        (
+            Ty::Text(Tag::universal(30), TextKind::Bmp),
+            &[0x1E, 0x03],
+            7,
+        ),
+        (
+            Ty::Text(Tag::universal(30), TextKind::Bmp),
+            &[0x1E, 0x02],
+            1,
+        ),
+        (
+            Ty::Text(Tag::universal(26), TextKind::Visible),
             &[0x3A, 0x03, 0x1A, 0x01, 0x4A],
             2,
         ),
         (
-            Ty::Text(universal(26), TextKind::Visible),
+            Ty::Text(Tag::universal(26), TextKind::Visible),
             &[0x3A, 0x03, 0x04, 0x01, 0x7F],
             7,
         ),
         (
-            Ty::Text(universal(12), TextKind::Utf8),
+            Ty::Text(Tag::universal(12), TextKind::Utf8),
             &[0x2C, 0x03, 0x04, 0x01, 0xC3],
             7,
         ),
         (
-            Ty::Time(universal(23), TimeKind::Utc),
+            Ty::Time(Tag::universal(23), TimeKind::Utc),
             &[0x37, 0x80, 0x00, 0x00],
             7,
         ),
         (
-            Ty::Time(universal(23), TimeKind::Utc),
+            Ty::Time(Tag::universal(23), TimeKind::Utc),
             &[0x37, 0x80, 0x17, 0x00, 0x00, 0x00],
             2,
         ),

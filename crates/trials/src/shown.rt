@@ -1,13 +1,12 @@
-mod made;
 mod parts;
 mod quoted;
 mod simple;
 
-use made::{Given, Plan, ty_of, value_of};
+use crate::made::{Given, Plan, typed, value_of};
 use std::process::Abort;
 use std::test::Fail;
 use texts::show;
-use types::{WellTyped, conforms};
+use types::conforms;
 
 // Whether each value is shown with its text.
 fn shows(
@@ -16,7 +15,7 @@ fn shows(
     cases: &[(Plan, Given, &str)],
 ) -> Result<(), Fail> {
     for case in cases {
-        let ty = WellTyped::new(ty_of(alloc, &case.0)?)?;
+        let ty = typed(alloc, &case.0)?;
         let value = value_of(alloc, &case.1)?;
         assert!(rt; conforms(ty.as_type(), &value), "at {}", case.2);
         let text = show(alloc, &ty, &value)?;

@@ -2,5 +2,4 @@ mod conforming_values;
 mod first_tags;
 mod good_defaults;
 mod limits;
-mod made;
 mod refusals;

@@ -2,77 +2,24 @@
 
 use super::readers::comes_as_read;
 use super::refusal_of;
+use crate::made::{EXPLICIT, NESTED_CHOICE, SEQUENCE, SEQUENCE_OF, SET, SET_OF, context, ty_of};
 use berreader::read;
-use octets::{Class, Tag};
+use octets::Tag;
 use std::alloc::Global;
 use std::test::Fail;
-use types::{Alternative, Field, Presence, Ty, Value, WellTyped};
-
-const INTEGER: Tag = Tag {
-    class: Class::Universal,
-    number: 2,
-};
-
-const BOOLEAN: Tag = Tag {
-    class: Class::Universal,
-    number: 1,
-};
-
-fn universal(number: u32) -> Tag {
-    let class = Class::Universal;
-    Tag { class, number }
-}
-
-fn context(number: u32) -> Tag {
-    let class = Class::Context;
-    Tag { class, number }
-}
-
-fn field(alloc: Global, ty: Ty, presence: Presence) -> Result<Field, Fail> {
-    let name = String::from_str(alloc, "a")?;
-    Ok(Field { name, ty, presence })
-}
-
-// An INTEGER, a BOOLEAN that may be absent, and [0] IMPLICIT INTEGER DEFAULT 5.
-fn fields(alloc: Global) -> Result<Vec<Field>, Fail> {
-    let mut fields = Vec::new(alloc);
-    fields.push(field(alloc, Ty::Integer(INTEGER), Presence::Required)?)?;
-    fields.push(field(alloc, Ty::Boolean(BOOLEAN), Presence::Optional)?)?;
-    let five = Presence::Default(Value::Integer(5));
-    fields.push(field(alloc, Ty::Integer(context(0)), five)?)?;
-    Ok(fields)
-}
-
-// CHOICE { INTEGER, CHOICE { BOOLEAN, SEQUENCE OF INTEGER } }
-fn choice(alloc: Global) -> Result<Ty, Fail> {
-    let mut within = Vec::new(alloc);
-    let name = String::from_str(alloc, "a")?;
-    let ty = Ty::Boolean(BOOLEAN);
-    within.push(Alternative { name, ty })?;
-    let name = String::from_str(alloc, "b")?;
-    let ty = Ty::SequenceOf(universal(16), Box::new(alloc, Ty::Integer(INTEGER))?);
-    within.push(Alternative { name, ty })?;
-    let mut alternatives = Vec::new(alloc);
-    let name = String::from_str(alloc, "a")?;
-    let ty = Ty::Integer(INTEGER);
-    alternatives.push(Alternative { name, ty })?;
-    let name = String::from_str(alloc, "b")?;
-    let ty = Ty::Choice(within);
-    alternatives.push(Alternative { name, ty })?;
-    Ok(Ty::Choice(alternatives))
-}
+use types::{Ty, Value, WellTyped};
 
 // The type that a letter stands for.
 fn type_of(alloc: Global, letter: u8) -> Result<Ty, Fail> {
-    let integer = Box::new(alloc, Ty::Integer(INTEGER))?;
-    Ok(match letter {
-        b's' => Ty::Sequence(universal(16), fields(alloc)?),
-        b't' => Ty::Set(universal(17), fields(alloc)?),
-        b'o' => Ty::SequenceOf(universal(16), integer),
-        b'u' => Ty::SetOf(universal(17), integer),
-        b'c' => choice(alloc)?,
-        _ => Ty::Explicit(context(1), integer),
-    })
+    let plan = match letter {
+        b's' => SEQUENCE,
+        b't' => SET,
+        b'o' => SEQUENCE_OF,
+        b'u' => SET_OF,
+        b'c' => NESTED_CHOICE,
+        _ => EXPLICIT,
+    };
+    ty_of(alloc, &plan)
 }
 
 fn told(alloc: Global, letter: u8, octets: &[u8]) -> Result<Option<u8>, Fail> {
@@ -284,7 +231,7 @@ fn refused_parts(rt: HostRuntime) -> Result<(), Fail> {
 
 // Explicit tags around an OCTET STRING, and as many constructed encodings of the string.
 fn deep(alloc: Global, segments: usize) -> Result<Option<u8>, Fail> {
-    let mut ty = Ty::Octets(universal(4));
+    let mut ty = Ty::Octets(Tag::universal(4));
     let mut octets = Vec::new(alloc);
     for _ in 0..60 {
         ty = Ty::Explicit(context(0), Box::new(alloc, ty)?);

@@ -2,7 +2,7 @@
 
 ghost use Rattle.std.specs.Prelude.{◌≤◌};
 
-use super::{Answer, bit_string, is_answer, octet_string, universal};
+use super::{Answer, bit_string, is_answer, octet_string};
 use berreader::{Reader, Step, read};
 use octets::{Class, Tag};
 use std::alloc::Global;
@@ -13,9 +13,9 @@ use types::{Refusal, Ty, Value, WellTyped};
 // SEQUENCE OF [1] OCTET STRING
 fn tagged_strings(alloc: Global) -> Result<Ty, Fail> {
     let class = Class::Context;
-    let string = Ty::Octets(universal(4));
+    let string = Ty::Octets(Tag::universal(4));
     let tagged = Ty::Explicit(Tag { class, number: 1 }, Box::new(alloc, string)?);
-    Ok(Ty::SequenceOf(universal(16), Box::new(alloc, tagged)?))
+    Ok(Ty::SequenceOf(Tag::universal(16), Box::new(alloc, tagged)?))
 }
 
 // Two items, 41 and 42 43, the second in two segments; behind them another value begins.
@@ -116,7 +116,7 @@ fn told(reader: &mut Reader<'_>, octets: &[u8]) -> usize {
 
 #[test]
 fn values_one_behind_another(rt: HostRuntime) -> Result<(), Fail> {
-    let ty = WellTyped::new(Ty::Integer(universal(2)))?;
+    let ty = WellTyped::new(Ty::Integer(Tag::universal(2)))?;
     let mut reader = Reader::new(rt.alloc(), &ty);
     // 1, 2, the front of 300
     let octets = [0x02, 0x01, 0x01, 0x02, 0x81, 0x01, 0x02, 0x02, 0x02, 0x01];
@@ -132,7 +132,7 @@ fn values_one_behind_another(rt: HostRuntime) -> Result<(), Fail> {
 
 #[test]
 fn empty_pieces(rt: HostRuntime) -> Result<(), Fail> {
-    let ty = WellTyped::new(Ty::Null(universal(5)))?;
+    let ty = WellTyped::new(Ty::Null(Tag::universal(5)))?;
     let mut reader = Reader::new(rt.alloc(), &ty);
     assert_eq!(rt; told(&mut reader, &[]), 0);
     assert_eq!(rt; reader.finish(), Ok(()));
@@ -172,7 +172,7 @@ fn told_at_last(reader: &mut Reader<'_>, octets: &[u8]) -> Option<usize> {
 #[test]
 fn strings_that_pieces_cut(rt: HostRuntime) -> Result<(), Fail> {
     let alloc = rt.alloc();
-    let visible = Ty::Text(universal(26), TextKind::Visible);
+    let visible = Ty::Text(Tag::universal(26), TextKind::Visible);
     // (type, octets, the string's octets, how many bits of the last are unused)
     let cases: [(Ty, &[u8], &[u8], u8); 5] = [
         (
@@ -238,7 +238,7 @@ fn strings_that_pieces_cut(rt: HostRuntime) -> Result<(), Fail> {
 #[test]
 fn refusals_in_strings_that_pieces_cut(rt: HostRuntime) -> Result<(), Fail> {
     let alloc = rt.alloc();
-    let visible = Ty::Text(universal(26), TextKind::Visible);
+    let visible = Ty::Text(Tag::universal(26), TextKind::Visible);
     // (type, octets, what the last of them is told)
     let cases: [(Ty, &[u8], usize); 9] = [
         (octet_string(), &[0x24, 0x80, 0x04, 0x01, 0x41, 0x1A], 102),
@@ -273,7 +273,7 @@ fn refusals_in_strings_that_pieces_cut(rt: HostRuntime) -> Result<(), Fail> {
             107,
         ),
         (
-            Ty::Time(universal(23), TimeKind::Utc),
+            Ty::Time(Tag::universal(23), TimeKind::Utc),
             &[0x37, 0x06, 0x04, 0x01, 0x32, 0x04, 0x01, 0x34],
             107,
         ),

@@ -1,11 +1,12 @@
 //! Texts of values with parts.
 
-use super::made::Part::{Default, Optional, Required};
-use super::made::Plan::{
+use super::shows;
+use crate::made::Part::{Default, Optional, Required};
+use crate::made::Plan::{
     Boolean, Choice, Empty, Explicit, Integer, Octets, Sequence, SequenceOf, Set, SetOf, Tagged,
 };
-use super::made::{Given, Part, Plan};
-use super::shows;
+use crate::made::{Given, Part, Plan};
+use octets::Class::Context;
 use octets::Tag;
 use std::test::Fail;
 use texts::show;
@@ -21,14 +22,14 @@ const THREE: Given = Given::Integer(3);
 
 const FIVE: Given = Given::Integer(5);
 
-const EITHER: Plan = Choice(&[("x", Tagged(5)), ("y", Boolean)]);
+const EITHER: Plan = Choice(&[Tagged(Context, 5), Boolean]);
 
-const WITH_CHOICE: [Part; 2] = [Required("a", Integer), Required("b", EITHER)];
+const WITH_CHOICE: [Part; 2] = [Required(Integer), Required(EITHER)];
 
 const MAYBE: Plan = Sequence(&[
-    Optional("a", Integer),
-    Default("b", Octets, Given::Octets(&[0x01])),
-    Optional("c", Boolean),
+    Optional(Integer),
+    Default(Octets, Given::Octets(&[0x01])),
+    Optional(Boolean),
 ]);
 
 const MANY: Plan = SetOf(&Integer);
@@ -41,32 +42,40 @@ const CASES: [(Plan, Given, &str); 27] = [
             Some(Given::Integer(7)),
             Some(Given::Chosen(0, &Given::Empty)),
         ]),
-        "{ a 7, b x : NULL }",
+        "{ first 7, second first : NULL }",
     ),
     (
         Sequence(&WITH_CHOICE),
         Given::Fields(&[Some(Given::Integer(-7)), Some(Given::Chosen(1, &YES))]),
-        "{ a -7, b y : TRUE }",
+        "{ first -7, second second : TRUE }",
     ),
     (Sequence(&[]), Given::Fields(&[]), "{ }"),
     (Set(&[]), Given::Fields(&[]), "{ }"),
     (MAYBE, Given::Fields(&[None, None, None]), "{ }"),
-    (MAYBE, Given::Fields(&[Some(ONE), None, None]), "{ a 1 }"),
+    (
+        MAYBE,
+        Given::Fields(&[Some(ONE), None, None]),
+        "{ first 1 }",
+    ),
     (
         MAYBE,
         Given::Fields(&[None, Some(Given::Octets(&[])), None]),
-        "{ b ''H }",
+        "{ second ''H }",
     ),
-    (MAYBE, Given::Fields(&[None, None, Some(YES)]), "{ c TRUE }"),
+    (
+        MAYBE,
+        Given::Fields(&[None, None, Some(YES)]),
+        "{ third TRUE }",
+    ),
     (
         MAYBE,
         Given::Fields(&[Some(ONE), None, Some(YES)]),
-        "{ a 1, c TRUE }",
+        "{ first 1, third TRUE }",
     ),
     (
         MAYBE,
         Given::Fields(&[Some(ONE), Some(Given::Octets(&[0x02])), Some(YES)]),
-        "{ a 1, b '02'H, c TRUE }",
+        "{ first 1, second '02'H, third TRUE }",
     ),
     (SequenceOf(&Integer), Given::Items(&[]), "{ }"),
     (SequenceOf(&Integer), Given::Items(&[FIVE]), "{ 5 }"),
@@ -109,29 +118,34 @@ const CASES: [(Plan, Given, &str); 27] = [
         "{ { 2, 3 }, { 1, 5 } }",
     ),
     (
-        Sequence(&[
-            Required("set", MANY),
-            Required("list", SequenceOf(&Integer)),
-        ]),
+        Sequence(&[Required(MANY), Required(SequenceOf(&Integer))]),
         Given::Fields(&[
             Some(Given::Items(&[TWO, ONE])),
             Some(Given::Items(&[TWO, ONE])),
         ]),
-        "{ set { 1, 2 }, list { 2, 1 } }",
+        "{ first { 1, 2 }, second { 2, 1 } }",
     ),
     (
-        Choice(&[("many", MANY), ("none", Empty)]),
+        Choice(&[MANY, Empty]),
         Given::Chosen(0, &Given::Items(&[TWO, ONE])),
-        "many : { 1, 2 }",
+        "first : { 1, 2 }",
     ),
-    (EITHER, Given::Chosen(1, &YES), "y : TRUE"),
+    (EITHER, Given::Chosen(1, &YES), "second : TRUE"),
     (
-        Choice(&[("outer", Explicit(0, &EITHER))]),
+        Choice(&[Explicit(Context, 0, &EITHER)]),
         Given::Chosen(0, &Given::Chosen(0, &Given::Empty)),
-        "outer : x : NULL",
+        "first : first : NULL",
     ),
-    (Explicit(0, &Explicit(1, &Integer)), FIVE, "5"),
-    (Explicit(0, &MANY), Given::Items(&[TWO, ONE]), "{ 1, 2 }"),
+    (
+        Explicit(Context, 0, &Explicit(Context, 1, &Integer)),
+        FIVE,
+        "5",
+    ),
+    (
+        Explicit(Context, 0, &MANY),
+        Given::Items(&[TWO, ONE]),
+        "{ 1, 2 }",
+    ),
 ];
 
 #[test]

@@ -1,8 +1,8 @@
 //! Texts of strings and times.
 
-use super::made::Plan::{Bits, Octets, Text, Time};
-use super::made::{Given, Plan};
 use super::shows;
+use crate::made::Plan::{Bits, Octets, Text, Time};
+use crate::made::{Given, Plan};
 use std::test::Fail;
 use strings::TextKind::{Bmp, Ia5, Numeric, Printable, Utf8, Visible};
 use strings::TimeKind::{Generalized, Utc};

@@ -1,11 +1,11 @@
 //! Texts of values without parts that are no strings.
 
-use super::made::Plan::{Boolean, Empty, Enumerated, Integer, Oid, RelativeOid};
-use super::made::{Given, Plan};
 use super::shows;
+use crate::made::Plan::{Boolean, Empty, Enumerated, Integer, Oid, RelativeOid};
+use crate::made::{Given, Plan};
 use std::test::Fail;
 
-const LETTERS: Plan = Enumerated(&[("a", 1), ("b", 2), ("c", 0), ("d", 3)]);
+const LISTED: Plan = Enumerated(&[1, 2, 0, 3]);
 
 // (type, value, text)
 const CASES: [(Plan, Given, &str); 19] = [
@@ -25,11 +25,11 @@ const CASES: [(Plan, Given, &str); 19] = [
         Given::Integer(-0x7FFF_FFFF_FFFF_FFFF_FFFF_FFFF_FFFF_FFFF - 1),
         "-170141183460469231731687303715884105728",
     ),
-    (LETTERS, Given::Enumerated(1), "a"),
-    (LETTERS, Given::Enumerated(2), "b"),
-    (LETTERS, Given::Enumerated(0), "c"),
-    (LETTERS, Given::Enumerated(3), "d"),
-    (Enumerated(&[("below", -3)]), Given::Enumerated(-3), "below"),
+    (LISTED, Given::Enumerated(1), "first"),
+    (LISTED, Given::Enumerated(2), "second"),
+    (LISTED, Given::Enumerated(0), "third"),
+    (LISTED, Given::Enumerated(3), "next"),
+    (Enumerated(&[-3]), Given::Enumerated(-3), "first"),
     (Empty, Given::Empty, "NULL"),
     (Oid, Given::Oid(&[2, 100, 3]), "2.100.3"),
     (Oid, Given::Oid(&[0, 0]), "0.0"),

@@ -1,11 +1,11 @@
 //! Which values a type has.
 
-use super::made::Part::{Default, Required};
-use super::made::Plan::{
+use crate::made::Part::{Default, Required};
+use crate::made::Plan::{
     Bits, Boolean, Choice, Empty, Enumerated, Explicit, Integer, Octets, Oid, RelativeOid,
     Sequence, Set, SetOf, Text, Time,
 };
-use super::made::{Given, Plan, ty_of, value_of};
+use crate::made::{Given, Plan, ty_of, value_of};
 use octets::Class::Context;
 use std::test::Fail;
 use strings::TextKind::{Bmp, Ia5, Numeric, Printable, Utf8, Visible};
@@ -78,7 +78,7 @@ const WITHOUT_PARTS: [(Plan, Given, bool); 30] = [
     (Octets, Given::Octets(&[]), true),
     (Octets, Given::Octets(&[0xFF]), true),
     (Octets, Given::Text(&[0x41]), false),
-    (Bits, Given::Bits(&[0xFE]), true),
+    (Bits, Given::Bits(&[0xFE], 1), true),
     (Bits, Given::Octets(&[0xFE]), false),
     (Oid, Given::Oid(&[1, 39]), true),
     (Oid, Given::Oid(&[2, 40]), true),

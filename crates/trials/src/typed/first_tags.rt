@@ -1,10 +1,10 @@
 //! The tags that tell the parts of a type apart (X.680 25.6, 27.3 and 29.3).
 
-use super::made::Part::{Default, Optional, Required};
-use super::made::Plan::{
+use crate::made::Part::{Default, Optional, Required};
+use crate::made::Plan::{
     Boolean, Choice, Empty, Explicit, Integer, Sequence, SequenceOf, Set, SetOf, Tagged,
 };
-use super::made::{Given, Plan, context, ty_of, universal};
+use crate::made::{Given, Plan, context, ty_of};
 use octets::Class::{Context, Universal};
 use octets::Tag;
 use std::test::Fail;
@@ -140,10 +140,10 @@ fn first_tag(rt: HostRuntime) -> Result<(), Fail> {
     const OUTER: Plan = Explicit(Context, 0, &Choice(&[Empty, Boolean]));
     // (type, the tag that each encoding begins with)
     let cases: [(Plan, Option<Tag>); 6] = [
-        (Empty, Some(universal(5))),
+        (Empty, Some(Tag::universal(5))),
         (Tagged(Context, 7), Some(context(7))),
-        (Sequence(&[]), Some(universal(16))),
-        (Set(&[]), Some(universal(17))),
+        (Sequence(&[]), Some(Tag::universal(16))),
+        (Set(&[]), Some(Tag::universal(17))),
         (OUTER, Some(context(0))),
         (NO_TAG, None),
     ];

@@ -1,7 +1,7 @@
 //! Which types take a default, and which defaults they take.
 
-use super::made::Part::Default;
-use super::made::{Given, Plan, ty_of};
+use crate::made::Part::Default;
+use crate::made::{Given, Plan, ty_of};
 use octets::Class::Context;
 use std::test::Fail;
 use strings::{TextKind, TimeKind};
@@ -20,7 +20,7 @@ const GOOD: [Plan; 8] = [
     Plan::Sequence(&[Default(Plan::Boolean, Given::Boolean(true))]),
     Plan::Sequence(&[Default(Plan::Integer, Given::Integer(5))]),
     Plan::Sequence(&[Default(Plan::Enumerated(&[1]), Given::Enumerated(1))]),
-    Plan::Sequence(&[Default(Plan::Bits, Given::Bits(&[0x80]))]),
+    Plan::Sequence(&[Default(Plan::Bits, Given::Bits(&[0x80], 1))]),
     Plan::Sequence(&[Default(Plan::Octets, Given::Octets(&[0x0A]))]),
     Plan::Sequence(&[Default(PRINTABLE, Given::Text(b"a"))]),
     Plan::Set(&[Default(TAGGED, Given::Integer(5))]),

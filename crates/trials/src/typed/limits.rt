@@ -1,11 +1,12 @@
 //! The limits on types.
 
-use super::made::Part::Required;
-use super::made::Plan::{
+use crate::made::Part::Required;
+use crate::made::Plan::{
     Boolean, Choice, Empty, Enumerated, Explicit, Octets, Sequence, SequenceOf, Set, Tagged,
 };
-use super::made::{Plan, context, ty_of, universal};
+use crate::made::{Plan, context, ty_of};
 use octets::Class::Context;
+use octets::Tag;
 use std::alloc::Global;
 use std::test::Fail;
 use types::{Alternative, Field, Item, Presence, Ty, TypeFault, WellTyped};
@@ -19,7 +20,7 @@ fn nulls(alloc: Global, count: usize) -> Result<Vec<Field>, Fail> {
     let mut fields = Vec::new(alloc);
     for _ in 0..count {
         let name = String::from_str(alloc, "a")?;
-        let ty = Ty::Null(universal(5));
+        let ty = Ty::Null(Tag::universal(5));
         let presence = Presence::Required;
         fields.push(Field { name, ty, presence })?;
     }
@@ -80,9 +81,9 @@ fn levels(rt: HostRuntime) -> Result<(), Fail> {
 
 // SEQUENCE OF so many times around a SEQUENCE of 256 components NULL: a part of 257 nodes and more.
 fn part(alloc: Global, times: usize, components: usize) -> Result<Field, Fail> {
-    let mut ty = Ty::Sequence(universal(16), nulls(alloc, components)?);
+    let mut ty = Ty::Sequence(Tag::universal(16), nulls(alloc, components)?);
     for _ in 0..times {
-        ty = Ty::SequenceOf(universal(16), Box::new(alloc, ty)?);
+        ty = Ty::SequenceOf(Tag::universal(16), Box::new(alloc, ty)?);
     }
     let name = String::from_str(alloc, "a")?;
     let presence = Presence::Required;
@@ -96,7 +97,7 @@ fn of_nodes(alloc: Global, components: usize) -> Result<Ty, Fail> {
         fields.push(part(alloc, 0, 256)?)?;
     }
     fields.push(part(alloc, 1, components)?)?;
-    Ok(Ty::Sequence(universal(16), fields))
+    Ok(Ty::Sequence(Tag::universal(16), fields))
 }
 
 #[test]
@@ -121,23 +122,23 @@ fn lists(rt: HostRuntime) -> Result<(), Fail> {
         (257, LARGE, LARGE),
     ];
     for (count, components, others) in cases {
-        let sequence = Ty::Sequence(universal(16), nulls(a, count as usize)?);
+        let sequence = Ty::Sequence(Tag::universal(16), nulls(a, count as usize)?);
         assert_eq!(rt;
             WellTyped::new(sequence).err(),
             components,
             "SEQUENCE of {count}"
         );
         let choice = Ty::Choice(alternatives(a, count)?);
-        let within = Ty::SequenceOf(universal(16), Box::new(a, choice)?);
+        let within = Ty::SequenceOf(Tag::universal(16), Box::new(a, choice)?);
         assert_eq!(rt; WellTyped::new(within).err(), others, "CHOICE of {count}");
-        let enumerated = Ty::Enumerated(universal(10), items(a, count)?);
+        let enumerated = Ty::Enumerated(Tag::universal(10), items(a, count)?);
         assert_eq!(rt;
             WellTyped::new(enumerated).err(),
             others,
             "ENUMERATED of {count}"
         );
     }
-    let set = Ty::Set(universal(17), nulls(a, 257)?);
+    let set = Ty::Set(Tag::universal(17), nulls(a, 257)?);
     assert_eq!(rt; WellTyped::new(set).err(), LARGE);
     Ok(())
 }

@@ -1,6 +1,7 @@
 //! The CER cut of long strings (X.690 9.2), and the one encoding that DER gives them.
 
-use super::made::{Plan, bits_of, spelt, typed};
+use super::spelt;
+use crate::made::{Plan, bits_of, typed};
 use std::alloc::Global;
 use std::test::Fail;
 use types::Value;

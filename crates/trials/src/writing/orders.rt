@@ -1,11 +1,12 @@
 //! Values that are the same, and values in order.
 
-use super::made::Part::{Default, Required};
-use super::made::Plan::{
+use crate::made::Part::{Default, Required};
+use crate::made::Plan::{
     Bits, Boolean, Choice, Empty, Explicit, Integer, Octets, Oid, Sequence, SequenceOf, Set, SetOf,
 };
-use super::made::{Given, Plan, typed, value_of};
+use crate::made::{Given, Plan, typed, value_of};
 use canon::{order, same};
+use octets::Class::Context;
 use std::test::Fail;
 use types::conforms;
 
@@ -21,11 +22,14 @@ const NUMBERS: Plan = SetOf(&Integer);
 
 const SETS: Plan = SetOf(&SetOf(&Integer));
 
-const PARTS: Plan = Sequence(&[Required(SetOf(&Integer)), Default(Explicit(0, &Integer), 1)]);
+const PARTS: Plan = Sequence(&[
+    Required(SetOf(&Integer)),
+    Default(Explicit(Context, 0, &Integer), ONE),
+]);
 
 const BOTH: Plan = Set(&[Required(SetOf(&Integer)), Required(Boolean)]);
 
-const EITHER: Plan = Choice(&[Empty, Explicit(0, &SetOf(&Octets))]);
+const EITHER: Plan = Choice(&[Empty, Explicit(Context, 0, &SetOf(&Octets))]);
 
 // (type, a value, another, whether they are the same)
 const SAME: [(Plan, Given, Given, bool); 9] = [

@@ -1,12 +1,13 @@
 //! Encodings at the limit of 1,048,576 octets and past it.
 
-use super::made::{Plan, typed};
+use crate::made::{Plan, typed};
 use canon::{Canon, Cer, Der};
+use octets::Class::Context;
 use std::alloc::Global;
 use std::test::Fail;
 use types::{Refusal, Value, conforms};
 
-const TAGGED: Plan = Plan::Explicit(0, &Plan::Octets);
+const TAGGED: Plan = Plan::Explicit(Context, 0, &Plan::Octets);
 
 // (type, how many octets of a string, what DER and CER answer: how many octets, or none past the limit)
 const ROWS: [(Plan, usize, Option<usize>, Option<usize>); 10] = [

@@ -1,11 +1,13 @@
 //! What DER and CER write.
 
-use super::made::Part::{Default, Required};
-use super::made::Plan::{
+use super::spelt;
+use crate::made::Part::{Default, Required};
+use crate::made::Plan::{
     Boolean, Choice, Empty, Explicit, Integer, Octets, Sequence, SequenceOf, Set, SetOf, Tagged,
     TaggedBoolean, TaggedInteger,
 };
-use super::made::{Given, Plan, spelt, typed, value_of};
+use crate::made::{Given, Plan, typed, value_of};
+use octets::Class::Context;
 use octets::Tag;
 use std::test::Fail;
 use types::{Ty, Value, WellTyped};
@@ -21,16 +23,19 @@ const THREE: Given = Given::Integer(3);
 const FIVE: Given = Given::Integer(5);
 
 // SEQUENCE { a [0] INTEGER DEFAULT 1, b [1] BOOLEAN }
-const WITH_DEFAULT: Plan = Sequence(&[Default(TaggedInteger(0), 1), Required(TaggedBoolean(1))]);
+const WITH_DEFAULT: Plan = Sequence(&[Default(TaggedInteger(0), ONE), Required(TaggedBoolean(1))]);
 
 // SEQUENCE { a [0] CHOICE { x [0] NULL, y [1] BOOLEAN }, b [1] INTEGER }
 const WITH_CHOICE: Plan = Sequence(&[
-    Required(Explicit(0, &Choice(&[Tagged(0), TaggedBoolean(1)]))),
+    Required(Explicit(Context, 0, &Choice(&[Tagged(Context, 0), TaggedBoolean(1)]))),
     Required(TaggedInteger(1)),
 ]);
 
 // SET { a INTEGER, b CHOICE { x [5] NULL, y BOOLEAN } }
-const SET_WITH_CHOICE: Plan = Set(&[Required(Integer), Required(Choice(&[Tagged(5), Boolean]))]);
+const SET_WITH_CHOICE: Plan = Set(&[
+    Required(Integer),
+    Required(Choice(&[Tagged(Context, 5), Boolean])),
+]);
 
 // SET { a [1] INTEGER, b CHOICE { c [0] INTEGER, d [2] INTEGER } }
 const BETWEEN: Plan = Set(&[
@@ -41,7 +46,7 @@ const BETWEEN: Plan = Set(&[
 // SET { a [1] INTEGER, b [0] INTEGER DEFAULT 1, c BOOLEAN }
 const REVERSED: Plan = Set(&[
     Required(TaggedInteger(1)),
-    Default(TaggedInteger(0), 1),
+    Default(TaggedInteger(0), ONE),
     Required(Boolean),
 ]);
 
@@ -55,7 +60,11 @@ const EITHER: Plan = SetOf(&Choice(&[Octets, Empty]));
 const SETS: Plan = SetOf(&SetOf(&Integer));
 
 // [0] EXPLICIT CHOICE { a OCTET STRING, b [1] EXPLICIT SEQUENCE OF INTEGER }
-const TAGGED_CHOICE: Plan = Explicit(0, &Choice(&[Octets, Explicit(1, &SequenceOf(&Integer))]));
+const TAGGED_CHOICE: Plan = Explicit(
+    Context,
+    0,
+    &Choice(&[Octets, Explicit(Context, 1, &SequenceOf(&Integer))]),
+);
 
 // (type, value, its DER octets, its CER octets)
 const ROWS: [(Plan, Given, &[u8], &[u8]); 20] = [
@@ -218,7 +227,7 @@ const ROWS: [(Plan, Given, &[u8], &[u8]); 20] = [
         ],
     ),
     (
-        Explicit(0, &Explicit(1, &Boolean)),
+        Explicit(Context, 0, &Explicit(Context, 1, &Boolean)),
         YES,
         &[0xA0, 0x05, 0xA1, 0x03, 0x01, 0x01, 0xFF],
         &[

@@ -1,13 +1,15 @@
 //! Explicit tags around strings, about the sizes at which a length takes one more octet.
 
-use super::made::{Plan, spelt, typed};
+use super::spelt;
+use crate::made::{Plan, typed};
+use octets::Class::Context;
 use std::alloc::Global;
 use std::test::Fail;
 use types::Value;
 
-const ONE_TAG: Plan = Plan::Explicit(0, &Plan::Octets);
+const ONE_TAG: Plan = Plan::Explicit(Context, 0, &Plan::Octets);
 
-const TWO_TAGS: Plan = Plan::Explicit(1, &ONE_TAG);
+const TWO_TAGS: Plan = Plan::Explicit(Context, 1, &ONE_TAG);
 
 // (type, how many octets 00 of a string, what stands before them under DER)
 const ROWS: [(Plan, usize, &[u8]); 12] = [

@@ -1,7 +1,8 @@
 //! Alternatives of a CHOICE, by the tag that an encoding begins with.
 
-use super::{boolean, octet_string, universal};
-use crate::{begins, is_node, node_of, node_within, wrap};
+use super::{boolean, octet_string};
+use contents::{begins, is_node, node_of, node_within, wrap};
+use octets::Tag;
 use std::alloc::Global;
 use std::test::Fail;
 use types::{Alternative, Ty, Value, WellTyped};
@@ -17,7 +18,7 @@ fn choice(alloc: Global) -> Result<Ty, Fail> {
     within.push(alternative(alloc, "a", octet_string())?)?;
     within.push(alternative(alloc, "b", boolean())?)?;
     let mut alternatives = Vec::new(alloc);
-    alternatives.push(alternative(alloc, "a", Ty::Null(universal(5)))?)?;
+    alternatives.push(alternative(alloc, "a", Ty::Null(Tag::universal(5)))?)?;
     alternatives.push(alternative(alloc, "b", Ty::Choice(within))?)?;
     Ok(Ty::Choice(alternatives))
 }
@@ -28,7 +29,7 @@ fn nodes(rt: HostRuntime) -> Result<(), Fail> {
     // (tag number, whether an encoding begins so)
     let cases: [(u32, bool); 5] = [(5, true), (4, true), (1, true), (2, false), (0, false)];
     for (number, want) in cases {
-        let tag = universal(number);
+        let tag = Tag::universal(number);
         assert_eq!(rt; begins(&ty, tag), want, "at {number}");
         let found = match node_of(&ty, tag) {
             Some(node) => is_node(node) && node.tag() == Some(tag),
@@ -50,7 +51,7 @@ fn wrapped(rt: HostRuntime) -> Result<(), Fail> {
         assert!(rt; false);
         return Ok(());
     };
-    let value = wrap(alloc, ty.as_type(), universal(1), Value::Boolean(true))?;
+    let value = wrap(alloc, ty.as_type(), Tag::universal(1), Value::Boolean(true))?;
     let within = Value::Chosen(1, Box::new(alloc, Value::Boolean(true))?);
     let want = Value::Chosen(1, Box::new(alloc, within)?);
     assert!(rt; value == want);

@@ -5,16 +5,16 @@ use primitives::Bits;
 use std::alloc::Global;
 use std::test::Fail;
 use strings::{TextKind, TimeKind};
-use types::{Alternative, Field, Item, Presence, Ty, Value};
+use types::{Alternative, Field, Item, Presence, Ty, Value, WellTyped};
 
-/// A type. But for `Tagged` and `Explicit` it has its universal tag.
-#[cycle(shown)]
+/// A type. Where no tag is planned it has its universal one.
+#[cycle(plans)]
 #[derive(Drop)]
 pub enum Plan {
     Boolean,
     Integer,
-    /// Names and numbers.
-    Enumerated(&'static [(&'static str, i128)]),
+    /// The items' numbers.
+    Enumerated(&'static [i128]),
     /// NULL.
     Empty,
     Oid,
@@ -23,25 +23,27 @@ pub enum Plan {
     Octets,
     Text(TextKind),
     Time(TimeKind),
-    /// NULL under a context-specific tag.
-    Tagged(u32),
+    /// BOOLEAN with a context-specific tag.
+    TaggedBoolean(u32),
+    /// INTEGER with a context-specific tag.
+    TaggedInteger(u32),
+    /// NULL with another tag.
+    Tagged(Class, u32),
     Sequence(&'static [Part]),
     Set(&'static [Part]),
     SequenceOf(&'static Plan),
     SetOf(&'static Plan),
-    /// Names and types.
-    Choice(&'static [(&'static str, Plan)]),
-    /// A context-specific tag around a type.
-    Explicit(u32, &'static Plan),
+    Choice(&'static [Plan]),
+    Explicit(Class, u32, &'static Plan),
 }
 
-/// A component and its name.
-#[cycle(shown)]
+/// A component.
+#[cycle(plans)]
 #[derive(Drop)]
 pub enum Part {
-    Required(&'static str, Plan),
-    Optional(&'static str, Plan),
-    Default(&'static str, Plan, Given),
+    Required(Plan),
+    Optional(Plan),
+    Default(Plan, Given),
 }
 
 /// A value.
@@ -63,20 +65,52 @@ pub enum Given {
     Chosen(usize, &'static Given),
 }
 
-fn context(number: u32) -> Tag {
-    Tag {
-        class: Class::Context,
-        number,
-    }
+const COMPONENTS: [Part; 3] = [
+    Part::Required(Plan::Integer),
+    Part::Optional(Plan::Boolean),
+    Part::Default(Plan::TaggedInteger(0), Given::Integer(5)),
+];
+
+/// SEQUENCE { INTEGER, BOOLEAN OPTIONAL, [0] IMPLICIT INTEGER DEFAULT 5 }
+pub const SEQUENCE: Plan = Plan::Sequence(&COMPONENTS);
+
+/// SET { INTEGER, BOOLEAN OPTIONAL, [0] IMPLICIT INTEGER DEFAULT 5 }
+pub const SET: Plan = Plan::Set(&COMPONENTS);
+
+/// SEQUENCE OF INTEGER
+pub const SEQUENCE_OF: Plan = Plan::SequenceOf(&Plan::Integer);
+
+/// SET OF INTEGER
+pub const SET_OF: Plan = Plan::SetOf(&Plan::Integer);
+
+/// [1] EXPLICIT INTEGER
+pub const EXPLICIT: Plan = Plan::Explicit(Class::Context, 1, &Plan::Integer);
+
+/// CHOICE { INTEGER, CHOICE { BOOLEAN, SEQUENCE OF INTEGER } }
+pub const NESTED_CHOICE: Plan = Plan::Choice(&[
+    Plan::Integer,
+    Plan::Choice(&[Plan::Boolean, SEQUENCE_OF]),
+]);
+
+/// The tag of class context-specific.
+pub fn context(number: u32) -> Tag {
+    let class = Class::Context;
+    Tag { class, number }
 }
 
-/// The type that is planned.
+/// The type that is planned, which keeps the rules.
+pub fn typed(alloc: Global, plan: &Plan) -> Result<WellTyped, Fail> {
+    Ok(WellTyped::new(ty_of(alloc, plan)?)?)
+}
+
+/// The type that is planned. Components, alternatives and items have the names `first`, `second`, `third`
+/// and then `next`.
 #[cycle(making)]
 pub fn ty_of(alloc: Global, plan: &Plan) -> Result<Ty, Fail> {
     Ok(match plan {
         Plan::Boolean => Ty::Boolean(Tag::universal(1)),
         Plan::Integer => Ty::Integer(Tag::universal(2)),
-        Plan::Enumerated(items) => Ty::Enumerated(Tag::universal(10), items_of(alloc, items)?),
+        Plan::Enumerated(numbers) => Ty::Enumerated(Tag::universal(10), items_of(alloc, numbers)?),
         Plan::Empty => Ty::Null(Tag::universal(5)),
         Plan::Oid => Ty::Oid(Tag::universal(6)),
         Plan::RelativeOid => Ty::RelativeOid(Tag::universal(13)),
@@ -84,7 +118,12 @@ pub fn ty_of(alloc: Global, plan: &Plan) -> Result<Ty, Fail> {
         Plan::Octets => Ty::Octets(Tag::universal(4)),
         Plan::Text(kind) => Ty::Text(Tag::universal(12), *kind),
         Plan::Time(kind) => Ty::Time(Tag::universal(24), *kind),
-        Plan::Tagged(number) => Ty::Null(context(*number)),
+        Plan::TaggedBoolean(number) => Ty::Boolean(context(*number)),
+        Plan::TaggedInteger(number) => Ty::Integer(context(*number)),
+        Plan::Tagged(class, number) => {
+            let (class, number) = (*class, *number);
+            Ty::Null(Tag { class, number })
+        }
         Plan::Sequence(parts) => Ty::Sequence(Tag::universal(16), fields_of(alloc, parts)?),
         Plan::Set(parts) => Ty::Set(Tag::universal(17), fields_of(alloc, parts)?),
         Plan::SequenceOf(inner) => {
@@ -92,30 +131,43 @@ pub fn ty_of(alloc: Global, plan: &Plan) -> Result<Ty, Fail> {
         }
         Plan::SetOf(inner) => Ty::SetOf(Tag::universal(17), Box::new(alloc, ty_of(alloc, inner)?)?),
         Plan::Choice(plans) => Ty::Choice(alternatives_of(alloc, plans)?),
-        Plan::Explicit(number, inner) => {
-            Ty::Explicit(context(*number), Box::new(alloc, ty_of(alloc, inner)?)?)
+        Plan::Explicit(class, number, inner) => {
+            let (class, number) = (*class, *number);
+            Ty::Explicit(
+                Tag { class, number },
+                Box::new(alloc, ty_of(alloc, inner)?)?,
+            )
         }
     })
 }
 
-fn items_of(alloc: Global, given: &[(&str, i128)]) -> Result<Vec<Item>, Fail> {
+// The name of what stands behind so many.
+fn name_behind(alloc: Global, before: usize) -> Result<String, Fail> {
+    let name = match before {
+        0 => "first",
+        1 => "second",
+        2 => "third",
+        _ => "next",
+    };
+    Ok(String::from_str(alloc, name)?)
+}
+
+fn items_of(alloc: Global, numbers: &[i128]) -> Result<Vec<Item>, Fail> {
     let mut items = Vec::new(alloc);
-    for item in given {
-        let name = String::from_str(alloc, item.0)?;
-        items.push(Item {
-            name,
-            number: item.1,
-        })?;
+    for number in numbers {
+        let name = name_behind(alloc, items.len())?;
+        let number = *number;
+        items.push(Item { name, number })?;
     }
     Ok(items)
 }
 
 #[cycle(making)]
-fn alternatives_of(alloc: Global, plans: &[(&str, Plan)]) -> Result<Vec<Alternative>, Fail> {
+fn alternatives_of(alloc: Global, plans: &[Plan]) -> Result<Vec<Alternative>, Fail> {
     let mut alternatives = Vec::new(alloc);
     for plan in plans {
-        let ty = ty_of(alloc, &plan.1)?;
-        let name = String::from_str(alloc, plan.0)?;
+        let ty = ty_of(alloc, plan)?;
+        let name = name_behind(alloc, alternatives.len())?;
         alternatives.push(Alternative { name, ty })?;
     }
     Ok(alternatives)
@@ -125,23 +177,18 @@ fn alternatives_of(alloc: Global, plans: &[(&str, Plan)]) -> Result<Vec<Alternat
 fn fields_of(alloc: Global, parts: &[Part]) -> Result<Vec<Field>, Fail> {
     let mut fields = Vec::new(alloc);
     for part in parts {
-        fields.push(field_of(alloc, part)?)?;
+        let (ty, presence) = match part {
+            Part::Required(plan) => (ty_of(alloc, plan)?, Presence::Required),
+            Part::Optional(plan) => (ty_of(alloc, plan)?, Presence::Optional),
+            Part::Default(plan, given) => {
+                let value = value_of(alloc, given)?;
+                (ty_of(alloc, plan)?, Presence::Default(value))
+            }
+        };
+        let name = name_behind(alloc, fields.len())?;
+        fields.push(Field { name, ty, presence })?;
     }
     Ok(fields)
-}
-
-#[cycle(making)]
-fn field_of(alloc: Global, part: &Part) -> Result<Field, Fail> {
-    let (name, plan, presence) = match part {
-        Part::Required(name, plan) => (*name, plan, Presence::Required),
-        Part::Optional(name, plan) => (*name, plan, Presence::Optional),
-        Part::Default(name, plan, given) => {
-            (*name, plan, Presence::Default(value_of(alloc, given)?))
-        }
-    };
-    let ty = ty_of(alloc, plan)?;
-    let name = String::from_str(alloc, name)?;
-    Ok(Field { name, ty, presence })
 }
 
 /// The value that is given.
@@ -154,7 +201,7 @@ pub fn value_of(alloc: Global, given: &Given) -> Result<Value, Fail> {
         Given::Empty => Value::Null,
         Given::Oid(arcs) => Value::Oid(Vec::from_slice(alloc, arcs)?),
         Given::RelativeOid(arcs) => Value::RelativeOid(Vec::from_slice(alloc, arcs)?),
-        Given::Bits(octets, unused) => Value::Bits(bits_of(alloc, octets, *unused)?),
+        Given::Bits(octets, unused) => bits_of(Vec::from_slice(alloc, octets)?, *unused)?,
         Given::Octets(octets) => Value::Octets(Vec::from_slice(alloc, octets)?),
         Given::Text(octets) => Value::Text(Vec::from_slice(alloc, octets)?),
         Given::Fields(slots) => Value::Fields(slots_of(alloc, slots)?),
@@ -165,8 +212,9 @@ pub fn value_of(alloc: Global, given: &Given) -> Result<Value, Fail> {
     })
 }
 
-fn bits_of(alloc: Global, octets: &[u8], unused: u8) -> Result<Bits, Fail> {
-    Ok(Bits::new(Vec::from_slice(alloc, octets)?, unused).ok_or("too many bits unused")?)
+/// The bits of octets but the last unused ones.
+pub fn bits_of(octets: Vec<u8>, unused: u8) -> Result<Value, Fail> {
+    Ok(Value::Bits(Bits::new(octets, unused).ok_or("too many bits unused")?))
 }
 
 #[cycle(giving)]

@@ -1,6 +1,6 @@
 use Rattle.std.proofs.Common.{◌+◌, ◌-◌, ◌≤◌, length}
 use Rattle.contents.specs.Segments.{IsSound}
-use Rattle.contents.proofs.tests.leaves.segments_of.Given as goal
+use Rattle.trials.proofs.by_parts.leaves.segments_of.Given as goal
 
 abbrev pub invariant-loop-kind : goal.invariant-loop-kind
 invariant-loop-kind l = record { there : l.at ≤ length l.octets; sound : IsSound l.kind l.segments }

@@ -1,22 +1,19 @@
+//! What one encoding is made of.
+
 mod alternatives;
 mod holdings;
 mod leaves;
 
-use crate::{Frame, named, not_due, read_end, read_head_tag, read_opening};
+use contents::{Frame, named, not_due, read_end, read_head_tag, read_opening};
 use octets::{Class, MAX_ENCODING, Tag};
 use types::{Refusal, Ty};
 
-fn universal(number: u32) -> Tag {
-    let class = Class::Universal;
-    Tag { class, number }
-}
-
 fn octet_string() -> Ty {
-    Ty::Octets(universal(4))
+    Ty::Octets(Tag::universal(4))
 }
 
 fn boolean() -> Ty {
-    Ty::Boolean(universal(1))
+    Ty::Boolean(Tag::universal(1))
 }
 
 #[test]
@@ -28,8 +25,12 @@ fn any_tags(rt: HostRuntime) {
     // (end, octets before it), octets, the tag, whether it is constructed and how many octets it has
     let cases: [((usize, usize), &[u8], Result<(Tag, bool, usize), u8>); 9] = [
         ((10, 5), &[0xA1, 0x03], Ok((context, true, 1))),
-        ((10, 5), &[0x00], Ok((universal(0), false, 1))),
-        ((8, 5), &[0x1F, 0x81, 0x00], Ok((universal(128), false, 3))),
+        ((10, 5), &[0x00], Ok((Tag::universal(0), false, 1))),
+        (
+            (8, 5),
+            &[0x1F, 0x81, 0x00],
+            Ok((Tag::universal(128), false, 3)),
+        ),
         ((7, 5), &[0x1F, 0x81, 0x00], Err(11)),
         ((5, 5), &[0x02], Err(11)),
         ((6, 5), &[], Err(1)),
@@ -37,7 +38,7 @@ fn any_tags(rt: HostRuntime) {
         (
             (10, 5),
             &[0x3F, 0xFF, 0xFF, 0xFF, 0x7F],
-            Ok((universal(268_435_455), true, 5)),
+            Ok((Tag::universal(268_435_455), true, 5)),
         ),
         ((10, 5), &[0x1F, 0x81, 0x80, 0x80, 0x80], Err(2)),
     ];
@@ -113,6 +114,6 @@ fn names_of_refusals(rt: HostRuntime) {
     assert_eq!(rt; named(true, Refusal::TooLong), Refusal::Length);
     assert_eq!(rt; named(false, Refusal::TooLong), Refusal::TooLong);
     assert_eq!(rt; named(true, Refusal::Truncated), Refusal::Truncated);
-    assert_eq!(rt; not_due(universal(0)), Refusal::EndOfContents);
-    assert_eq!(rt; not_due(universal(2)), Refusal::Identifier);
+    assert_eq!(rt; not_due(Tag::universal(0)), Refusal::EndOfContents);
+    assert_eq!(rt; not_due(Tag::universal(2)), Refusal::Identifier);
 }

@@ -1,15 +1,11 @@
 //! What open encodings hold of their parts.
 
-use crate::holding::{Holding, holding_of};
+use crate::made::context;
+use contents::holding_of;
 use octets::{Class, Tag};
 use std::alloc::Global;
 use std::test::Fail;
-use types::{Field, Presence, Refusal, Ty, Value};
-
-fn context(number: u32) -> Tag {
-    let class = Class::Context;
-    Tag { class, number }
-}
+use types::{Field, Presence, Ty, Value};
 
 const END: Tag = Tag {
     class: Class::Universal,

@@ -6,11 +6,8 @@ ghost use Rattle.types.specs.View.{ty_view};
 ghost use Rattle.contents.specs.Joined.{IsStringOf};
 ghost use Rattle.contents.specs.Segments.{IsSound};
 
-use super::{boolean, octet_string, universal};
-use crate::head::read_tag;
-use crate::joined::Kind;
-use crate::leaf::{begin_string, read_leaf};
-use crate::segments::Segments;
+use super::{boolean, octet_string};
+use contents::{Kind, Segments, begin_string, not_due, read_head_tag, read_leaf};
 use octets::{Class, MAX_ENCODING, Tag};
 use primitives::Bits;
 use std::alloc::Global;
@@ -79,10 +76,13 @@ fn part(
     if !node.has_no_parts() || end > MAX_ENCODING {
         return None;
     }
-    let (constructed, identifier) = match read_tag(leaf_tag(node), end, taken, octets) {
+    let (tag, constructed, identifier) = match read_head_tag(end, taken, octets) {
         Ok(found) => found,
         Err(refusal) => return Some(Err(refusal.number())),
     };
+    if tag != leaf_tag(node) {
+        return Some(Err(not_due(tag).number()));
+    }
     let read = if constructed {
         match begin_string(alloc, node, identifier, end, taken, levels, octets) {
             Ok((kind, segments, used)) => {
@@ -155,9 +155,12 @@ fn string(alloc: Global, ty: Ty, octets: &[u8]) -> Option<Value> {
     if !node.has_no_parts() {
         return None;
     }
-    let Ok((true, identifier)) = read_tag(leaf_tag(node), MAX_ENCODING, 0, octets) else {
+    let Ok((tag, true, identifier)) = read_head_tag(MAX_ENCODING, 0, octets) else {
         return None;
     };
+    if tag != leaf_tag(node) {
+        return None;
+    }
     match begin_string(alloc, node, identifier, MAX_ENCODING, 0, 64, octets) {
         Ok((kind, segments, used)) => {
             match segments_of(segments, kind, node, &octets[used..]) {
@@ -179,13 +182,13 @@ fn joined_segments(rt: HostRuntime) -> Result<(), Fail> {
         0x23, 0x09, 0x03, 0x03, 0x00, 0xAA, 0xBB, 0x03, 0x02, 0x04, 0xF0,
     ];
     let bits = Bits::new(Vec::from_slice(alloc, &[0xAA, 0xBB, 0xF0])?, 4);
-    let Some(Value::Bits(found)) = string(alloc, Ty::Bits(universal(3)), &octets) else {
+    let Some(Value::Bits(found)) = string(alloc, Ty::Bits(Tag::universal(3)), &octets) else {
         assert!(rt; false);
         return Ok(());
     };
     assert!(rt; Some(found) == bits);
     let octets = [0x3A, 0x06, 0x04, 0x01, 0x4A, 0x04, 0x01, 0x6F];
-    let visible = Ty::Text(universal(26), TextKind::Visible);
+    let visible = Ty::Text(Tag::universal(26), TextKind::Visible);
     let want = Value::Text(Vec::from_slice(alloc, b"Jo")?);
     assert!(rt; string(alloc, visible, &octets) == Some(want));
     Ok(())
