@@ -1,9 +1,9 @@
-mod nests;
-mod readers;
+//! Values whose octets come in pieces. What `read` answers to whole values stands in the tables of `vectors`.
 
-use berreader::read;
+ghost use Rattle.std.specs.Prelude.{◌≤◌};
+
+use berreader::{Reader, Step, read};
 use octets::{Class, Tag};
-use readers::comes_as_read;
 use std::alloc::Global;
 use std::test::Fail;
 use strings::{TextKind, TimeKind};
@@ -15,15 +15,6 @@ fn octet_string() -> Ty {
 
 fn bit_string() -> Ty {
     Ty::Bits(Tag::universal(3))
-}
-
-fn implicit_octets() -> Ty {
-    let class = Class::Context;
-    Ty::Octets(Tag { class, number: 0 })
-}
-
-fn boolean() -> Ty {
-    Ty::Boolean(Tag::universal(1))
 }
 
 // What was read of the octets: how many there are, what a string holds, and how many bits are unused.
@@ -50,345 +41,303 @@ fn is_answer(read: &Result<(Value, usize), Refusal>, want: &Answer) -> bool {
     }
 }
 
-fn refusal_of(read: Result<(Value, usize), Refusal>) -> Option<u8> {
-    match read {
-        Ok(_) => None,
-        Err(refusal) => Some(refusal.number()),
+// SEQUENCE OF [1] OCTET STRING
+fn tagged_strings(alloc: Global) -> Result<Ty, Fail> {
+    let class = Class::Context;
+    let string = Ty::Octets(Tag::universal(4));
+    let tagged = Ty::Explicit(Tag { class, number: 1 }, Box::new(alloc, string)?);
+    Ok(Ty::SequenceOf(Tag::universal(16), Box::new(alloc, tagged)?))
+}
+
+// Two items, 41 and 42 43, the second in two segments; behind them another value begins.
+const TWO_STRINGS: &[u8] = &[
+    0x30, 0x80, 0xA1, 0x03, 0x04, 0x01, 0x41, 0xA1, 0x80, 0x24, 0x80, 0x04, 0x02, 0x42, 0x43, 0x04,
+    0x00, 0x00, 0x00, 0x00, 0x00, 0x00, 0x00, 0x30, 0x02,
+];
+
+// What pieces come to: the first value that is whole and how many octets it has, or the refusal.
+type Come = Result<Option<(Value, usize)>, Refusal>;
+
+// Feeds pieces of so many octets.
+fn feed_all(reader: &mut Reader<'_>, octets: &[u8], size: usize) -> Come
+    requires { 1 ≤ size }
+{
+    let mut before = 0_usize;
+    for piece in octets.chunks(size) {
+        match reader.feed(piece)? {
+            Step::More => before = before.saturating_add(piece.len()),
+            Step::Done { value, used } => return Ok(Some((value, before.saturating_add(used)))),
+        }
+    }
+    Ok(None)
+}
+
+// What `read` answers, where octets that are missing are no refusal.
+fn read_whole(alloc: Global, ty: &WellTyped, octets: &[u8]) -> Come {
+    match read(alloc, ty, octets) {
+        Ok(found) => Ok(Some(found)),
+        Err(Refusal::Truncated) => Ok(None),
+        Err(refusal) => Err(refusal),
     }
 }
 
-fn refused(alloc: Global, ty: Ty, octets: &[u8]) -> Option<u8> {
-    match WellTyped::new(ty) {
-        Ok(ty) if comes_as_read(alloc, &ty, octets) => refusal_of(read(alloc, &ty, octets)),
-        _ => None,
-    }
-}
-
-// Reads the whole, in pieces too, and each front of it: every shorter one is cut.
-fn is_read(alloc: Global, ty: Ty, octets: &[u8], want: &[u8], unused: u8) -> bool {
-    let Ok(ty) = WellTyped::new(ty) else {
-        return false;
-    };
-    if !comes_as_read(alloc, &ty, octets) {
-        return false;
-    }
-    for cut in 0..octets.len() {
-        if refusal_of(read(alloc, &ty, &octets[..cut])) != Some(1) {
+// Whether the octets come to the same in one piece, in two, and in pieces of one to three octets, as `read`
+// answers.
+fn comes_as_read(alloc: Global, ty: &WellTyped, octets: &[u8]) -> bool {
+    let want = read_whole(alloc, ty, octets);
+    for size in 1..=3 {
+        if feed_all(&mut Reader::new(alloc, ty), octets, size) != want {
             return false;
         }
     }
-    let used = octets.len();
-    let answer = Answer {
-        used,
-        octets: want,
-        unused,
-    };
-    is_answer(&read(alloc, &ty, octets), &answer)
+    for cut in 0..octets.len() {
+        if feed_cut(&mut Reader::new(alloc, ty), octets, cut) != want {
+            return false;
+        }
+    }
+    true
+}
+
+// Feeds the octets in two pieces.
+fn feed_cut(reader: &mut Reader<'_>, octets: &[u8], cut: usize) -> Come {
+    let (first, second) = octets.split_at(cut.min(octets.len()));
+    if let Step::Done { value, used } = reader.feed(first)? {
+        return Ok(Some((value, used)));
+    }
+    match reader.feed(second)? {
+        Step::More => Ok(None),
+        Step::Done { value, used } => Ok(Some((value, first.len().saturating_add(used)))),
+    }
+}
+
+// The value of two items.
+fn two_strings(alloc: Global) -> Result<Value, Fail> {
+    let mut items = Vec::new(alloc);
+    items.push(Value::Octets(Vec::from_slice(alloc, &[0x41])?))?;
+    items.push(Value::Octets(Vec::from_slice(alloc, &[0x42, 0x43])?))?;
+    Ok(Value::Items(items))
 }
 
 #[test]
-fn octets_in_segments(rt: HostRuntime) {
-    // (octets, the string)
-    let cases: [(&[u8], &[u8]); 11] = [
-        (&[0x04, 0x00], &[]),
-        (&[0x04, 0x82, 0x00, 0x01, 0xAA], &[0xAA]),
-        (&[0x24, 0x00], &[]),
-        (&[0x24, 0x80, 0x00, 0x00], &[]),
-        (&[0x24, 0x02, 0x24, 0x00], &[]),
-        (&[0x24, 0x81, 0x03, 0x04, 0x01, 0xAA], &[0xAA]),
-        (
-            &[0x24, 0x06, 0x04, 0x01, 0x41, 0x04, 0x01, 0x42],
-            &[0x41, 0x42],
-        ),
-        (&[0x24, 0x04, 0x04, 0x02, 0x4A, 0x6F], &[0x4A, 0x6F]),
-        (
-            &[
-                0x24, 0x80, 0x04, 0x02, 0x01, 0x02, 0x24, 0x80, 0x04, 0x01, 0x03, 0x00, 0x00, 0x00,
-                0x00,
-            ],
-            &[1, 2, 3],
-        ),
-        (
-            &[
-                0x24, 0x0B, 0x24, 0x80, 0x04, 0x81, 0x01, 0x41, 0x00, 0x00, 0x04, 0x01, 0x42,
-            ],
-            &[0x41, 0x42],
-        ),
-        (
-            &[
-                0x24, 0x80, 0x24, 0x03, 0x04, 0x01, 0x41, 0x24, 0x03, 0x04, 0x01, 0x42, 0x00, 0x00,
-            ],
-            &[0x41, 0x42],
-        ),
-    ];
-    for (octets, want) in cases {
+fn pieces_of_each_size(rt: HostRuntime) -> Result<(), Fail> {
+    let alloc = rt.alloc();
+    let ty = WellTyped::new(tagged_strings(alloc)?)?;
+    let want = Ok(Some((two_strings(alloc)?, 23)));
+    for size in 1..=TWO_STRINGS.len() {
+        let mut reader = Reader::new(alloc, &ty);
         assert!(rt;
-            is_read(rt.alloc(), octet_string(), octets, want, 0),
-            "at {octets:?}"
+            feed_all(&mut reader, TWO_STRINGS, size) == want,
+            "in pieces of {size}"
         );
+        assert_eq!(rt; reader.finish(), Ok(()), "in pieces of {size}");
     }
-    let tagged: [u8; 6] = [0xA0, 0x04, 0x04, 0x02, 0x4A, 0x6F];
-    assert!(rt; is_read(rt.alloc(), implicit_octets(), &tagged, &[0x4A, 0x6F], 0));
+    assert!(rt; comes_as_read(alloc, &ty, TWO_STRINGS));
+    Ok(())
 }
 
-#[test]
-fn texts_in_segments(rt: HostRuntime) {
-    let visible = Ty::Text(Tag::universal(26), TextKind::Visible);
-    let octets = [0x3A, 0x06, 0x04, 0x01, 0x4A, 0x04, 0x01, 0x6F];
-    assert!(rt; is_read(rt.alloc(), visible, &octets, b"Jo", 0));
-    // a character of two octets, one in each segment
-    let utf8 = Ty::Text(Tag::universal(12), TextKind::Utf8);
-    let octets = [0x2C, 0x06, 0x04, 0x01, 0xC3, 0x04, 0x01, 0xA9];
-    assert!(rt; is_read(rt.alloc(), utf8, &octets, &[0xC3, 0xA9], 0));
-    let utc = Ty::Time(Tag::universal(23), TimeKind::Utc);
-    let octets = b"\x37\x80\x04\x06240229\x04\x07120000Z\x00\x00";
-    assert!(rt; is_read(rt.alloc(), utc, octets, b"240229120000Z", 0));
-}
-
-#[test]
-fn refused_texts(rt: HostRuntime) {
-    // (type, octets, the refusal's number)
-    let cases: [(Ty, &[u8], u8); 8] = [
-        (
-            Ty::Time(Tag::universal(23), TimeKind::Utc),
-            &[0x17, 0x05],
-            7,
-        ),
-        (
-            Ty::Text(Tag::universal(30), TextKind::Bmp),
-            &[0x1E, 0x03],
-            7,
-        ),
-        (
-            Ty::Text(Tag::universal(30), TextKind::Bmp),
-            &[0x1E, 0x02],
-            1,
-        ),
-        (
-            Ty::Text(Tag::universal(26), TextKind::Visible),
-            &[0x3A, 0x03, 0x1A, 0x01, 0x4A],
-            2,
-        ),
-        (
-            Ty::Text(Tag::universal(26), TextKind::Visible),
-            &[0x3A, 0x03, 0x04, 0x01, 0x7F],
-            7,
-        ),
-        (
-            Ty::Text(Tag::universal(12), TextKind::Utf8),
-            &[0x2C, 0x03, 0x04, 0x01, 0xC3],
-            7,
-        ),
-        (
-            Ty::Time(Tag::universal(23), TimeKind::Utc),
-            &[0x37, 0x80, 0x00, 0x00],
-            7,
-        ),
-        (
-            Ty::Time(Tag::universal(23), TimeKind::Utc),
-            &[0x37, 0x80, 0x17, 0x00, 0x00, 0x00],
-            2,
-        ),
-    ];
-    for (ty, octets, number) in cases {
-        let found = refused(rt.alloc(), ty, octets);
-        assert_eq!(rt; found, Some(number), "at {octets:?}");
+// Feeds octets, and puts down how many of them complete a value, 0 where they complete none, or the refusal's
+// number behind 100.
+fn told(reader: &mut Reader<'_>, octets: &[u8]) -> usize {
+    match reader.feed(octets) {
+        Ok(Step::More) => 0,
+        Ok(Step::Done { used, .. }) => used,
+        Err(refusal) => 100 + refusal.number() as usize,
     }
 }
 
 #[test]
-fn bits_in_segments(rt: HostRuntime) {
-    // (octets, the string's octets, how many bits of the last are unused)
-    let cases: [(&[u8], &[u8], u8); 7] = [
-        (&[0x03, 0x02, 0x04, 0xAF], &[0xA0], 4),
-        (&[0x23, 0x00], &[], 0),
-        (&[0x23, 0x03, 0x03, 0x01, 0x00], &[], 0),
-        (
-            &[
-                0x23, 0x09, 0x03, 0x03, 0x00, 0xAA, 0xBB, 0x03, 0x02, 0x04, 0xF0,
-            ],
-            &[0xAA, 0xBB, 0xF0],
-            4,
-        ),
-        (
-            &[
-                0x23, 0x0A, 0x03, 0x02, 0x00, 0xAA, 0x23, 0x04, 0x03, 0x02, 0x04, 0xF0,
-            ],
-            &[0xAA, 0xF0],
-            4,
-        ),
-        (
-            &[
-                0x23, 0x0B, 0x03, 0x01, 0x00, 0x03, 0x02, 0x00, 0xAA, 0x03, 0x02, 0x04, 0xFF,
-            ],
-            &[0xAA, 0xF0],
-            4,
-        ),
-        (
-            &[
-                0x23, 0x80, 0x23, 0x80, 0x03, 0x02, 0x07, 0x80, 0x00, 0x00, 0x00, 0x00,
-            ],
-            &[0x80],
-            7,
-        ),
-    ];
-    for (octets, want, unused) in cases {
-        assert!(rt;
-            is_read(rt.alloc(), bit_string(), octets, want, unused),
-            "at {octets:?}"
-        );
-    }
-}
-
-#[test]
-fn refused_octet_strings(rt: HostRuntime) {
-    // (octets, the refusal's number)
-    let cases: [(&[u8], u8); 30] = [
-        (&[], 1),
-        (&[0x24, 0x04, 0x80, 0x02, 0x4A, 0x6F], 2),
-        (&[0x24, 0x04, 0x24, 0x02, 0x1A, 0x00], 2),
-        (&[0x1A, 0x00], 2),
-        (&[0x24, 0x80, 0x1F, 0x1E], 2),
-        (&[0x04, 0x80, 0x41, 0x00, 0x00], 3),
-        (&[0x24, 0x04, 0x04, 0x80, 0x00, 0x00], 3),
-        (&[0x04, 0xFF], 4),
-        (&[0x04, 0x83, 0x10, 0x00, 0x01], 4),
-        (&[0x24, 0x02, 0x04, 0x01], 4),
-        (&[0x24, 0x03, 0x04, 0x02, 0x41, 0x42], 4),
-        (&[0x24, 0x01, 0x04, 0x00], 4),
-        (&[0x24, 0x01, 0x1F, 0x81, 0x00], 4),
-        (&[0x24, 0x02, 0x24, 0x80, 0x00, 0x00], 4),
-        (&[0x24, 0x04, 0x24, 0x80, 0x04, 0x00], 4),
-        (&[0x24, 0x03, 0x24, 0x80, 0x00, 0x00], 4),
-        (&[0x00, 0x00], 5),
-        (&[0x24, 0x80, 0x00, 0x01], 5),
-        (&[0x24, 0x02, 0x00, 0x00], 5),
-        (&[0x24, 0x80, 0x24, 0x02, 0x00, 0x00, 0x00, 0x00], 5),
-        (&[0x04, 0x83, 0x0F, 0xFF, 0xFC], 11),
-        (&[0x24, 0x83, 0x0F, 0xFF, 0xFC], 11),
-        (&[0x24, 0x80, 0x04, 0x83, 0x0F, 0xFF, 0xFA], 11),
-        (&[0x24, 0x80, 0x04, 0x01], 1),
-        // no room for end-of-contents octets, within the limit or a definite encoding
-        (&[0x24, 0x80, 0x04, 0x83, 0x0F, 0xFF, 0xF7], 1),
-        (&[0x24, 0x80, 0x04, 0x83, 0x0F, 0xFF, 0xF8], 11),
-        (&[0x24, 0x80, 0x24, 0x80, 0x04, 0x83, 0x0F, 0xFF, 0xF4], 11),
-        (&[0x24, 0x05, 0x24, 0x80, 0x04, 0x01], 4),
-        (&[0x24, 0x03, 0x24, 0x80], 4),
-        (
-            &[0x24, 0x83, 0x0F, 0xFF, 0xFB, 0x04, 0x83, 0x0F, 0xFF, 0xF8],
-            4,
-        ),
-    ];
-    for (octets, number) in cases {
-        let found = refused(rt.alloc(), octet_string(), octets);
-        assert_eq!(rt; found, Some(number), "at {octets:?}");
-    }
-}
-
-#[test]
-fn refused_bit_strings(rt: HostRuntime) {
-    // (octets, the refusal's number)
-    let cases: [(&[u8], u8); 10] = [
-        (
-            &[
-                0x23, 0x09, 0x03, 0x03, 0x04, 0xAA, 0xB0, 0x03, 0x02, 0x00, 0xF0,
-            ],
-            6,
-        ),
-        (
-            &[0x23, 0x08, 0x03, 0x02, 0x04, 0xF0, 0x03, 0x02, 0x04, 0xF0],
-            6,
-        ),
-        (
-            &[
-                0x23, 0x0A, 0x23, 0x04, 0x03, 0x02, 0x04, 0xF0, 0x03, 0x02, 0x00, 0xAA,
-            ],
-            6,
-        ),
-        (&[0x23, 0x07, 0x03, 0x02, 0x04, 0xF0, 0x03, 0x01, 0x00], 6),
-        (&[0x23, 0x06, 0x03, 0x02, 0x04, 0xF0, 0x23, 0x00], 6),
-        (&[0x23, 0x03, 0x04, 0x01, 0x41], 2),
-        (&[0x23, 0x02, 0x03, 0x00], 6),
-        (&[0x23, 0x03, 0x03, 0x01, 0x01], 6),
-        (&[0x23, 0x04, 0x03, 0x02, 0x08, 0xAA], 6),
-        (&[0x03, 0x00], 6),
-    ];
-    for (octets, number) in cases {
-        let found = refused(rt.alloc(), bit_string(), octets);
-        assert_eq!(rt; found, Some(number), "at {octets:?}");
-    }
-}
-
-#[test]
-fn refused_forms(rt: HostRuntime) {
-    // (octets, the refusal's number)
-    let cases: [(&[u8], u8); 7] = [
-        (&[0x01, 0x02, 0xFF], 6),
-        (&[0x01, 0x02], 6),
-        (&[0x21, 0x03, 0x01, 0x01, 0xFF], 3),
-        (&[0x21, 0x80], 3),
-        (&[0x01, 0x80], 3),
-        (&[0x01, 0x00], 6),
-        (&[0x01], 1),
-    ];
-    for (octets, number) in cases {
-        let found = refused(rt.alloc(), boolean(), octets);
-        assert_eq!(rt; found, Some(number), "at {octets:?}");
-    }
-}
-
-// An octet AA under so many constructed encodings.
-fn nested(alloc: Global, levels: usize) -> Result<Vec<u8>, Fail> {
-    let mut octets = Vec::new(alloc);
-    for _ in 0..levels {
-        octets.extend_from_slice(&[0x24, 0x80])?;
-    }
-    octets.extend_from_slice(&[0x04, 0x01, 0xAA])?;
-    for _ in 0..levels {
-        octets.extend_from_slice(&[0x00, 0x00])?;
-    }
-    Ok(octets)
-}
-
-#[test]
-fn levels(rt: HostRuntime) -> Result<(), Fail> {
-    let most = nested(rt.alloc(), 64)?;
-    assert!(rt; is_read(rt.alloc(), octet_string(), most.as_slice(), &[0xAA], 0));
-    let more = nested(rt.alloc(), 65)?;
-    assert_eq!(rt;
-        refused(rt.alloc(), octet_string(), more.as_slice()),
-        Some(10)
-    );
-    // the identifier octet of one level too many is refused, whatever follows
-    let mut cut = Vec::new(rt.alloc());
-    for _ in 0..64 {
-        cut.extend_from_slice(&[0x24, 0x80])?;
-    }
-    assert_eq!(rt;
-        refused(rt.alloc(), octet_string(), cut.as_slice()),
-        Some(1)
-    );
-    cut.push(0x24)?;
-    assert_eq!(rt;
-        refused(rt.alloc(), octet_string(), cut.as_slice()),
-        Some(10)
-    );
+fn values_one_behind_another(rt: HostRuntime) -> Result<(), Fail> {
+    let ty = WellTyped::new(Ty::Integer(Tag::universal(2)))?;
+    let mut reader = Reader::new(rt.alloc(), &ty);
+    // 1, 2, the front of 300
+    let octets = [0x02, 0x01, 0x01, 0x02, 0x81, 0x01, 0x02, 0x02, 0x02, 0x01];
+    assert_eq!(rt; told(&mut reader, &octets), 3);
+    assert_eq!(rt; told(&mut reader, &octets[3..]), 4);
+    assert_eq!(rt; told(&mut reader, &octets[7..]), 0);
+    assert_eq!(rt; reader.finish(), Err(Refusal::Truncated));
+    assert_eq!(rt; told(&mut reader, &[]), 0);
+    assert!(rt; feed_all(&mut reader, &[0x2C, 0x02], 2) == Ok(Some((Value::Integer(300), 1))));
+    assert_eq!(rt; reader.finish(), Ok(()));
     Ok(())
 }
 
 #[test]
-fn longest_length_octets(rt: HostRuntime) -> Result<(), Fail> {
-    // 126 digits, of which 125 are leading zeros, outside and inside
-    let mut octets = Vec::new(rt.alloc());
-    octets.extend_from_slice(&[0x24, 0xFE])?;
-    for _ in 0..125 {
-        octets.push(0x00)?;
+fn empty_pieces(rt: HostRuntime) -> Result<(), Fail> {
+    let ty = WellTyped::new(Ty::Null(Tag::universal(5)))?;
+    let mut reader = Reader::new(rt.alloc(), &ty);
+    assert_eq!(rt; told(&mut reader, &[]), 0);
+    assert_eq!(rt; reader.finish(), Ok(()));
+    assert_eq!(rt; told(&mut reader, &[0x05]), 0);
+    assert_eq!(rt; told(&mut reader, &[]), 0);
+    assert_eq!(rt; reader.finish(), Err(Refusal::Truncated));
+    assert_eq!(rt; told(&mut reader, &[0x00]), 1);
+    assert_eq!(rt; told(&mut reader, &[]), 0);
+    assert_eq!(rt; reader.finish(), Ok(()));
+    Ok(())
+}
+
+#[test]
+fn refusals_are_repeated(rt: HostRuntime) -> Result<(), Fail> {
+    let ty = WellTyped::new(tagged_strings(rt.alloc())?)?;
+    let mut reader = Reader::new(rt.alloc(), &ty);
+    assert_eq!(rt; told(&mut reader, &[0x30, 0x80, 0xA1]), 0);
+    assert_eq!(rt; told(&mut reader, &[0x00, 0x00, 0x00]), 104);
+    assert_eq!(rt; told(&mut reader, &[]), 104);
+    assert_eq!(rt; told(&mut reader, TWO_STRINGS), 104);
+    assert_eq!(rt; reader.finish(), Err(Refusal::Length));
+    Ok(())
+}
+
+// Feeds octet by octet, and puts down what the last comes to, if each before it completes nothing and leaves a value
+// begun.
+fn told_at_last(reader: &mut Reader<'_>, octets: &[u8]) -> Option<usize> {
+    let (last, front) = octets.split_last()?;
+    for octet in front {
+        if told(reader, &[*octet]) != 0 || reader.finish() != Err(Refusal::Truncated) {
+            return None;
+        }
     }
-    octets.extend_from_slice(&[0x81, 0x04, 0xFE])?;
-    for _ in 0..125 {
-        octets.push(0x00)?;
+    Some(told(reader, &[*last]))
+}
+
+#[test]
+fn strings_that_pieces_cut(rt: HostRuntime) -> Result<(), Fail> {
+    let alloc = rt.alloc();
+    let visible = Ty::Text(Tag::universal(26), TextKind::Visible);
+    // (type, octets, the string's octets, how many bits of the last are unused)
+    let cases: [(Ty, &[u8], &[u8], u8); 5] = [
+        (
+            octet_string(),
+            &[
+                0x24, 0x80, 0x24, 0x06, 0x04, 0x01, 0x41, 0x04, 0x01, 0x42, 0x24, 0x80, 0x04, 0x02,
+                0x43, 0x44, 0x00, 0x00, 0x04, 0x00, 0x00, 0x00,
+            ],
+            b"ABCD",
+            0,
+        ),
+        (
+            octet_string(),
+            &[
+                0x24, 0x0F, 0x24, 0x80, 0x24, 0x03, 0x04, 0x01, 0x41, 0x00, 0x00, 0x24, 0x04, 0x04,
+                0x02, 0x42, 0x43,
+            ],
+            b"ABC",
+            0,
+        ),
+        (
+            bit_string(),
+            &[
+                0x23, 0x80, 0x03, 0x03, 0x00, 0xAA, 0xBB, 0x23, 0x80, 0x03, 0x02, 0x00, 0xCC, 0x00,
+                0x00, 0x23, 0x04, 0x03, 0x02, 0x04, 0xFF, 0x00, 0x00,
+            ],
+            &[0xAA, 0xBB, 0xCC, 0xF0],
+            4,
+        ),
+        (
+            bit_string(),
+            &[0x23, 0x08, 0x03, 0x02, 0x00, 0xAA, 0x03, 0x02, 0x07, 0x80],
+            &[0xAA, 0x80],
+            7,
+        ),
+        (
+            visible,
+            &[
+                0x3A, 0x80, 0x04, 0x01, 0x4A, 0x24, 0x80, 0x04, 0x01, 0x6F, 0x00, 0x00, 0x00, 0x00,
+            ],
+            b"Jo",
+            0,
+        ),
+    ];
+    for (ty, octets, want, unused) in cases {
+        let ty = WellTyped::new(ty)?;
+        let answer = Answer {
+            used: octets.len(),
+            octets: want,
+            unused,
+        };
+        assert!(rt;
+            is_answer(&read(alloc, &ty, octets), &answer),
+            "at {octets:?}"
+        );
+        assert!(rt; comes_as_read(alloc, &ty, octets), "at {octets:?}");
+        let last = told_at_last(&mut Reader::new(alloc, &ty), octets);
+        assert_eq!(rt; last, Some(1), "at {octets:?}");
     }
-    octets.extend_from_slice(&[0x01, 0xAA])?;
-    assert!(rt; is_read(rt.alloc(), octet_string(), octets.as_slice(), &[0xAA], 0));
+    Ok(())
+}
+
+#[test]
+fn refusals_in_strings_that_pieces_cut(rt: HostRuntime) -> Result<(), Fail> {
+    let alloc = rt.alloc();
+    let visible = Ty::Text(Tag::universal(26), TextKind::Visible);
+    // (type, octets, what the last of them is told)
+    let cases: [(Ty, &[u8], usize); 9] = [
+        (octet_string(), &[0x24, 0x80, 0x04, 0x01, 0x41, 0x1A], 102),
+        (
+            octet_string(),
+            &[0x24, 0x80, 0x04, 0x01, 0x41, 0x04, 0x80],
+            103,
+        ),
+        (
+            octet_string(),
+            &[0x24, 0x05, 0x04, 0x01, 0x41, 0x04, 0x01],
+            104,
+        ),
+        (
+            octet_string(),
+            &[0x24, 0x80, 0x04, 0x01, 0x41, 0x00, 0x01],
+            105,
+        ),
+        (
+            octet_string(),
+            &[0x24, 0x80, 0x24, 0x03, 0x04, 0x01, 0x41, 0x00, 0x01],
+            105,
+        ),
+        (
+            bit_string(),
+            &[0x23, 0x80, 0x03, 0x02, 0x04, 0xF0, 0x03],
+            106,
+        ),
+        (
+            visible,
+            &[0x3A, 0x80, 0x04, 0x01, 0x4A, 0x04, 0x01, 0x7F, 0x00, 0x00],
+            107,
+        ),
+        (
+            Ty::Time(Tag::universal(23), TimeKind::Utc),
+            &[0x37, 0x06, 0x04, 0x01, 0x32, 0x04, 0x01, 0x34],
+            107,
+        ),
+        (
+            octet_string(),
+            &[0x24, 0x80, 0x04, 0x01, 0x41, 0x04, 0x83, 0x0F, 0xFF, 0xF5],
+            111,
+        ),
+    ];
+    for (ty, octets, want) in cases {
+        let ty = WellTyped::new(ty)?;
+        assert!(rt; comes_as_read(alloc, &ty, octets), "at {octets:?}");
+        let last = told_at_last(&mut Reader::new(alloc, &ty), octets);
+        assert_eq!(rt; last, Some(want), "at {octets:?}");
+    }
+    Ok(())
+}
+
+#[test]
+fn no_value_ends_within_a_string(rt: HostRuntime) -> Result<(), Fail> {
+    let ty = WellTyped::new(octet_string())?;
+    let mut reader = Reader::new(rt.alloc(), &ty);
+    let pieces: [&[u8]; 4] = [
+        &[0x24, 0x80],
+        &[0x04, 0x01, 0x41],
+        &[0x24, 0x80],
+        &[0x00, 0x00],
+    ];
+    for piece in pieces {
+        assert_eq!(rt; told(&mut reader, piece), 0, "at {piece:?}");
+        assert_eq!(rt; reader.finish(), Err(Refusal::Truncated), "at {piece:?}");
+    }
+    assert_eq!(rt; told(&mut reader, &[0x00, 0x00]), 2);
+    assert_eq!(rt; reader.finish(), Ok(()));
     Ok(())
 }

@@ -40,6 +40,13 @@ OCTET STRING:
 24 83 10 00 00                            | refused 11
 24 83 0F FF FB                            | refused 1
 24 80 24 83 0F FF FA                      | refused 11
+24 83 0F FF FC                            | refused 11
+24 80 04 83 0F FF FA                      | refused 11
+# no room for end-of-contents octets, within the limit or a definite encoding
+24 80 04 83 0F FF F7                      | refused 1
+24 80 04 83 0F FF F8                      | refused 11
+24 80 24 80 04 83 0F FF F4                | refused 11
+24 83 0F FF FB 04 83 0F FF F8             | refused 4
 ";
 
 #[test]

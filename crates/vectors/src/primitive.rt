@@ -20,6 +20,13 @@ BOOLEAN:
 02 01 FF                 | refused 2
 00 00                    | refused 5
 01 02 FF FF              | refused 6
+01                       | refused 1
+21 80                    | refused 3
+21 03 01 01 FF           | refused 3
+01 80                    | refused 3
+01 00                    | refused 6
+01 02                    | refused 6
+01 02 FF                 | refused 6
 INTEGER:
 02 01 00                 | kept
 02 01 7F                 | kept
@@ -92,6 +99,7 @@ BIT STRING:
 03 01 07                 | refused 6
 03 02 08 00              | refused 6
 03 02 FF 00              | refused 6
+03 00                    | refused 6
 OCTET STRING:
 04 00                    | kept
 04 02 00 FF              | kept
@@ -103,6 +111,13 @@ OCTET STRING:
 04 FF                    | refused 4
 04 84 00 10 00 01        | refused 4
 04 83 10 00 00           | refused 11
+04 82 00 01 AA           | 04 01 AA
+                         | refused 1
+1A 00                    | refused 2
+04 80 41 00 00           | refused 3
+04 83 10 00 01           | refused 4
+00 00                    | refused 5
+04 83 0F FF FC           | refused 11
 VisibleString:
 1A 05, 'Jones'           | kept || \"Jones\"
 1A 00                    | kept
@@ -124,6 +139,8 @@ BMPString:
 1E 04 00 41 00 42        | kept
 1E 02 D8 00              | refused 7
 1E 03 00 41 00           | refused 7
+1E 02                    | refused 1
+1E 03                    | refused 7
 ";
 
 // octets | under DER | under CER | text
@@ -141,6 +158,7 @@ UTCTime:
 17 0D, '240229120000Z'      | kept
 17 0D, '230229120000Z'      | refused 7
 17 0B, '2402291200Z'        | refused 7
+17 05                       | refused 7
 ";
 
 // octets | under DER

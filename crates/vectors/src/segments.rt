@@ -21,6 +21,21 @@ OCTET STRING:
 24 80 04 01 41 00 00 00                       | left over
 24 03 04 82 00 01 41                          | refused 4
 24 02 1F 81 00                                | refused 4
+24 81 03 04 01 AA                             | 04 01 AA
+24 04 04 02 4A 6F                             | 04 02 4A 6F
+24 06 04 01 41 04 01 42                       | 04 02 41 42
+24 80 04 01                                   | refused 1
+24 04 80 02 4A 6F                             | refused 2
+24 04 24 02 1A 00                             | refused 2
+24 80 1F 1E                                   | refused 2
+24 04 04 80 00 00                             | refused 3
+24 01 04 00                                   | refused 4
+24 01 1F 81 00                                | refused 4
+24 02 04 01                                   | refused 4
+24 03 04 02 41 42                             | refused 4
+24 80 00 01                                   | refused 5
+24 02 00 00                                   | refused 5
+24 80 24 02 00 00 00 00                       | refused 5
 BIT STRING:
 23 00                                         | 03 01 00
 23 80 00 00                                   | 03 01 00
@@ -31,9 +46,23 @@ BIT STRING:
 23 80 03 02 00 AA 23 04 03 02 04 F0 00 00     | 03 03 04 AA F0
 23 04 04 02 00 AA                             | refused 2
 23 80 00 01                                   | refused 5
+23 03 03 01 00                                | 03 01 00
+23 0A 03 02 00 AA 23 04 03 02 04 F0           | 03 03 04 AA F0
+23 0B 03 01 00 03 02 00 AA 03 02 04 FF        | 03 03 04 AA F0
+23 80 23 80 03 02 07 80 00 00 00 00           | 03 02 07 80
+23 03 04 01 41                                | refused 2
+23 02 03 00                                   | refused 6
+23 03 03 01 01                                | refused 6
+23 04 03 02 08 AA                             | refused 6
 # another tag, and a wrong end, after a segment with unused bits
 23 06 03 02 04 F0 04 00                       | refused 2
 23 80 03 02 04 F0 00 01                       | refused 5
+# nothing follows a segment with unused bits, not even what has no bits
+23 09 03 03 04 AA B0 03 02 00 F0              | refused 6
+23 08 03 02 04 F0 03 02 04 F0                 | refused 6
+23 0A 23 04 03 02 04 F0 03 02 00 AA           | refused 6
+23 07 03 02 04 F0 03 01 00                    | refused 6
+23 06 03 02 04 F0 23 00                       | refused 6
 [0] OCTET STRING:
 A0 04 04 02 4A 6F                             | 80 02 4A 6F
 A0 04 80 02 4A 6F                             | refused 2
@@ -56,6 +85,9 @@ VisibleString:
 3A 80 04 03, 'Jon', 24 04 04 02, 'es', 00 00    | 1A 05, 'Jones'
 3A 09 1A 03, 'Jon', 1A 02, 'es'                 | refused 2
 3A 06 04 01, 'J', 04 01 7F                      | refused 7
+3A 06 04 01, 'J', 04 01, 'o'                    | 1A 02, 'Jo'
+3A 03 1A 01, 'J'                                | refused 2
+3A 03 04 01 7F                                  | refused 7
 IA5String:
 36 06 04 01, 'J', 04 01 7F                      | 16 02, 'J', 7F
 36 06 04 01, 'J', 04 01 80                      | refused 7
@@ -70,6 +102,7 @@ UTF8String:
 2C 05 04 01 C3 04 00                            | refused 7
 2C 06 04 01 C3 04 01 41                         | refused 7
 2C 06 0C 01 C3 0C 01 A9                         | refused 2
+2C 03 04 01 C3                                  | refused 7
 BMPString:
 3E 00                                           | 1E 00
 3E 06 04 01 00 04 01 41                         | 1E 02 00 41
@@ -89,6 +122,8 @@ UTCTime:
 37 80 04 06, '240229', 04 07, '120000Z', 00 00  | 17 0D, '240229120000Z'
 37 80 04 06, '230229', 04 07, '120000Z', 00 00  | refused 7
 37 05                                           | refused 1
+37 80 17 00 00 00                               | refused 2
+37 80 00 00                                     | refused 7
 [0] VisibleString:
 A0 04 04 02, 'Jo'                               | 80 02, 'Jo'
 A0 04 1A 02, 'Jo'                               | refused 2
@@ -105,6 +140,11 @@ OCTET STRING:
 24 04 24 80 04 48                 | refused 4
 24 04 24 80 1A 00                 | refused 4
 24 04 24 80 24 80                 | refused 4
+24 02 24 80 00 00                 | refused 4
+24 03 24 80 00 00                 | refused 4
+24 04 24 80 04 00                 | refused 4
+24 05 24 80 04 01                 | refused 4
+24 03 24 80                       | refused 4
 24 06 24 80 04 01 41 00           | refused 4
 24 02 1A 00                       | refused 2
 24 04 24 80 00 48                 | refused 5

@@ -59,6 +59,32 @@ SEQUENCE { a [0] EXPLICIT INTEGER DEFAULT -1, b [1] EXPLICIT INTEGER OPTIONAL }:
 30 80 A0 80 02 81 01 FF 00 00 00 00 | 30 00                 | 30 80 00 00
 30 05 A1 03 02 01 FF           | kept                       | 30 80 A1 80 02 01 FF 00 00 00 00
 30 05 A0 03 02 01 01           | kept                       | 30 80 A0 80 02 01 01 00 00 00 00
+SEQUENCE { a INTEGER, b BOOLEAN OPTIONAL, c [0] INTEGER DEFAULT 5 }:
+30 03 02 01 07                 | kept                       | 30 80 02 01 07 00 00 | { a 7 }
+30 80 02 01 07 01 01 01 00 00  | 30 06 02 01 07 01 01 FF    | 30 80 02 01 07 01 01 FF 00 00 | { a 7, b TRUE }
+30 06 02 01 07 80 01 05        | 30 03 02 01 07             | 30 80 02 01 07 00 00 | { a 7 }
+30 81 06 02 01 07 80 01 06     | 30 06 02 01 07 80 01 06    | 30 80 02 01 07 80 01 06 00 00 | { a 7, c 6 }
+                               | refused 1
+30 80 02 01                    | refused 1
+31 00                          | refused 2
+30 03 04 01 00                 | refused 2
+30 06 02 01 07 02 01 07        | refused 2
+30 0B 02 01 07 01 01 FF 80 01 06 00 00 | refused 2
+10 03 02 01 07                 | refused 3
+30 03 22 01 07                 | refused 3
+30 02 02 01 07                 | refused 4
+30 01 02 01 07                 | refused 4
+30 83 10 00 01                 | refused 4
+30 FF                          | refused 4
+00 00                          | refused 5
+30 02 00 00                    | refused 5
+30 80 00 01                    | refused 5
+30 80 02 01 07 00 01           | refused 5
+30 02 02 00                    | refused 6
+30 00                          | refused 8
+30 80 00 00                    | refused 8
+30 03 01 01 FF                 | refused 8
+30 83 0F FF FC                 | refused 11
 ";
 
 // octets | under DER | under CER
@@ -74,6 +100,10 @@ SEQUENCE OF INTEGER:
 30 03 02 02 05 00              | refused 4
 30 05 02 01 05                 | refused 1
 30 02 02 11                    | refused 6
+30 00                          | kept                       | 30 80 00 00 | { }
+30 80 02 01 02 02 01 01 00 00  | 30 06 02 01 02 02 01 01    | kept | { 2, 1 }
+30 03 01 01 FF                 | refused 2
+30 02 00 00                    | refused 5
 SEQUENCE OF SEQUENCE OF INTEGER:
 30 80 30 80 00 00 30 03 02 01 01 00 00 | 30 07 30 00 30 03 02 01 01 | 30 80 30 80 00 00 30 80 02 01 01 00 00 00 00
 30 04 30 80 00 00              | 30 02 30 00                | 30 80 30 80 00 00 00 00
@@ -97,10 +127,12 @@ CHOICE { x [0] NULL, y [1] BOOLEAN }:
 82 00                          | refused 2
 A0 00                          | refused 3
 CHOICE { a INTEGER, b CHOICE { c BOOLEAN, d SEQUENCE OF INTEGER } }:
-02 01 03                       | kept                       | 02 01 03
+02 01 03                       | kept                       | 02 01 03 | a : 3
 01 01 2A                       | 01 01 FF                   | 01 01 FF
-30 80 02 01 04 00 00           | 30 03 02 01 04             | kept
+30 80 02 01 04 00 00           | 30 03 02 01 04             | kept | b : d : { 4 }
 31 00                          | refused 2
+05 00                          | refused 2
+30 04 02 02 00 00              | refused 6
 AUTOMATIC TAGS SEQUENCE { a CHOICE { x NULL, y BOOLEAN }, b INTEGER }:
 30 07 A0 02 80 00 81 01 05     | kept                       | 30 80 A0 80 80 00 00 00 81 01 05 00 00 | { a x : NULL, b 5 }
 30 80 A0 80 80 00 00 00 81 01 05 00 00 | 30 07 A0 02 80 00 81 01 05 | kept
@@ -109,7 +141,7 @@ AUTOMATIC TAGS SEQUENCE { a CHOICE { x NULL, y BOOLEAN }, b INTEGER }:
 30 09 A0 04 80 00 80 00 81 01 05 | refused 2
 [1] EXPLICIT INTEGER:
 A1 03 02 01 05                 | kept                       | A1 80 02 01 05 00 00
-A1 80 02 01 05 00 00           | A1 03 02 01 05             | kept
+A1 80 02 01 05 00 00           | A1 03 02 01 05             | kept | 5
 A1 06 02 01 05 02 01 05        | refused 2
 A1 05 02 01 05 00 00           | refused 2
 A1 80 02 01 05 02 01 05 00 00  | refused 2
