@@ -23,8 +23,6 @@ pub enum Plan {
     Octets,
     Text(TextKind),
     Time(TimeKind),
-    /// BOOLEAN with a context-specific tag.
-    TaggedBoolean(u32),
     /// INTEGER with a context-specific tag.
     TaggedInteger(u32),
     /// NULL with another tag.
@@ -118,7 +116,6 @@ pub fn ty_of(alloc: Global, plan: &Plan) -> Result<Ty, Fail> {
         Plan::Octets => Ty::Octets(Tag::universal(4)),
         Plan::Text(kind) => Ty::Text(Tag::universal(12), *kind),
         Plan::Time(kind) => Ty::Time(Tag::universal(24), *kind),
-        Plan::TaggedBoolean(number) => Ty::Boolean(context(*number)),
         Plan::TaggedInteger(number) => Ty::Integer(context(*number)),
         Plan::Tagged(class, number) => {
             let (class, number) = (*class, *number);
@@ -212,8 +209,8 @@ pub fn value_of(alloc: Global, given: &Given) -> Result<Value, Fail> {
     })
 }
 
-/// The bits of octets but the last unused ones.
-pub fn bits_of(octets: Vec<u8>, unused: u8) -> Result<Value, Fail> {
+// The bits of octets but the last unused ones.
+fn bits_of(octets: Vec<u8>, unused: u8) -> Result<Value, Fail> {
     Ok(Value::Bits(Bits::new(octets, unused).ok_or("too many bits unused")?))
 }
 

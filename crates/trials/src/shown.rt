@@ -1,25 +1,22 @@
-mod parts;
-mod quoted;
-mod simple;
-
-use crate::made::{Given, Plan, typed, value_of};
-use std::process::Abort;
+use octets::Tag;
 use std::test::Fail;
 use texts::show;
-use types::conforms;
+use types::{Ty, Value, WellTyped, conforms};
 
-// Whether each value is shown with its text.
-fn shows(
-    rt: &impl Abort,
-    alloc: std::alloc::Global,
-    cases: &[(Plan, Given, &str)],
-) -> Result<(), Fail> {
-    for case in cases {
-        let ty = typed(alloc, &case.0)?;
-        let value = value_of(alloc, &case.1)?;
-        assert!(rt; conforms(ty.as_type(), &value), "at {}", case.2);
-        let text = show(alloc, &ty, &value)?;
-        assert_eq!(rt; text.as_str(), case.2);
+// Its encodings are longer than the longest that is read or written.
+#[test]
+fn a_value_of_any_length(rt: HostRuntime) -> Result<(), Fail> {
+    let alloc = rt.alloc();
+    let ty = WellTyped::new(Ty::Octets(Tag::universal(4)))?;
+    let mut octets = Vec::new(alloc);
+    for _ in 0..1_048_577 {
+        octets.push(0xAB)?;
     }
+    let value = Value::Octets(octets);
+    assert!(rt; conforms(ty.as_type(), &value));
+    let text = show(alloc, &ty, &value)?;
+    assert_eq!(rt; text.len(), 2_097_157);
+    assert!(rt; text.starts_with("'ABAB"));
+    assert!(rt; text.ends_with("ABAB'H"));
     Ok(())
 }

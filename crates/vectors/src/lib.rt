@@ -39,6 +39,8 @@ mod sequences;
 #[cfg(test)]
 mod sets;
 #[cfg(test)]
+mod spellings;
+#[cfg(test)]
 mod streamed;
 #[cfg(test)]
 mod tags;
