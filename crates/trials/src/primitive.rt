@@ -2,6 +2,7 @@ use primitives::{
     Bits, Fault, put_bits, put_boolean, put_integer, put_null, put_oid, put_relative_oid,
     read_bits, read_boolean, read_integer, read_null, read_oid, read_relative_oid,
 };
+use std::alloc::Global;
 use std::test::Fail;
 
 #[test]
@@ -76,6 +77,13 @@ fn integer_contents(rt: HostRuntime) {
     }
 }
 
+// Whether the number is written so.
+fn is_written(alloc: Global, number: i128, want: &[u8]) -> Result<bool, Fail> {
+    let mut out = Vec::new(alloc);
+    put_integer(&mut out, number)?;
+    Ok(out.as_slice() == want)
+}
+
 #[test]
 fn written_integer_contents(rt: HostRuntime) -> Result<(), Fail> {
     // (number, its contents octets)
@@ -103,9 +111,7 @@ fn written_integer_contents(rt: HostRuntime) -> Result<(), Fail> {
         ),
     ];
     for (number, want) in cases {
-        let mut out = Vec::new(rt.alloc());
-        put_integer(&mut out, number)?;
-        assert_eq!(rt; out.as_slice(), want, "of {number}");
+        assert!(rt; is_written(rt.alloc(), number, want)?, "of {number}");
     }
     Ok(())
 }
@@ -118,6 +124,14 @@ fn written_boolean_and_null_contents(rt: HostRuntime) -> Result<(), Fail> {
     put_boolean(&mut out, false)?;
     assert_eq!(rt; out.as_slice(), [0xFF, 0x00].as_slice());
     Ok(())
+}
+
+// Whether the octets are read as these arcs and written so.
+fn is_oid(alloc: Global, contents: &[u8], arcs: &[u128]) -> Result<bool, Fail> {
+    let read = read_oid(alloc, contents)?;
+    let mut out = Vec::new(alloc);
+    put_oid(&mut out, &read)?;
+    Ok(read.as_slice() == arcs && out.as_slice() == contents)
 }
 
 #[test]
@@ -135,13 +149,17 @@ fn oid_contents(rt: HostRuntime) -> Result<(), Fail> {
         (&[0x2A, 0x86, 0x48, 0x86, 0xF7, 0x0D], &[1, 2, 840, 113_549]),
     ];
     for (contents, arcs) in cases {
-        let read = read_oid(rt.alloc(), contents)?;
-        assert_eq!(rt; read.as_slice(), arcs, "at {contents:?}");
-        let mut out = Vec::new(rt.alloc());
-        put_oid(&mut out, &read)?;
-        assert_eq!(rt; out.as_slice(), contents, "of {arcs:?}");
+        assert!(rt; is_oid(rt.alloc(), contents, arcs)?, "at {contents:?}");
     }
     Ok(())
+}
+
+// Whether the octets are read as these arcs and written so.
+fn is_relative_oid(alloc: Global, contents: &[u8], arcs: &[u128]) -> Result<bool, Fail> {
+    let read = read_relative_oid(alloc, contents)?;
+    let mut out = Vec::new(alloc);
+    put_relative_oid(&mut out, &read)?;
+    Ok(read.as_slice() == arcs && out.as_slice() == contents)
 }
 
 #[test]
@@ -160,11 +178,10 @@ fn relative_oid_contents(rt: HostRuntime) -> Result<(), Fail> {
         ),
     ];
     for (contents, arcs) in cases {
-        let read = read_relative_oid(rt.alloc(), contents)?;
-        assert_eq!(rt; read.as_slice(), arcs, "at {contents:?}");
-        let mut out = Vec::new(rt.alloc());
-        put_relative_oid(&mut out, &read)?;
-        assert_eq!(rt; out.as_slice(), contents, "of {arcs:?}");
+        assert!(rt;
+            is_relative_oid(rt.alloc(), contents, arcs)?,
+            "at {contents:?}"
+        );
     }
     Ok(())
 }
@@ -199,6 +216,16 @@ fn no_oid_contents(rt: HostRuntime) {
     assert!(rt; read_oid(rt.alloc(), &[1; 128]).is_ok());
 }
 
+// Whether the octets are read as these with so many unused bits, and written with them.
+fn is_bits(alloc: Global, contents: &[u8], octets: &[u8], unused: u8) -> Result<bool, Fail> {
+    let bits = read_bits(alloc, contents)?;
+    let mut want = vec![in alloc; unused]?;
+    want.extend_from_slice(octets)?;
+    let mut out = Vec::new(alloc);
+    put_bits(&mut out, &bits)?;
+    Ok(bits.octets() == octets && bits.unused() == unused && out.as_slice() == want.as_slice())
+}
+
 #[test]
 fn bit_string_contents(rt: HostRuntime) -> Result<(), Fail> {
     // (contents octets, octets of the value, unused bits)
@@ -213,13 +240,10 @@ fn bit_string_contents(rt: HostRuntime) -> Result<(), Fail> {
         (&[0x00, 0xFF, 0xFF], &[0xFF, 0xFF], 0),
     ];
     for (contents, octets, unused) in cases {
-        let bits = read_bits(rt.alloc(), contents)?;
-        assert_eq!(rt; bits.octets(), octets, "at {contents:?}");
-        assert_eq!(rt; bits.unused(), unused, "at {contents:?}");
-        let mut out = Vec::new(rt.alloc());
-        put_bits(&mut out, &bits)?;
-        assert_eq!(rt; &out[1..], octets, "at {contents:?}");
-        assert_eq!(rt; out[0], unused, "at {contents:?}");
+        assert!(rt;
+            is_bits(rt.alloc(), contents, octets, unused)?,
+            "at {contents:?}"
+        );
     }
     Ok(())
 }
