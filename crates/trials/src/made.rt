@@ -209,8 +209,8 @@ pub fn value_of(alloc: Global, given: &Given) -> Result<Value, Fail> {
     })
 }
 
-// The bits of octets but the last unused ones.
-fn bits_of(octets: Vec<u8>, unused: u8) -> Result<Value, Fail> {
+/// The bits of octets but the last unused ones.
+pub fn bits_of(octets: Vec<u8>, unused: u8) -> Result<Value, Fail> {
     Ok(Value::Bits(Bits::new(octets, unused).ok_or("too many bits unused")?))
 }
 
