@@ -9,7 +9,7 @@ use std::test::Fail;
 const ROWS: &str = "
 ENUMERATED { a, b(300) }:
 0A 02 01 2C              | kept        | kept | b
-0A 81 02 01 2C           | 0A 02 01 2C | 0A 02 01 2C
+0A 81 02 01 2C           | 0A 02 01 2C | 0A 02 01 2C | b
 ENUMERATED { a(1), b, c(0), d }:
 0A 01 02                 | kept        | kept | b
 0A 81 01 03              | 0A 01 03    | 0A 01 03 | d

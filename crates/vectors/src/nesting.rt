@@ -12,26 +12,26 @@ use std::test::Fail;
 // octets | under DER
 const LEVELS: &str = "
 OCTET STRING:
-24 80, 04 01 AA, 00 00                    | 04 01 AA
-24 80 x63, 04 01 AA, 00 00 x63            | 04 01 AA
-24 80 x64, 04 01 AA, 00 00 x64            | 04 01 AA
+24 80, 04 01 AA, 00 00                    | 04 01 AA | 04 01 AA | 'AA'H
+24 80 x63, 04 01 AA, 00 00 x63            | 04 01 AA | 04 01 AA | 'AA'H
+24 80 x64, 04 01 AA, 00 00 x64            | 04 01 AA | 04 01 AA | 'AA'H
 24 80 x65, 04 01 AA, 00 00 x65            | refused 10
 24 80 x64                                 | refused 1
 24 80 x64, 24                             | refused 10
 24 80 x64, 24 FF                          | refused 10
 24 80 x64, 24 00, 00 00 x64               | refused 10
 # 65 encodings beside each other in one
-24 80, 24 80 00 00 x65, 00 00             | 04 00
+24 80, 24 80 00 00 x65, 00 00             | 04 00 | 04 00 | ''H
 ";
 
 // octets | under DER
 const LENGTHS: &str = "
 OCTET STRING:
 # 126 digits, of which the first 125 are 00: outside, inside, and both
-04 FE, 00 x125, 01 AA                     | 04 01 AA
-24 FE, 00 x125, 03 04 01 AA               | 04 01 AA
-24 80 04 FE, 00 x125, 01 AA 00 00         | 04 01 AA
-24 FE, 00 x125, 81 04 FE, 00 x125, 01 AA  | 04 01 AA
+04 FE, 00 x125, 01 AA                     | 04 01 AA | 04 01 AA | 'AA'H
+24 FE, 00 x125, 03 04 01 AA               | 04 01 AA | 04 01 AA | 'AA'H
+24 80 04 FE, 00 x125, 01 AA 00 00         | 04 01 AA | 04 01 AA | 'AA'H
+24 FE, 00 x125, 81 04 FE, 00 x125, 01 AA  | 04 01 AA | 04 01 AA | 'AA'H
 24 FF, 00 x126, 03 04 01 AA               | refused 4
 24 80 04 FF, 00 x126, 01 AA 00 00         | refused 4
 24 83 10 00 01                            | refused 4
