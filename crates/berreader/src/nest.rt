@@ -372,6 +372,7 @@ impl<'a> Nest<'a> {
             next.identifier,
             self.end(),
             self.taken,
+            self.layers.any_definite(),
             octets,
         )?;
         self.layers.set_which(next.which);

@@ -2,7 +2,8 @@
 //! 8.25): a primitive one whole, and of a constructed string the beginning.
 //!
 //! A part that does not fit is refused as too long. Whether it passes the end of a definite encoding around
-//! it, which is a fault of its length, is said by the reader of those (`named`).
+//! it, which is a fault of its length, is said by the reader of those (`named`). Such a fault comes before that of a
+//! length that the type cannot have, so the reader of a primitive encoding is told whether one is around it.
 
 ghost use Rattle.std.specs.Prelude.{◌≡◌, ◌+◌, ◌≤◌, ◌++◌, ℕ, List, length, take, slice_range, true, false, IfOk, IfErr, IsErr};
 ghost use Rattle.octets.specs.declared.TheConstants.{MAX_ENCODING};
@@ -31,7 +32,9 @@ use types::{Refusal, Ty, Value};
 
 /// Reads the primitive encoding at the front of `octets`, of a type without parts, by its identifier octets, of
 /// which there are `identifier`: its value, and how many octets it has. Before it stand `taken` octets, and it
-/// ends at `end` at the latest.
+/// ends at `end` at the latest. `inside_definite` says whether an encoding around it has the definite form: then
+/// one that goes on past `end` is refused with `TooLong`, and else with `Contents` or `Alphabet` where its type
+/// cannot have the length either.
 ///
 /// Refused with `Truncated` where octets are missing, with another of the refusals 2 to 11 where no octets after
 /// these make it an encoding that ends there, and with `NoMemory`: all values but those of BOOLEAN, INTEGER,
@@ -42,6 +45,7 @@ pub fn read_leaf(
     identifier: usize,
     end: usize,
     taken: usize,
+    inside_definite: bool,
     octets: &[u8],
 ) -> Result<(Value, usize), Refusal>
     requires leaf { IsLeaf (ty_view node.now) }
@@ -57,18 +61,20 @@ pub fn read_leaf(
         ¬ HasFront (IsPartWithin levels (ty_view node.now) end taken) (octets.now ++ more)) }
     ensures numbers { IfErr result IsOfReading }
 {
-    let (start, stop) = read_place(node, identifier, end, taken, octets)?;
+    let (start, stop) = read_place(node, identifier, end, taken, inside_definite, octets)?;
     let value = read_contents(alloc, node, &octets[start..stop])?;
     Ok((value, stop))
 }
 
 // Where the contents octets of the primitive encoding at the front begin and end, by its identifier octets: as many
-// as the type can have. A length that no value has is refused before one that is cut or does not fit.
+// as the type can have. A length that no value has is refused before one that is cut, and before one that does not
+// fit, but where that passes the end of a definite encoding around it.
 fn read_place(
     node: &Ty,
     identifier: usize,
     end: usize,
     taken: usize,
+    inside_definite: bool,
     octets: &[u8],
 ) -> Result<(usize, usize), Refusal>
     requires leaf { IsLeaf (ty_view node.now) }
@@ -94,18 +100,23 @@ fn read_place(
         }
         Err(refusal) => {
             let room = end - taken - identifier;
-            check_length(node, front(&octets[identifier..], room))?;
+            let passes_end = inside_definite && refusal == Refusal::TooLong;
+            check_length(node, passes_end, front(&octets[identifier..], room))?;
             Err(refusal)
         }
     }
 }
 
-// Refuses length octets at the front that go with no contents octets of the type.
-fn check_length(ty: &Ty, octets: &[u8]) -> Result<(), Refusal>
+// Refuses length octets at the front that go with no contents octets of the type, but where they pass the end of a
+// definite encoding.
+fn check_length(ty: &Ty, passes_end: bool, octets: &[u8]) -> Result<(), Refusal>
     ensures never { IsErr result → (more size rest : List ℕ) (contents : ℕ) → IsLength contents size →
         octets.now ++ more ≡ size ++ rest → ¬ CanHaveLength (ty_view ty.now) contents }
     ensures numbers { IfErr result IsOfContents }
 {
+    if passes_end {
+        return Ok(());
+    }
     match read_length(octets) {
         Length::Definite { octets: size, .. } if !can_have_length(ty, size) => Err(unfit(ty)),
         _ => Ok(()),

@@ -99,7 +99,14 @@ SEQUENCE OF INTEGER:
 30 06 02 01 05 01 01 05        | refused 2
 30 03 02 02 05 00              | refused 4
 30 05 02 01 05                 | refused 1
-30 02 02 11                    | refused 6
+# a length that passes a definite end, and else one that no INTEGER has
+30 02 02 11                    | refused 4
+30 03 02 11 00                 | refused 4
+30 12 02 11 00                 | refused 4
+30 13 02 11 00                 | refused 6
+30 80 02 11 00                 | refused 6
+30 80 02 83 0F FF FF           | refused 6
+30 80 02 83 10 00 01           | refused 4
 30 00                          | kept                       | 30 80 00 00 | { }
 30 80 02 01 02 02 01 01 00 00  | 30 06 02 01 02 02 01 01    | kept | { 2, 1 }
 30 03 01 01 FF                 | refused 2
@@ -109,7 +116,10 @@ SEQUENCE OF SEQUENCE OF INTEGER:
 30 04 30 80 00 00              | 30 02 30 00                | 30 80 30 80 00 00 00 00                      | { { } }
 30 04 30 80 02 01              | refused 4
 30 02 30 80                    | refused 4
+30 07 30 80 02 11 00 00 00     | refused 4
+30 80 30 03 02 11 00           | refused 4
 SEQUENCE OF OCTET STRING:
+30 80 04 83 0F FF FF           | refused 11
 30 80 24 80 04 01 41 00 00 04 00 00 00 | 30 05 04 01 41 04 00 | 30 80 04 01 41 04 00 00 00 | { '41'H, ''H }
 30 04 24 80 04 00              | refused 4
 SEQUENCE OF SEQUENCE { a INTEGER OPTIONAL, b CHOICE { c NULL, d SEQUENCE OF BOOLEAN } }:

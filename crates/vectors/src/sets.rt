@@ -77,6 +77,12 @@ SET OF SET OF INTEGER:
 # by the length octets under DER, and by the first items under CER
 31 0D 31 06 02 01 03 02 01 01 31 03 02 01 02 | 31 0D 31 03 02 01 02 31 06 02 01 01 02 01 03 | 31 80 31 80 02 01 01 02 01 03 00 00 31 80 02 01 02 00 00 00 00 | { { 2 }, { 1, 3 } }
 31 07 31 03 02 01 02 31 00     | 31 07 31 00 31 03 02 01 02 | 31 80 31 80 00 00 31 80 02 01 02 00 00 00 00 | { { }, { 2 } }
+SET OF UTCTime:
+# a length that passes a definite end, and else one that no UTCTime has
+31 03 17 05 00                 | refused 4
+31 06 17 05 00                 | refused 4
+31 07 17 05 00                 | refused 7
+31 80 17 05 00                 | refused 7
 SET OF SEQUENCE { a INTEGER DEFAULT 0, b NULL OPTIONAL }:
 31 09 30 02 05 00 30 03 02 01 00 | 31 06 30 00 30 02 05 00 | 31 80 30 80 00 00 30 80 05 00 00 00 00 00 | { { }, { b NULL } }
 ";

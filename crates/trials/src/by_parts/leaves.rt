@@ -94,7 +94,7 @@ fn part(
             Err(refusal) => Err(refusal),
         }
     } else {
-        match read_leaf(alloc, node, identifier, end, taken, octets) {
+        match read_leaf(alloc, node, identifier, end, taken, false, octets) {
             Ok((_, used)) => Ok(used),
             Err(refusal) => Err(refusal),
         }
