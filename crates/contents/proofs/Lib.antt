@@ -16,3 +16,4 @@ pub mod HoldingLemmas
 pub mod PartsPutLemmas
 pub mod PartsValueLemmas
 pub mod PartsOpenLemmas
+pub mod CutLemmas

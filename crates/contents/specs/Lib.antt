@@ -6,3 +6,4 @@ pub mod Completing
 pub mod Segments
 pub mod Parts
 pub mod Holding
+pub mod Cut

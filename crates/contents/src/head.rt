@@ -4,6 +4,7 @@ ghost use Rattle.std.specs.Prelude.{◌≡◌, ◌≤◌, ◌<◌, ◌++◌, ℕ
 ghost use Rattle.octets.specs.declared.TheConstants.{MAX_ENCODING, MAX_TAG_NUMBER};
 ghost use Rattle.octets.specs.declared.tag.Tag.{Tag};
 ghost use Rattle.types.specs.Refusal.{IsFinal, IsOfReading};
+ghost use Rattle.contents.specs.Cut.{IsIdentifierCut, IsLengthCut};
 ghost use Rattle.contents.specs.Head.{IsTagWithin, IsReadTag, IsExtentWithin, IsReadExtent};
 
 use octets::{Class, Head, Length, Tag, read_identifier, read_length};
@@ -40,6 +41,7 @@ pub fn read_head_tag(end: usize, taken: usize, octets: &[u8]) -> Result<(Tag, bo
     ensures within { IfOk result (λ p. p.0.number ≤ MAX_TAG_NUMBER) }
     ensures truncated { result ≡ Err Refusal.Truncated → (tag : Tag) → tag.number ≤ MAX_TAG_NUMBER →
         ¬ IsTagWithin tag end taken octets.now }
+    ensures cut { result ≡ Err Refusal.Truncated → IsIdentifierCut end taken octets.now }
     ensures never { IfErr result (λ refusal. IsFinal refusal → (more : List ℕ) (tag : Tag) →
         tag.number ≤ MAX_TAG_NUMBER → ¬ IsTagWithin tag end taken (octets.now ++ more)) }
     ensures numbers { IfErr result IsOfReading }
@@ -63,6 +65,7 @@ pub fn read_tag(tag: Tag, end: usize, taken: usize, octets: &[u8]) -> Result<(bo
     requires { tag.number ≤ MAX_TAG_NUMBER }
     ensures value { IfOk result (λ p. IsReadTag tag end taken octets.now p.0 p.1) }
     ensures truncated { result ≡ Err Refusal.Truncated → ¬ IsTagWithin tag end taken octets.now }
+    ensures cut { result ≡ Err Refusal.Truncated → IsIdentifierCut end taken octets.now }
     ensures never { IfErr result (λ refusal. IsFinal refusal → (more : List ℕ) →
         ¬ IsTagWithin tag end taken (octets.now ++ more)) }
     ensures numbers { IfErr result IsOfReading }
@@ -85,6 +88,7 @@ pub fn read_extent(
     ensures value { IfOk result (λ extent. IsReadExtent constructed end taken octets.now extent) }
     ensures truncated { result ≡ Err Refusal.Truncated →
         ¬ IsExtentWithin constructed end taken octets.now }
+    ensures cut { result ≡ Err Refusal.Truncated → IsLengthCut end taken octets.now }
     ensures never { IfErr result (λ refusal. IsFinal refusal → (more : List ℕ) →
         ¬ IsExtentWithin constructed end taken (octets.now ++ more)) }
     ensures numbers { IfErr result IsOfReading }

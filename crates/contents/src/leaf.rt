@@ -5,7 +5,7 @@
 //! it, which is a fault of its length, is said by the reader of those (`named`). Such a fault comes before that of a
 //! length that the type cannot have, so the reader of a primitive encoding is told whether one is around it.
 
-ghost use Rattle.std.specs.Prelude.{◌≡◌, ◌+◌, ◌≤◌, ◌++◌, ℕ, List, length, take, slice_range, true, false, IfOk, IfErr, IsErr};
+ghost use Rattle.std.specs.Prelude.{◌≡◌, ◌+◌, ◌≤◌, ◌++◌, ℕ, List, length, take, slice_range, true, false, IfOk, IfErr, IsErr, IsOk};
 ghost use Rattle.octets.specs.declared.TheConstants.{MAX_ENCODING};
 ghost use Rattle.octets.specs.Front.{HasFront};
 ghost use Rattle.octets.specs.Length.{IsLength};
@@ -15,6 +15,7 @@ ghost use Rattle.types.specs.Leaf.{tag_of, IsLeaf};
 ghost use Rattle.types.specs.Refusal.{IsFinal, IsOfReading};
 ghost use Rattle.types.specs.View.{ty_view, value_view};
 ghost use Rattle.contents.specs.Contents.{IsOfContents};
+ghost use Rattle.contents.specs.Cut.{IsPartCut};
 ghost use Rattle.contents.specs.Head.{IsReadTag};
 ghost use Rattle.contents.specs.Lengths.{CanHaveLength};
 ghost use Rattle.contents.specs.Parts.{IsGoodType, IsPartOf, IsPartWithin};
@@ -57,6 +58,8 @@ pub fn read_leaf(
         IsPartOf levels (ty_view node.now) (value_view p.0) (take p.1 octets.now)) }
     ensures truncated { result ≡ Err Refusal.Truncated → (levels : ℕ) →
         ¬ HasFront (IsPartWithin levels (ty_view node.now) end taken) octets.now }
+    ensures cut { result ≡ Err Refusal.Truncated → (levels : ℕ) →
+        IsPartCut (tag_of (ty_view node.now)) (ty_view node.now) levels end taken octets.now }
     ensures never { IfErr result (λ refusal. IsFinal refusal → (more : List ℕ) (levels : ℕ) →
         ¬ HasFront (IsPartWithin levels (ty_view node.now) end taken) (octets.now ++ more)) }
     ensures numbers { IfErr result IsOfReading }
@@ -86,6 +89,8 @@ fn read_place(
         IsPrimitive ber (tag_of (ty_view node.now)) (slice_range octets.now p.0 p.1) (take p.1 octets.now)) }
     ensures truncated { result ≡ Err Refusal.Truncated → (levels : ℕ) →
         ¬ HasFront (IsPartWithin levels (ty_view node.now) end taken) octets.now }
+    ensures cut { result ≡ Err Refusal.Truncated → (levels : ℕ) →
+        IsPartCut (tag_of (ty_view node.now)) (ty_view node.now) levels end taken octets.now }
     ensures never { IfErr result (λ refusal. IsFinal refusal → (more : List ℕ) (levels : ℕ) →
         ¬ HasFront (IsPartWithin levels (ty_view node.now) end taken) (octets.now ++ more)) }
     ensures numbers { IfErr result IsOfReading }
@@ -99,27 +104,35 @@ fn read_place(
             }
         }
         Err(refusal) => {
+            if inside_definite && refusal == Refusal::TooLong {
+                return Err(refusal);
+            }
             let room = end - taken - identifier;
-            let passes_end = inside_definite && refusal == Refusal::TooLong;
-            check_length(node, passes_end, front(&octets[identifier..], room))?;
+            check_length(node, front(&octets[identifier..], room))?;
             Err(refusal)
         }
     }
 }
 
-// Refuses length octets at the front that go with no contents octets of the type, but where they pass the end of a
-// definite encoding.
-fn check_length(ty: &Ty, passes_end: bool, octets: &[u8]) -> Result<(), Refusal>
+// Refuses length octets at the front that go with no contents octets of the type.
+fn check_length(ty: &Ty, octets: &[u8]) -> Result<(), Refusal>
     ensures never { IsErr result → (more size rest : List ℕ) (contents : ℕ) → IsLength contents size →
         octets.now ++ more ≡ size ++ rest → ¬ CanHaveLength (ty_view ty.now) contents }
+    ensures can { IsOk result → (size rest : List ℕ) (contents : ℕ) → contents ≤ MAX_ENCODING →
+        IsLength contents size → octets.now ≡ size ++ rest → CanHaveLength (ty_view ty.now) contents }
     ensures numbers { IfErr result IsOfContents }
 {
-    if passes_end {
-        return Ok(());
-    }
     match read_length(octets) {
-        Length::Definite { octets: size, .. } if !can_have_length(ty, size) => Err(unfit(ty)),
-        _ => Ok(()),
+        Length::Definite { octets: size, .. } => {
+            if can_have_length(ty, size) {
+                Ok(())
+            } else {
+                Err(unfit(ty))
+            }
+        }
+        Length::Indefinite { .. } => Ok(()),
+        Length::More => Ok(()),
+        Length::Bad => Ok(()),
     }
 }
 
@@ -155,6 +168,8 @@ pub fn begin_string(
     ensures begun { IfOk result (λ p. IsBegun (ty_view node.now) end taken identifier levels octets.now p.0 p.1 p.2) }
     ensures truncated { result ≡ Err Refusal.Truncated →
         ¬ HasFront (IsPartWithin levels (ty_view node.now) end taken) octets.now }
+    ensures cut { result ≡ Err Refusal.Truncated →
+        IsPartCut (tag_of (ty_view node.now)) (ty_view node.now) levels end taken octets.now }
     ensures never { IfErr result (λ refusal. IsFinal refusal → (more : List ℕ) →
         ¬ HasFront (IsPartWithin levels (ty_view node.now) end taken) (octets.now ++ more)) }
     ensures numbers { IfErr result IsOfReading }

@@ -1,6 +1,6 @@
 //! What stands behind the identifier octets of a part.
 
-ghost use Rattle.std.specs.Prelude.{◌≡◌, ◌+◌, ◌≤◌, ◌++◌, ℕ, List, true, false, take, length, slice_range, IfOk, IfErr};
+ghost use Rattle.std.specs.Prelude.{◌≡◌, ◌⊎◌, ◌+◌, ◌≤◌, ◌++◌, ℕ, List, true, false, take, drop, length, slice_range, IfOk, IfErr};
 ghost use Rattle.octets.specs.declared.TheConstants.{MAX_ENCODING};
 ghost use Rattle.octets.specs.declared.tag.Tag.{Tag};
 ghost use Rattle.octets.specs.Identifier.{IsIdentifier};
@@ -8,6 +8,7 @@ ghost use Rattle.octets.specs.Rule.{ber};
 ghost use Rattle.types.specs.Form.{IsPrimitive};
 ghost use Rattle.types.specs.Refusal.{IsFinal, IsOfReading};
 ghost use Rattle.contents.specs.Completing.{Opens};
+ghost use Rattle.contents.specs.Cut.{AreContentsCut, IsLengthCut};
 ghost use Rattle.contents.specs.Head.{IsExtentWithin, IsPrimitiveWithin};
 
 use crate::frame::Frame;
@@ -25,6 +26,7 @@ pub fn read_opening(end: usize, taken: usize, octets: &[u8]) -> Result<(usize, F
     ensures value { IfOk result (λ p.
         (p.0 ≤ length octets.now) × Opens end taken p.1 (take p.0 octets.now)) }
     ensures truncated { result ≡ Err Refusal.Truncated → ¬ IsExtentWithin true end taken octets.now }
+    ensures cut { result ≡ Err Refusal.Truncated → IsLengthCut end taken octets.now }
     ensures never { IfErr result (λ refusal. IsFinal refusal → (more : List ℕ) →
         ¬ IsExtentWithin true end taken (octets.now ++ more)) }
     ensures numbers { IfErr result IsOfReading }
@@ -62,6 +64,9 @@ pub fn read_contents_place(
     ensures truncated { result ≡ Err Refusal.Truncated → (tag : Tag) →
         IsIdentifier tag false (take identifier octets.now) →
         ¬ IsPrimitiveWithin tag end taken octets.now }
+    ensures cut { result ≡ Err Refusal.Truncated →
+        IsLengthCut end (taken + identifier) (drop identifier octets.now)
+        ⊎ ((n : ℕ) × AreContentsCut n end (taken + identifier) (drop identifier octets.now)) }
     ensures never { IfErr result (λ refusal. IsFinal refusal → (more : List ℕ) (tag : Tag) →
         IsIdentifier tag false (take identifier octets.now) →
         ¬ IsPrimitiveWithin tag end taken (octets.now ++ more)) }

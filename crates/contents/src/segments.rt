@@ -8,6 +8,7 @@ ghost use Rattle.octets.specs.Rule.{ber};
 ghost use Rattle.types.specs.Form.{IsPrimitive};
 ghost use Rattle.types.specs.Refusal.{IsFinal, IsOfReading};
 ghost use Rattle.contents.specs.Completing.{IsEndOf, Opens};
+ghost use Rattle.contents.specs.Cut.{IsCutInside, IsEndCut, IsStringCut};
 ghost use Rattle.contents.specs.Head.{IsExtentWithin, IsPrimitiveWithin, IsReadTag};
 ghost use Rattle.contents.specs.Joined.{segment_of};
 ghost use Rattle.contents.specs.Segments.{BeginsAboveZero, CanComplete, EndsAt, IsOpened, IsSound, IsTaken, IsTop};
@@ -79,6 +80,7 @@ impl Segments {
             length self.new.frames.items < length self.old.frames.items + used) }
         ensures truncated { result ≡ Err Refusal.Truncated →
             ¬ CanComplete kind self.old octets.now }
+        ensures cut { result ≡ Err Refusal.Truncated → IsStringCut kind self.old octets.now }
         ensures never { IfErr result (λ refusal. IsFinal refusal → (more : List ℕ) →
             ¬ CanComplete kind self.old (octets.now ++ more)) }
         ensures unchanged { result ≡ Err Refusal.Truncated → self.new ≡ self.old }
@@ -104,6 +106,7 @@ impl Segments {
             length self.new.frames.items < length self.old.frames.items + used) }
         ensures truncated { result ≡ Err Refusal.Truncated →
             ¬ CanComplete kind self.old octets.now }
+        ensures cut { result ≡ Err Refusal.Truncated → IsCutInside kind self.old frame octets.now }
         ensures never { IfErr result (λ refusal. IsFinal refusal → (more : List ℕ) →
             ¬ CanComplete kind self.old (octets.now ++ more)) }
         ensures unchanged { result ≡ Err Refusal.Truncated → self.new ≡ self.old }
@@ -141,6 +144,7 @@ impl Segments {
             length self.new.frames.items < length self.old.frames.items + used) }
         ensures truncated { result ≡ Err Refusal.Truncated →
             ¬ CanComplete kind self.old octets.now }
+        ensures cut { result ≡ Err Refusal.Truncated → IsCutInside kind self.old frame octets.now }
         ensures never { IfErr result (λ refusal. IsFinal refusal → (more : List ℕ) →
             ¬ CanComplete kind self.old (octets.now ++ more)) }
         ensures unchanged { result ≡ Err Refusal.Truncated → self.new ≡ self.old }
@@ -177,6 +181,7 @@ impl Segments {
             length self.new.frames.items < length self.old.frames.items + used) }
         ensures truncated { result ≡ Err Refusal.Truncated →
             ¬ CanComplete kind self.old octets.now }
+        ensures cut { result ≡ Err Refusal.Truncated → IsCutInside kind self.old frame octets.now }
         ensures never { IfErr result (λ refusal. IsFinal refusal → (more : List ℕ) →
             ¬ CanComplete kind self.old (octets.now ++ more)) }
         ensures unchanged { result ≡ Err Refusal.Truncated → self.new ≡ self.old }
@@ -216,6 +221,7 @@ impl Segments {
             length self.new.frames.items < length self.old.frames.items + used) }
         ensures truncated { result ≡ Err Refusal.Truncated →
             ¬ CanComplete kind self.old octets.now }
+        ensures cut { result ≡ Err Refusal.Truncated → IsCutInside kind self.old frame octets.now }
         ensures never { IfErr result (λ refusal. IsFinal refusal → (more : List ℕ) →
             ¬ CanComplete kind self.old (octets.now ++ more)) }
         ensures unchanged { result ≡ Err Refusal.Truncated → self.new ≡ self.old }
@@ -239,6 +245,7 @@ pub fn read_end(frame: Frame, taken: usize, octets: &[u8]) -> Result<Option<usiz
         (λ used. (used ≤ length octets.now) × IsEndOf frame taken (take used octets.now))) }
     ensures truncated { result ≡ Err Refusal.Truncated →
         ¬ (EndsAt frame taken octets.now ⊎ BeginsAboveZero octets.now) }
+    ensures cut { result ≡ Err Refusal.Truncated → IsEndCut frame taken octets.now }
     ensures never { IfErr result (λ refusal. IsFinal refusal → (more : List ℕ) →
         ¬ (EndsAt frame taken (octets.now ++ more) ⊎ BeginsAboveZero (octets.now ++ more))) }
     ensures numbers { IfErr result IsOfReading }
@@ -254,7 +261,7 @@ pub fn read_end(frame: Frame, taken: usize, octets: &[u8]) -> Result<Option<usiz
     }
     match others.first() {
         Some(0) if taken <= frame.end => Ok(Some(END_OF_CONTENTS)),
-        Some(_) => Err(Refusal::EndOfContents),
-        None => Err(Refusal::Truncated),
+        None if taken <= frame.end => Err(Refusal::Truncated),
+        _ => Err(Refusal::EndOfContents),
     }
 }

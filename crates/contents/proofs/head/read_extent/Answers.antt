@@ -1,7 +1,9 @@
-use Rattle.std.proofs.Common.{◌≤◌, ◌++◌, length, take, subst, arith}
+use Rattle.std.proofs.Common.{◌≡◌, ◌≤◌, ◌++◌, length, take, subst, arith}
 use Rattle.octets.specs.Front.{HasFront, Begins}
 use Rattle.octets.specs.Length.{IsSomeLength, IsReadLength}
 use Rattle.contents.proofs.HeadLemmas.{sized, none_windowed, none_past_end, none_cut, extent_of_front}
+use Rattle.types.specs.declared.refusal.Refusal.TheVariants.{Truncated}
+use Rattle.contents.proofs.CutLemmas.{length_cut}
 use Rattle.contents.proofs.head.read_extent.Goals as goal
 
 pub returns-then-size-room-clause-never : goal.returns-then-size-room-clause-never
@@ -37,3 +39,8 @@ returns-in-Bad-clause-never c = λ final more h.
     let none : HasFront IsSomeLength (take room octets) → ⊥ = subst (λ w. HasFront IsSomeLength w → ⊥) c.front-window.ensures c.in-Bad.ensures.0 in
     let begins : Begins IsSomeLength (take room octets) → ⊥ = subst (λ w. Begins IsSomeLength w → ⊥) c.front-window.ensures c.in-Bad.ensures.1 in
     none_windowed IsSomeLength room s.front s.rest octets more none begins s.some (omega (arith, s.fits, c.saturating_sub-room.ensures)) s.parts
+
+pub returns-in-More-clause-cut : goal.returns-in-More-clause-cut
+returns-in-More-clause-cut c = λ same.
+    let known : c.cut.result ≡ Truncated = cc same in
+    length_cut c.args.end c.args.taken c.saturating_sub-room.result c.front-window.result.now c.args.octets.now c.front-window.ensures c.saturating_sub-room.ensures (c.cut.ensures.truncated known) c.in-More.ensures.0 c.in-More.ensures.1

@@ -1,7 +1,9 @@
-use Rattle.std.proofs.Common.{◌≤◌, ◌++◌, length, take, subst, arith}
+use Rattle.std.proofs.Common.{◌≡◌, ◌≤◌, ◌++◌, length, take, subst, arith}
 use Rattle.octets.specs.Front.{HasFront, Begins}
 use Rattle.octets.specs.Identifier.{IsSomeIdentifier}
 use Rattle.contents.proofs.HeadLemmas.{some_identifier, none_windowed, none_past_end, none_cut}
+use Rattle.types.specs.declared.refusal.Refusal.TheVariants.{Truncated}
+use Rattle.contents.proofs.CutLemmas.{identifier_cut}
 use Rattle.contents.proofs.head.read_head_tag.Goals as goal
 
 pub returns-in-More-clause-truncated : goal.returns-in-More-clause-truncated
@@ -26,3 +28,8 @@ returns-in-Bad-clause-never c = λ final more tag within h.
     let none : HasFront IsSomeIdentifier (take room octets) → ⊥ = subst (λ w. HasFront IsSomeIdentifier w → ⊥) c.front-window.ensures c.in-Bad.ensures.0 in
     let begins : Begins IsSomeIdentifier (take room octets) → ⊥ = subst (λ w. Begins IsSomeIdentifier w → ⊥) c.front-window.ensures c.in-Bad.ensures.1 in
     none_windowed IsSomeIdentifier room h.identifier h.rest octets more none begins (some_identifier tag c.args.end c.args.taken (octets ++ more) within h) (omega (arith, h.fits, c.saturating_sub-room.ensures)) h.parts
+
+pub returns-in-More-clause-cut : goal.returns-in-More-clause-cut
+returns-in-More-clause-cut c = λ same.
+    let known : c.cut.result ≡ Truncated = cc same in
+    identifier_cut c.args.end c.args.taken c.saturating_sub-room.result c.front-window.result.now c.args.octets.now c.front-window.ensures c.saturating_sub-room.ensures (c.cut.ensures.truncated known) c.in-More.ensures.0 c.in-More.ensures.1

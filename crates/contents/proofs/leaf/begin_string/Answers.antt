@@ -11,6 +11,8 @@ use Rattle.contents.specs.Parts.{IsPartWithin}
 use Rattle.contents.proofs.ReadingLemmas.{begun_opened, extent_of_string}
 use Rattle.contents.proofs.TypedLemmas.{string_front}
 use Rattle.contents.proofs.WithinLemmas.{none_constructed, none_so_shallow}
+use Rattle.contents.specs.Cut.{IsLengthCut}
+use Rattle.contents.proofs.CutLemmas.{constructed_cut}
 use Rattle.contents.proofs.leaf.begin_string.Goals as goal
 
 pub returns-in_default-clause-never : goal.returns-in_default-clause-never
@@ -63,3 +65,14 @@ returns-clause-begun c =
     let there : size ≤ length (drop i octets) = subst (λ x. size ≤ length x) all c.in_ok-size.ensures.value.0 in
     let form : Opens end (taken + i) frame (take size (drop i octets)) = subst (λ x. Opens end (taken + i) frame (take size x)) all c.in_ok-size.ensures.value.1 in
     begun_opened (ty_view c.args.node.now) c.in-Some.kind c.args.levels end taken i size frame octets c.in_ok-segments.segments c.in-Some.ensures (omega (arith, c.if-levels-eq0.false)) c.requires.within c.requires.tagged there form c.in_ok-segments.ensures.opened
+
+pub returns-in_err-size-clause-cut : goal.returns-in_err-size-clause-cut
+returns-in_err-size-clause-cut c = λ refused.
+    let shape = ty_view c.args.node.now in
+    let i = c.args.identifier in
+    let octets = c.args.octets.now in
+    let end = c.args.end in
+    let taken = c.args.taken in
+    let known = Err-known c.from_residual.result _ _ refused c.from_residual.ensures.1 in
+    constructed_cut (tag_of shape) shape c.args.levels end taken i octets (omega (arith, c.if-levels-eq0.false)) (λ leaf. c.in-Some.ensures.string) c.requires.tagged
+    (subst (IsLengthCut end (taken + i)) (take_rest octets i) (c.in_err-size.ensures.cut (ap Err (sym known))))

@@ -38,3 +38,8 @@ returns-clause-value c = λ levels.
     let contents = slice_range octets start stop in
     part_of_contents levels shape (value_view c.in_ok-value.value) contents (take stop octets) (usable_tag shape c.requires.leaf c.requires.good) c.in_ok-value.ensures.value.0 c.in_ok-value.ensures.value.1
     c.in_ok-start.ensures.value
+
+pub returns-in_err-start-clause-cut : goal.returns-in_err-start-clause-cut
+returns-in_err-start-clause-cut c = λ refused levels.
+    let known = Err-known c.from_residual.result _ _ refused c.from_residual.ensures.1 in
+    c.in_err-start.ensures.cut (ap Err (sym known)) levels

@@ -1,4 +1,4 @@
-use Rattle.std.proofs.Common.{◌≡◌, ℕ, ◌-◌, ◌≤◌, List, [], ◌++◌, refl, false, true, length, take, drop, Err, sym, ◌∙◌, ap, subst, append-nil, slice_range}
+use Rattle.std.proofs.Common.{arith, ◌≡◌, ℕ, ◌-◌, ◌≤◌, List, [], ◌++◌, refl, false, true, length, take, drop, Err, sym, ◌∙◌, ap, subst, append-nil, slice_range}
 use Rattle.std.proofs.lemmas.List.{take_rest}
 use Rattle.octets.specs.Front.{HasFront}
 use Rattle.octets.proofs.FrontLemmas.{front_of_more}
@@ -9,6 +9,7 @@ use Rattle.contents.specs.Head.{IsPrimitiveWithin}
 use Rattle.contents.specs.Parts.{IsPartWithin}
 use Rattle.octets.proofs.ResultLemmas.{IfErr-from}
 use Rattle.contents.proofs.WithinLemmas.{length_of_within, primitive_of_within, can_of_within}
+use Rattle.contents.proofs.CutLemmas.{primitive_cut, sized_window}
 use Rattle.contents.proofs.leaf.read_place.Goals as goal
 
 -- as many as fit of the octets behind the identifier octets
@@ -53,6 +54,24 @@ returns-in_ok-check_length-in-Err-clause-truncated c = λ refused levels f.
 
 pub returns-in_ok-check_length-in-Err-clause-never : goal.returns-in_ok-check_length-in-Err-clause-never
 returns-in_ok-check_length-in-Err-clause-never c = λ final more levels f.
+    let shape = ty_view c.args.node.now in
+    c.in-Err.ensures.never final more (tag_of shape) c.requires.tagged.tagged
+    (primitive_of_within levels shape c.args.end c.args.taken c.requires.leaf c.args.identifier c.args.octets.now more c.requires.tagged.there c.requires.tagged.tagged f).within
+
+pub returns-in_ok-check_length-in-Err-clause-cut : goal.returns-in_ok-check_length-in-Err-clause-cut
+returns-in_ok-check_length-in-Err-clause-cut c = λ refused levels.
+    let shape = ty_view c.args.node.now in
+    let octets = c.args.octets.now in
+    let i = c.args.identifier in
+    let end = c.args.end in
+    let taken = c.args.taken in
+    let room = end - taken - i in
+    primitive_cut (tag_of shape) shape levels end taken i octets c.requires.within c.requires.leaf c.requires.tagged
+    (λ size rest n some within sized fits joined. c.in_ok-check_length-in-Err.ensures.can refl size (take (room - length size) rest) n within sized (c.front.ensures ∙ sized_window room i octets size rest (omega (arith, fits)) joined))
+    (c.in-Err.ensures.cut refused)
+
+pub returns-then-eq-clause-never : goal.returns-then-eq-clause-never
+returns-then-eq-clause-never c = λ final more levels f.
     let shape = ty_view c.args.node.now in
     c.in-Err.ensures.never final more (tag_of shape) c.requires.tagged.tagged
     (primitive_of_within levels shape c.args.end c.args.taken c.requires.leaf c.args.identifier c.args.octets.now more c.requires.tagged.there c.requires.tagged.tagged f).within

@@ -1,4 +1,4 @@
-use Rattle.std.proofs.Common.{◌≡◌, ℕ, List, ◌+◌, ◌-◌, [], ◌++◌, length, take, drop, false, Err, sym, ap, subst, arith, append-nil}
+use Rattle.std.proofs.Common.{inl, inr, ◌≡◌, ℕ, List, ◌+◌, ◌-◌, [], ◌++◌, length, take, drop, false, Err, sym, ap, subst, arith, append-nil}
 use Rattle.std.proofs.lemmas.List.{take_rest, length-drop}
 use Rattle.octets.specs.declared.tag.Tag.{Tag}
 use Rattle.octets.specs.Identifier.{IsIdentifier}
@@ -6,6 +6,8 @@ use Rattle.types.specs.Refusal.{IsFinal}
 use Rattle.contents.specs.Head.{IsReadDefinite, IsExtentWithin, IsPrimitiveWithin}
 use Rattle.contents.proofs.HeadLemmas.{behind, behind_long, IsPrimitive-from_parts}
 use Rattle.octets.proofs.ResultLemmas.{IfErr-from, Err-known}
+use Rattle.contents.specs.Cut.{IsLengthCut}
+use Rattle.contents.proofs.CutLemmas.{contents_cut}
 use Rattle.contents.proofs.parts.read_contents_place.Goals as goal
 
 pub returns-then-size-octets-clause-truncated : goal.returns-then-size-octets-clause-truncated
@@ -51,3 +53,21 @@ returns-in_err-size-clause-never c =
     (λ refusal same final more tag id h.
     let none : IsExtentWithin false end (taken + i) (drop i octets ++ more) → ⊥ = subst (λ x. IsExtentWithin false end (taken + i) (x ++ more) → ⊥) all (c.in_err-size.ensures.never (subst IsFinal same final) more) in
     none (behind tag end taken i octets more c.requires.there id h).extent)
+
+pub returns-then-size-octets-clause-cut : goal.returns-then-size-octets-clause-cut
+returns-then-size-octets-clause-cut c = λ same.
+    let i = c.args.identifier in
+    let octets = c.args.octets.now in
+    let n = c.in-Definite.size in
+    let used = c.in-Definite.used in
+    let all : take (length octets - i) (drop i octets) ≡ drop i octets = take_rest octets i in
+    let first = rw c.in-Definite.is at c.in_ok-size.ensures.value in
+    let read : IsReadDefinite c.args.end (c.args.taken + i) (drop i octets) n used = subst (λ x. IsReadDefinite c.args.end (c.args.taken + i) x n used) all first in
+    inr (n, contents_cut c.args.end (c.args.taken + i) n used (drop i octets) read (omega (arith, length-drop i octets, c.if-size-octets.true, c.requires.there, read.there)))
+
+pub returns-in_err-size-clause-cut : goal.returns-in_err-size-clause-cut
+returns-in_err-size-clause-cut c = λ refused.
+    let i = c.args.identifier in
+    let octets = c.args.octets.now in
+    let known = Err-known c.from_residual.result _ _ refused c.from_residual.ensures.1 in
+    inl (subst (IsLengthCut c.args.end (c.args.taken + i)) (take_rest octets i) (c.in_err-size.ensures.cut (ap Err (sym known))))

@@ -10,6 +10,8 @@ use Rattle.octets.proofs.ResultLemmas.{IfErr-from, Err-known}
 use Rattle.contents.proofs.JoinedLemmas.{whole_held}
 use Rattle.contents.proofs.SegmentsLemmas.{IsSegmentOpened, constructed_next, smaller_opening, sound_opening, taken_opening}
 use Rattle.contents.proofs.ReadingLemmas.{opening_read}
+use Rattle.contents.specs.Cut.{IsLengthCut}
+use Rattle.contents.proofs.CutLemmas.{segment_constructed}
 use Rattle.contents.proofs.segments.Segments.constructed.Goals as goal
 
 pub returns-then-len-self-clause-never : goal.returns-then-len-self-clause-never
@@ -75,3 +77,12 @@ returns-in-Ok-clause-sound c = sound_opening c.args.kind c.args.self.now (opened
 
 pub returns-in-Ok-clause-smaller : goal.returns-in-Ok-clause-smaller
 returns-in-Ok-clause-smaller c = smaller_opening c.args.kind c.args.self.now (opened_by c) c.args.frame c.in_ok-used.opened c.requires.top.0 c.args.octets.now (c.args.identifier + c.in_ok-used.used) (opened c)
+
+pub returns-in_err-used-clause-cut : goal.returns-in_err-used-clause-cut
+returns-in_err-used-clause-cut c = λ refused.
+    let i = c.args.identifier in
+    let octets = c.args.octets.now in
+    let s = c.args.self.now in
+    let known = Err-known c.from_residual.result _ _ refused c.from_residual.ensures.1 in
+    segment_constructed c.args.kind s c.args.frame i octets c.requires.whole (omega (arith, c.len.ensures, c.if-len-self.false)) c.requires.tagged
+    (subst (IsLengthCut c.args.frame.end (s.taken + i)) (take_rest octets i) (c.in_err-used.ensures.cut (ap Err (sym known))))

@@ -8,6 +8,7 @@ use Rattle.contents.specs.Joined.{segment_of}
 use Rattle.octets.proofs.ResultLemmas.{IfErr-from, Err-known}
 use Rattle.contents.proofs.JoinedLemmas.{whole_held}
 use Rattle.contents.proofs.SegmentsLemmas.{primitive_next, piece_next, taken_primitive}
+use Rattle.contents.proofs.CutLemmas.{segment_primitive}
 use Rattle.contents.proofs.segments.Segments.primitive.Goals as goal
 
 pub returns-in_err-start-clause-truncated : goal.returns-in_err-start-clause-truncated
@@ -49,3 +50,8 @@ returns-clause-taken c =
     taken_primitive c.args.kind old new c.args.frame c.requires.top.0 octets (slice_range octets start end) end refl c.requires.top.1 c.requires.top.1 refl
     c.in_ok-start.ensures.bounds.1 c.in_ok-start.ensures.bounds.2 (whole_held c.args.kind old.joined.octets.items old.joined.unused c.requires.whole)
     (c.in_ok-start.ensures.value (segment_of c.args.kind) c.requires.tagged.tagged) c.in_ok-join.ensures.joined c.in_ok-join.ensures.light
+
+pub returns-in_err-start-clause-cut : goal.returns-in_err-start-clause-cut
+returns-in_err-start-clause-cut c = λ refused.
+    let known = Err-known c.from_residual.result _ _ refused c.from_residual.ensures.1 in
+    segment_primitive c.args.kind c.args.self.now c.args.frame c.args.identifier c.args.octets.now c.requires.top c.requires.sound c.requires.whole c.requires.tagged (c.in_err-start.ensures.cut (ap Err (sym known)))

@@ -1,4 +1,4 @@
-use Rattle.std.proofs.Common.{ℕ, List, ◌++◌, Err, sym, ap, subst}
+use Rattle.std.proofs.Common.{inl, ℕ, List, ◌++◌, Err, sym, ap, subst}
 use Rattle.types.specs.Refusal.{IsFinal}
 use Rattle.contents.specs.Head.{IsTagWithin}
 use Rattle.contents.specs.Segments.{CanComplete}
@@ -25,3 +25,8 @@ returns-in_err-constructed-clause-never c =
 pub returns-then-self-ne0-clause-never : goal.returns-then-self-ne0-clause-never
 returns-then-self-ne0-clause-never c = λ final more h.
     c.if-self-ne0.true (whole_of_next c.args.kind c.args.self.now c.args.frame (c.args.octets.now ++ more) c.requires.top c.requires.sound.held (c.requires.no_end more) h)
+
+pub returns-in_err-constructed-clause-cut : goal.returns-in_err-constructed-clause-cut
+returns-in_err-constructed-clause-cut c = λ refused.
+    let known = Err-known c.from_residual.result _ _ refused c.from_residual.ensures.1 in
+    inl (c.in_err-constructed.ensures.cut (ap Err (sym known)))

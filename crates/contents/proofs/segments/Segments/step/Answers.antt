@@ -1,4 +1,4 @@
-use Rattle.std.proofs.Common.{◌≡◌, ◌+◌, ◌++◌, Err, refl, ap}
+use Rattle.std.proofs.Common.{inr, ◌≡◌, ◌+◌, ◌++◌, Err, refl, ap}
 use Rattle.types.specs.declared.refusal.Refusal.TheVariants.{Truncated}
 use Rattle.contents.specs.declared.segments.Segments.{Segments}
 use Rattle.contents.proofs.EndLemmas.{segment_above}
@@ -29,3 +29,8 @@ returns-in-Err-clause-truncated c = λ same h.
 pub returns-in-Err-clause-never : goal.returns-in-Err-clause-never
 returns-in-Err-clause-never c = λ final more h.
     c.in-Err.ensures.never final more (segment_above c.args.kind c.args.frame c.args.self.now.taken (c.args.octets.now ++ more) (first_of c.args.kind c.args.self.now c.args.frame (c.args.octets.now ++ more) c.requires.top h))
+
+pub returns-in-Err-clause-cut : goal.returns-in-Err-clause-cut
+returns-in-Err-clause-cut c = λ same.
+    let known : c.in-Err.refusal ≡ Truncated = cc same in
+    inr (inr (c.in-Err.ensures.cut (ap Err known)))
