@@ -1,6 +1,6 @@
 PREFIX ?= $(HOME)/.local
 
-.PHONY: demo test install clean rt
+.PHONY: demo test growths install clean rt
 
 # Converts 01 01 2a, a BOOLEAN under BER, to DER, then checks, shows and converts the records of a module, by a
 # program that is compiled once, without a proof. examples/demo/ has the words of each run.
@@ -21,6 +21,16 @@ demo: rt
 # Passes the gate: every proof, must-fail edit, test and stored run.
 test: rt
 	rt ci
+
+# Has each growth of each call of the library refused in turn, and first those of the program where it is built. It
+# proves nothing, and takes some minutes, mostly to compile.
+growths: rt
+	@if [ -x crates/asn1x/out/asn1x ]; then \
+	    bench/refused_growths.sh; \
+	else \
+	    echo 'the program is left out, since it is not built: "make install" builds it'; \
+	fi
+	@bench/growths.sh
 
 # Proves the program and each library that it stands on, and puts it on the path.
 install: rt
