@@ -78,6 +78,14 @@ fn levels_of_definite_lengths(rt: HostRuntime) -> Result<(), Fail> {
 }
 
 #[test]
+fn levels_of_implicit_tags(rt: HostRuntime) -> Result<(), Fail> {
+    // 64 types around one another, of which the value has one encoding alone
+    let tags = "[0] IMPLICIT ".repeat(rt.alloc(), 64)?;
+    let ty = type_of(rt.alloc(), format!(in rt.alloc(); "{tags}NULL")?.as_str())?;
+    check_line(rt.alloc(), &ty, "80 00 | 80 00 | 80 00 | NULL")
+}
+
+#[test]
 fn lengths(rt: HostRuntime) -> Result<(), Fail> {
     check_table(rt.alloc(), LENGTHS)
 }

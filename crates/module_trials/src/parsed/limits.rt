@@ -69,6 +69,18 @@ fn lists_have_at_most_256_parts(rt: HostRuntime) -> Result<(), Fail> {
 }
 
 #[test]
+fn spaces_behind_the_empty_module(rt: HostRuntime) -> Result<(), Fail> {
+    // (how many follow its 27 octets, number, line, column)
+    let cases = [(262_117, (0, 0, 0)), (262_118, (31, 1, 1))];
+    for (count, wanted) in cases {
+        let spaces = repeated(rt.alloc(), " ", count, "")?;
+        let text = repeated(rt.alloc(), "M DEFINITIONS ::= BEGIN END", 1, &spaces)?;
+        assert_eq!(rt; refused(rt.alloc(), &text), wanted, "at {count}");
+    }
+    Ok(())
+}
+
+#[test]
 fn hostile_texts(rt: HostRuntime) -> Result<(), Fail> {
     let module = "M DEFINITIONS ::= BEGIN END";
     let mut text = repeated(rt.alloc(), " ", 262_144 - 27, "")?;

@@ -1,12 +1,21 @@
 //! Modules that are made to be hard.
 
-use super::{resolved, told};
+use super::told;
+use notation::{Module, parse, resolve};
 use std::alloc::{AllocError, Global};
 use std::test::Fail;
 
-/// 0 where the module of this text means a well-formed type by the name, else the number of the fault.
-fn number(alloc: Global, text: &str, name: &str) -> u32 {
-    match resolved(alloc, text, name) {
+/// The number of the fault of `parse`, and of `resolve`, which takes what `parse` made: 0 where there is none.
+fn numbers(alloc: Global, text: &str, name: &str) -> (u32, u32) {
+    match parse(alloc, text) {
+        Ok(module) => (0, number(alloc, &module, name)),
+        Err(fault) => (fault.number, 0),
+    }
+}
+
+/// 0 where the module means a well-formed type by the name, else the number of the fault.
+fn number(alloc: Global, module: &Module, name: &str) -> u32 {
+    match resolve(alloc, module, name) {
         Ok(_) => 0,
         Err(fault) => fault.number,
     }
@@ -18,7 +27,8 @@ fn cycles(rt: HostRuntime) -> Result<(), Fail> {
     // (name, number of the fault)
     let cases = [("A", 25), ("B", 25), ("C", 25), ("T", 25), ("U", 0)];
     for (name, wanted) in cases {
-        assert_eq!(rt; number(rt.alloc(), text, name), wanted, "at {name}");
+        let found = numbers(rt.alloc(), text, name);
+        assert_eq!(rt; found, (0, wanted), "at {name}");
     }
     Ok(())
 }
@@ -40,34 +50,28 @@ fn nodes(rt: HostRuntime) -> Result<(), Fail> {
     // (name, number of the fault)
     let cases = [("T11", 0), ("T12", 31), ("T40", 31), ("X", 0), ("Y", 31)];
     for (name, wanted) in cases {
-        assert_eq!(rt;
-            number(rt.alloc(), text.as_str(), name),
-            wanted,
-            "at {name}"
-        );
+        let found = numbers(rt.alloc(), text.as_str(), name);
+        assert_eq!(rt; found, (0, wanted), "at {name}");
     }
     Ok(())
 }
 
 #[test]
 fn levels(rt: HostRuntime) -> Result<(), Fail> {
-    // (tag, how often it stands, type, number of the fault)
+    // (tag, how often it stands, type, number of the fault of `parse`, and of `resolve`)
     let cases = [
-        ("[0]", 60, "OCTET STRING", 0),
-        ("[0]", 61, "OCTET STRING", 31),
-        ("[0]", 64, "OCTET STRING", 31),
-        ("[0]", 65, "OCTET STRING", 31),
-        ("[0] IMPLICIT ", 64, "NULL", 0),
-        ("[0] IMPLICIT ", 65, "NULL", 31),
+        ("[0]", 60, "OCTET STRING", (0, 0)),
+        ("[0]", 61, "OCTET STRING", (0, 31)),
+        ("[0]", 64, "OCTET STRING", (0, 31)),
+        ("[0]", 65, "OCTET STRING", (31, 0)),
+        ("[0] IMPLICIT ", 64, "NULL", (0, 0)),
+        ("[0] IMPLICIT ", 65, "NULL", (31, 0)),
     ];
     for (tag, count, body, wanted) in cases {
         let tags = tag.repeat(rt.alloc(), count)?;
         let text = format!(in rt.alloc(); "M DEFINITIONS ::= BEGIN T ::= {tags} {body} END")?;
-        assert_eq!(rt;
-            number(rt.alloc(), text.as_str(), "T"),
-            wanted,
-            "at {count} {tag}"
-        );
+        let found = numbers(rt.alloc(), text.as_str(), "T");
+        assert_eq!(rt; found, wanted, "at {count} {tag}");
     }
     Ok(())
 }
@@ -112,7 +116,8 @@ fn nested_choices(rt: HostRuntime) -> Result<(), Fail> {
     // (name, number of the fault)
     let cases = [("A500", 0), ("A4096", 31)];
     for (name, wanted) in cases {
-        assert_eq!(rt; number(alloc, text.as_str(), name), wanted, "at {name}");
+        let found = numbers(alloc, text.as_str(), name);
+        assert_eq!(rt; found, (0, wanted), "at {name}");
     }
     Ok(())
 }
