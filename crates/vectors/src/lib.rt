@@ -39,6 +39,8 @@ mod sequences;
 #[cfg(test)]
 mod sets;
 #[cfg(test)]
+mod shown_use;
+#[cfg(test)]
 mod spellings;
 #[cfg(test)]
 mod streamed;

@@ -113,8 +113,8 @@ M DEFINITIONS ::= BEGIN END:
 convert,m,T,in,--to,der | 00 || asn1x: module refused 24 UnknownType at 1:1; | 2
 ";
 
-// Checks the runs of a table.
-fn check_runs(alloc: Global, table: &str) -> Result<(), Fail> {
+/// Checks the runs of a table.
+pub fn check_runs(alloc: Global, table: &str) -> Result<(), Fail> {
     let mut text = String::new(alloc);
     for line in table.lines() {
         if let Some(module) = line.strip_suffix(':') {
@@ -125,8 +125,8 @@ fn check_runs(alloc: Global, table: &str) -> Result<(), Fail> {
     Ok(())
 }
 
-// Checks a run, where a line has one.
-fn check_run(alloc: Global, module: &str, row: &str) -> Result<(), Fail> {
+/// Checks a run, where a line has one.
+pub fn check_run(alloc: Global, module: &str, row: &str) -> Result<(), Fail> {
     let Some((words, columns)) = row.split_once('|') else {
         return Ok(());
     };
