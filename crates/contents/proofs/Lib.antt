@@ -5,6 +5,7 @@ pub mod DepthLemmas
 pub mod CompletingLemmas
 pub mod StepLemmas
 pub mod JoinedLemmas
+pub mod PassedLemmas
 pub mod SegmentsLemmas
 pub mod WithinLemmas
 pub mod TypedLemmas

@@ -17,11 +17,13 @@ use Rattle.contents.specs.declared.joined.Kind.TheVariants.{Bits, Octets}
 use Rattle.contents.specs.declared.segments.Segments.{Segments}
 use Rattle.contents.specs.Completing.{Completes, Opens, IsOpening}
 use Rattle.contents.specs.Head.{IsExtentWithin, IsReadTag}
-use Rattle.contents.specs.Joined.{string_of, string_held, AreHeld, IsHeld, IsStringOf, string_shape, string_value}
-use Rattle.contents.specs.Segments.{stack, CompletesBy, Completion, CanComplete, IsOpened, IsTaken, IsWithin, IsPassed, IsBegun}
+use Rattle.contents.specs.Joined.{Element, string_of, string_held, AreHeld, IsHeld, IsStringOf, string_shape, string_value}
+use Rattle.contents.specs.Passed.{StandsIn}
+use Rattle.contents.specs.Segments.{stack, CompletesBy, Completion, CanComplete, StandsBehind, IsOpened, IsTaken, IsWithin, IsPassed, IsBegun}
 use Rattle.contents.specs.Parts.{IsPartOf, IsPartWithin}
 use Rattle.octets.proofs.FrontLemmas.{front_of_more, whole_front}
 use Rattle.contents.proofs.StepLemmas.{opening_unique, extent_of_opening, opening_fits, opening_some, opens_below, opens_room}
+use Rattle.contents.proofs.PassedLemmas.{opens_within, stands_back, stands_first}
 use Rattle.contents.proofs.SegmentsLemmas.{to_stack, from_stack}
 use Rattle.contents.proofs.WithinLemmas.{completed, front_of_string, part_of_string}
 
@@ -91,15 +93,18 @@ passed_opened kind levels end taken i size frame s passed deep count opens o =
       frame = frame;
       there = omega (arith, count);
       nested = deep;
+      deepest = o.deepest;
       opens = opens;
       place = o.place ∙ ap (λ n. taken + n) (sym count);
       light = omega (arith, ap length o.octets);
       forth = λ more total rest h.
           to_stack kind s levels (frame ∷ []) (taken + start) [] more total rest o.deepest o.frames o.place empty
           (subst (λ x. CompletesBy kind levels (frame ∷ []) (taken + start) [] x total rest) (none more) h);
-      back = λ more total rest h.
-          subst (λ x. CompletesBy kind levels (frame ∷ []) (taken + start) [] x total rest) (sym (none more))
-          (from_stack kind s levels (frame ∷ []) (taken + start) [] more total rest o.deepest o.frames o.place empty h);
+      stands =
+          subst (λ x. StandsIn kind levels frame (taken + start) x (string_of kind s.joined) (drop start passed)) (sym o.frames)
+          (subst (λ x. StandsIn kind levels frame (taken + start) (frame ∷ []) x (drop start passed)) (sym empty)
+          (subst (λ x. StandsIn kind levels frame (taken + start) (frame ∷ []) [] x) (sym (none_behind start passed count))
+          (stands_first kind levels frame (taken + start) (omega (arith, opens_within end (taken + i) frame (take size (drop i passed)) opens, count, length-take-le size (drop i passed) (omega (arith, count, length-drop i passed)))))));
     }
 
 pub begun_opened : (shape : Shape) (kind : Kind) (levels end taken i size : ℕ) (frame : Frame) (octets : List ℕ) (s : Segments) → IsStringOf kind shape → 1 ≤ levels → end ≤ MAX_ENCODING → IsReadTag (tag_of shape) end taken octets true i
@@ -146,14 +151,25 @@ passed_more kind levels end taken i old new passed octets used b k =
       frame = b.frame;
       there = omega (arith, b.there, count);
       nested = b.nested;
+      deepest = k.deepest ∙ b.deepest;
       opens = subst (Opens end (taken + i) b.frame) (sym (take_behind i b.size passed part b.there)) b.opens;
       place = omega (arith, k.place, b.place, count);
       light = omega (arith, k.light, b.light, count);
       forth = λ more total rest h.
           (k.alike more).forth total rest (b.forth (part ++ more) total rest (subst (λ x. CompletesBy kind levels (b.frame ∷ []) (taken + start) [] x total rest) (behind more) h));
-      back = λ more total rest h.
-          subst (λ x. CompletesBy kind levels (b.frame ∷ []) (taken + start) [] x total rest) (sym (behind more)) (b.back (part ++ more) total rest ((k.alike more).back total rest h));
+      stands =
+          subst (λ x. StandsBehind kind levels b.frame (taken + start) new x) (sym (drop-append-le start passed part b.there))
+          (k.stands levels b.frame (taken + start) (drop start passed) b.deepest (omega (arith, b.place, b.there, length-drop start passed)) b.stands);
     }
+
+-- what completes what is open completes the string behind its length octets
+passed_back : (kind : Kind) (levels end taken i : ℕ) (s : Segments) (passed : List ℕ) (b : IsPassed kind levels end taken i s passed) (more : List ℕ) (total : List (Element kind)) (rest : List ℕ) → Completion kind s more total rest
+    → CompletesBy kind levels (b.frame ∷ []) (taken + (i + b.size)) [] (drop (i + b.size) passed ++ more) total rest
+passed_back kind levels end taken i s passed b more total rest h =
+    let start = i + b.size in
+    let place : s.taken ≡ taken + start + length (drop start passed) = omega (arith, b.place, b.there, length-drop start passed) in
+    stands_back kind levels b.frame (taken + start) (stack s.frames.items) (string_of kind s.joined) total (drop start passed) more rest b.nested b.stands
+    (from_stack kind s levels (stack s.frames.items) (taken + start + length (drop start passed)) (string_of kind s.joined) more total rest b.deepest refl place refl h)
 
 -- what completes the encoding completes the string
 pub passed_completes : (levels : ℕ) (kind : Kind) (tag : Tag) (end taken i : ℕ) (s : Segments) (passed more : List ℕ) → i ≤ length passed → IsIdentifier tag true (take i passed) → IsPassed kind levels end taken i s passed
@@ -183,7 +199,7 @@ passed_read levels kind tag end taken i s passed kept there id b done held =
     let finished : Completion kind s [] total [] = to_stack kind s s.levels [] s.taken total [] total [] refl done refl refl (Completes.complete refl refl) in
     let size : length (take start passed) ≡ start = length-take-le start passed b.there in
     let h : CompletesBy kind levels (b.frame ∷ []) (taken + length (take start passed)) [] others total [] =
-    subst (λ n. CompletesBy kind levels (b.frame ∷ []) (taken + n) [] others total []) (sym size) (b.back [] total [] finished) in
+    subst (λ n. CompletesBy kind levels (b.frame ∷ []) (taken + n) [] others total []) (sym size) (passed_back kind levels end taken i s passed b [] total [] finished) in
     let f = front_of_string levels kind tag end taken b.frame (take start passed) (passed ++ []) others total [] b.nested kept opening (front_of_more start passed []) h in
     let same : f.front ≡ passed = sym (append-nil f.front) ∙ (sym f.parts ∙ append-nil passed) in
     record {

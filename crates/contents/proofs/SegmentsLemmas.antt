@@ -14,9 +14,11 @@ use Rattle.contents.specs.declared.segments.Segments.{Segments}
 use Rattle.contents.specs.Completing.{Completes, IsEndOf, IsOpening}
 use Rattle.contents.specs.Head.{IsReadTag, IsTagWithin, IsExtentWithin, IsPrimitiveWithin}
 use Rattle.contents.specs.Joined.{Element, segment_of, HoldsPiece, IsWholePiece, string_of, IsHeld, IsJoined}
-use Rattle.contents.specs.Segments.{stack, CompletesBy, Completion, CanComplete, IsTaken, IsTop, IsSound, IsWithin, EndsAt}
+use Rattle.contents.specs.Passed.{StandsIn}
+use Rattle.contents.specs.Segments.{stack, CompletesBy, Completion, CanComplete, StandsBehind, IsTaken, IsTop, IsSound, IsWithin, EndsAt}
 use Rattle.octets.proofs.FrontLemmas.{front_of_more}
 use Rattle.contents.proofs.JoinedLemmas.{kept_segment, one_piece, unused_whole}
+use Rattle.contents.proofs.PassedLemmas.{stands_end, stands_opening, stands_primitive}
 use Rattle.contents.proofs.StepLemmas.{after_end, after_primitive, after_opening, begun, begun_constructed, begun_primitive, end_alone, ends_or_begins, opening_above, opening_fits, opening_some, opens_below, opens_room}
 
 by_stack : (kind : Kind) (s : Segments) (frames : List Frame) (octets : List ℕ) (total : List (Element kind)) (rest : List ℕ) → stack s.frames.items ≡ frames → Completion kind s octets total rest → CompletesBy kind s.levels frames s.taken (string_of kind s.joined) octets total rest
@@ -37,6 +39,15 @@ from_stack kind s levels frames taken string octets total rest deep same place i
     (subst (λ x. CompletesBy kind levels frames x (string_of kind s.joined) octets total rest) place
     (subst (λ x. CompletesBy kind levels x s.taken (string_of kind s.joined) octets total rest) same
     (subst (λ x. CompletesBy kind x (stack s.frames.items) s.taken (string_of kind s.joined) octets total rest) deep h)))
+
+-- where it stands, by what is open
+stands_by : (kind : Kind) (s : Segments) (levels : ℕ) (first : Frame) (place : ℕ) (frames : List Frame) (string : List (Element kind)) (passed : List ℕ) → stack s.frames.items ≡ frames → string_of kind s.joined ≡ string
+    → StandsIn kind levels first place frames string passed → StandsBehind kind levels first place s passed
+stands_by kind s levels first place frames string passed same is h =
+    subst (λ x. StandsIn kind levels first place x (string_of kind s.joined) passed) (sym same) (subst (λ x. StandsIn kind levels first place frames x passed) (sym is) h)
+
+stands_with : (kind : Kind) (s : Segments) (levels : ℕ) (first : Frame) (place : ℕ) (frames : List Frame) (passed : List ℕ) → stack s.frames.items ≡ frames → StandsBehind kind levels first place s passed → StandsIn kind levels first place frames (string_of kind s.joined) passed
+stands_with kind s levels first place frames passed same h = subst (λ x. StandsIn kind levels first place x (string_of kind s.joined) passed) same h
 
 -- how many octets stand at the front
 front_size : (used : ℕ) (octets : List ℕ) (taken : ℕ) → used ≤ length octets → taken + used ≡ taken + length (take used octets)
@@ -63,6 +74,9 @@ taken_end kind old new f fs octets used deepest top top' place string there e =
             (Completes.ends part more (old.taken + length part) e refl refl
             (from_stack kind new old.levels fs (old.taken + length part) (string_of kind old.joined) more total rest deepest top' place' string' h));
       };
+      stands = λ levels first place passed deep at h.
+          stands_by kind new levels first place fs (string_of kind old.joined) (passed ++ part) top' string'
+          (stands_end kind levels first place f fs (string_of kind old.joined) passed part (stands_with kind old levels first place (f ∷ fs) passed top h) (subst (λ n. IsEndOf f n part) at e));
     }
 
 -- it stays sound
@@ -151,6 +165,9 @@ taken_primitive kind old new f fs octets contents used deepest top top' place th
             refl refl refl
             (from_stack kind new old.levels (f ∷ fs) (old.taken + length part) (string_of kind old.joined ++ j.piece) more total rest deepest top' place' j.joined h));
       };
+      stands = λ levels first place passed deep at h.
+          stands_by kind new levels first place (f ∷ fs) (string_of kind old.joined ++ j.piece) (passed ++ part) top' j.joined
+          (stands_primitive kind levels first place f fs (string_of kind old.joined) j.piece passed contents part (stands_with kind old levels first place (f ∷ fs) passed top h) whole j.holds p (omega (arith, at, fits')));
     }
 
 pub taken_opening : (kind : Kind) (old new : Segments) (f g : Frame) (fs : List Frame) (octets : List ℕ) (used : ℕ) → IsSegmentOpened kind old new f g fs octets used → IsTaken kind old new octets used
@@ -176,6 +193,10 @@ taken_opening kind old new f g fs octets used k =
             refl refl
             (from_stack kind new old.levels (g ∷ f ∷ fs) (old.taken + length part) (string_of kind old.joined) more total rest k.deepest k.after place' string' h));
       };
+      stands = λ levels first place passed deep at h.
+          stands_by kind new levels first place (g ∷ f ∷ fs) (string_of kind old.joined) (passed ++ part) k.after string'
+          (stands_opening kind levels first place f g fs (string_of kind old.joined) passed part (stands_with kind old levels first place (f ∷ fs) passed k.before h) k.whole
+          (subst (λ n. length (f ∷ fs) < n) deep k.deep) (subst (λ n. IsOpening (segment_of kind) f.end n g part) at k.opening));
     }
 
 -- what completes the string ends the innermost open encoding, or begins a segment

@@ -308,7 +308,7 @@ completed levels kind tag end taken i octets id f =
     }
 
 -- and the other way round
-end_within : (end taken after : ℕ) (f : Frame) (size mark : List ℕ) → Opens end taken f size → IsEndOf f after mark → after + length mark ≤ end
+pub end_within : (end taken after : ℕ) (f : Frame) (size mark : List ℕ) → Opens end taken f size → IsEndOf f after mark → after + length mark ≤ end
 end_within end taken after f size mark (inl o) (inl e) = omega (arith, o.fits, e.there, ap length e.none)
 end_within end taken after f size mark (inr o) (inr e) = omega (arith, o.ends, e.fits, ap length e.zeros)
 end_within end taken after f size mark (inl o) (inr e) = let no : true ≡ false = sym o.definite ∙ e.indefinite in cc

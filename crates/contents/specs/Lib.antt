@@ -3,6 +3,7 @@ pub mod Lengths
 pub mod Head
 pub mod Joined
 pub mod Completing
+pub mod Passed
 pub mod Segments
 pub mod Parts
 pub mod Holding

@@ -7,6 +7,7 @@ use Rattle.contents.specs.declared.joined.Kind.{Kind}
 use Rattle.contents.specs.declared.segments.Segments.{Segments}
 use Rattle.contents.specs.Completing.{Completes, IsEndOf, Opens}
 use Rattle.contents.specs.Joined.{Element, segment_of, HoldsPiece, IsWholePiece, string_of, IsHeld, IsStringOf}
+use Rattle.contents.specs.Passed.{StandsIn}
 
 -- the open encodings, the innermost first
 abbrev pub stack : List Frame → List Frame
@@ -30,13 +31,19 @@ pub record IsAlike (kind : Kind) (old new : Segments) (first second : List ℕ) 
   pub forth : (total : List (Element kind)) (rest : List ℕ) → Completion kind old first total rest → Completion kind new second total rest
   pub back : (total : List (Element kind)) (rest : List ℕ) → Completion kind new second total rest → Completion kind old first total rest
 
--- so many of the octets were taken
+-- the string stands behind these octets, of which the first stands at this place in the outermost encoding
+abbrev pub StandsBehind : (kind : Kind) → ℕ → Frame → ℕ → Segments → List ℕ → Type 0
+StandsBehind kind levels first place segments octets =
+    StandsIn kind levels first place (stack segments.frames.items) (string_of kind segments.joined) octets
+
+-- so many of the octets were taken, and the string stands behind them
 pub record IsTaken (kind : Kind) (old new : Segments) (octets : List ℕ) (used : ℕ) : Type 0 where
   pub there : used ≤ length octets
   pub place : new.taken ≡ old.taken + used
   pub deepest : new.levels ≡ old.levels
   pub light : length new.joined.octets.items ≤ length old.joined.octets.items + used
   pub alike : (more : List ℕ) → IsAlike kind old new (take used octets ++ more) more
+  pub stands : (levels : ℕ) (first : Frame) (place : ℕ) (passed : List ℕ) → old.levels ≡ levels → old.taken ≡ place + length passed → StandsBehind kind levels first place old passed → StandsBehind kind levels first place new (passed ++ take used octets)
 
 -- an encoding does not end past the limit
 pub record IsWithin (frame : Frame) : Type 0 where
@@ -74,17 +81,19 @@ pub record IsOpened (levels : ℕ) (frame : Frame) (taken : ℕ) (segments : Seg
   pub unused : segments.joined.unused ≡ 0
 
 -- these octets are the front of a constructed string, up to the segments that have been joined: the outermost
--- encoding opens behind its identifier octets, and what completes the string behind its length octets begins with them
+-- encoding opens behind its identifier octets, and the string stands behind what follows its length octets; what
+-- completes it from there completes what is open
 pub record IsPassed (kind : Kind) (levels end taken identifier : ℕ) (segments : Segments) (passed : List ℕ) : Type 0 where
   pub size : ℕ
   pub frame : Frame
   pub there : identifier + size ≤ length passed
   pub nested : 1 ≤ levels
+  pub deepest : segments.levels ≡ levels
   pub opens : Opens end (taken + identifier) frame (take size (drop identifier passed))
   pub place : segments.taken ≡ taken + length passed
   pub light : length segments.joined.octets.items ≤ length passed
   pub forth : (more : List ℕ) (total : List (Element kind)) (rest : List ℕ) → CompletesBy kind levels (frame ∷ []) (taken + (identifier + size)) [] (drop (identifier + size) passed ++ more) total rest → Completion kind segments more total rest
-  pub back : (more : List ℕ) (total : List (Element kind)) (rest : List ℕ) → Completion kind segments more total rest → CompletesBy kind levels (frame ∷ []) (taken + (identifier + size)) [] (drop (identifier + size) passed ++ more) total rest
+  pub stands : StandsBehind kind levels frame (taken + (identifier + size)) segments (drop (identifier + size) passed)
 
 -- a constructed string of the type begins with so many of the octets, and they were taken
 pub record IsBegun (shape : Shape) (end taken identifier levels : ℕ) (octets : List ℕ) (kind : Kind) (segments : Segments) (used : ℕ) : Type 0 where

@@ -1,4 +1,4 @@
-use Rattle.std.proofs.Common.{◌≡◌, ℕ, List, ◌++◌, Err, take, sym, ap, subst}
+use Rattle.std.proofs.Common.{ℕ, List, ◌++◌, Err, take, sym, ap, subst}
 use Rattle.std.specs.Prelude.{slice_range}
 use Rattle.octets.specs.Front.{HasFront}
 use Rattle.octets.specs.Rule.{ber}
