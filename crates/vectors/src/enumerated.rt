@@ -21,6 +21,10 @@ ENUMERATED { a(1), b, c(0), d }:
 0A 01 FF                 | refused 6
 0A 02 00 01              | refused 6
 0A 00                    | refused 6
+M DEFINITIONS ::= BEGIN T ::= ENUMERATED { a(1), b, c(0), d } END:
+0A 01 02                 | kept        | kept        | b
+0A 01 03                 | kept        | kept        | d
+0A 01 04                 | refused 6
 ";
 
 // An ENUMERATED whose items, all named `i`, have these numbers.

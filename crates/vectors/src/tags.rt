@@ -44,6 +44,9 @@ DF FF FF FF 7F 81 00     | DF FF FF FF 7F 00 | DF FF FF FF 7F 00 | NULL
 
 // octets | under DER | under CER | text
 const WRITTEN_AND_AUTOMATIC: &str = "
+M DEFINITIONS ::= BEGIN T ::= [1] NULL END:
+A1 02 05 00              | kept | A1 80 05 00 00 00 | NULL
+81 00                    | refused 3
 EXPLICIT TAGS [1] NULL:
 A1 02 05 00              | kept | A1 80 05 00 00 00 | NULL
 IMPLICIT TAGS [1] NULL:
