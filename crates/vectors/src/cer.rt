@@ -7,7 +7,7 @@ use crate::types_by_name::type_of;
 use convert::{Canonical, Rule, transcode};
 use std::test::Fail;
 
-// octets | | under CER
+// octets | under DER | under CER | text
 const SHORT: &str = "
 BOOLEAN:
 01 01 2A                         | 01 01 FF | 01 01 FF | TRUE
@@ -31,7 +31,7 @@ UTCTime:
 17 81 0D, '240229120000Z'        | 17 0D, '240229120000Z' | 17 0D, '240229120000Z' | \"240229120000Z\"
 ";
 
-// octets | | under CER
+// octets | under DER | under CER | text
 const CUT: &str = "
 OCTET STRING:
 04 82 03 E8, 41 x1000            | kept                  | kept
@@ -48,7 +48,7 @@ UTF8String:
 80 82 03 E9, 41 x1001            | kept | A0 80, 04 82 03 E8, 41 x1000, 04 01 41, 00 00
 ";
 
-// octets | | under CER
+// octets | under DER | under CER | text
 const CUT_BITS: &str = "
 BIT STRING:
 03 82 03 E8 00, 41 x999          | kept | kept
@@ -62,7 +62,7 @@ BIT STRING:
 80 82 03 E9 00, 41 x1000         | kept | A0 80, 03 82 03 E8 00, 41 x999, 03 02 00 41, 00 00
 ";
 
-// octets | under DER | under CER
+// octets | under DER | under CER | text
 const ALREADY_CUT: &str = "
 OCTET STRING:
 24 80, 04 82 03 E8, 41 x1000, 04 01 41, 00 00 | 04 82 03 E9, 41 x1001 | kept
@@ -72,7 +72,7 @@ BIT STRING:
 23 80, 03 82 03 E8 00, 41 x999, 03 02 00 41, 00 00 | 03 82 03 E9 00, 41 x1000 | kept
 ";
 
-// octets | under DER | under CER
+// octets | under DER | under CER | text
 const LONGEST: &str = "
 OCTET STRING:
 04 83 0F EF A9, 41 x1044393 | kept | refused 14

@@ -9,7 +9,7 @@ use convert::{Canonical, Refusal, Rule};
 use std::alloc::Global;
 use std::test::Fail;
 
-// octets | under DER
+// octets | under DER | under CER | text
 const LEVELS: &str = "
 OCTET STRING:
 24 80, 04 01 AA, 00 00                    | 04 01 AA | 04 01 AA | 'AA'H
@@ -24,7 +24,7 @@ OCTET STRING:
 24 80, 24 80 00 00 x65, 00 00             | 04 00 | 04 00 | ''H
 ";
 
-// octets | under DER
+// octets | under DER | under CER | text
 const LENGTHS: &str = "
 OCTET STRING:
 # 126 digits, of which the first 125 are 00: outside, inside, and both

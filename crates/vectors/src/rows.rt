@@ -6,6 +6,10 @@
 //! and a number, or `left over` where a value ends before the octets do. What a reader refuses stands in the second
 //! column alone, and `refused 14` means one writer.
 //!
+//! The columns are X.690's, by a converter that shares nothing with these crates. A row that is taken has all of
+//! them, but for texts of a thousand characters and more: `show` returns what `IsShown` says, by its own clause, and
+//! shorter rows of the same types hold that definition to literals.
+//!
 //! Octets are parts with commas between them: hexadecimal digits, or characters between `'`. A part that
 //! ends with `x` and a number stands there as many times.
 

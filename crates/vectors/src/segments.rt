@@ -5,7 +5,7 @@
 use crate::checks::check_table;
 use std::test::Fail;
 
-// octets | under DER
+// octets | under DER | under CER | text
 const STRINGS: &str = "
 OCTET STRING:
 24 00                                         | 04 00          | 04 00          | ''H
@@ -77,7 +77,7 @@ BF 1F 03 04 02 4A 6F                          | refused 4
 BF 81 00 80 04 01 41 00 00                    | 9F 81 00 01 41 | 9F 81 00 01 41 | '41'H
 ";
 
-// octets | under DER
+// octets | under DER | under CER | text
 const TEXTS: &str = "
 VisibleString:
 3A 80 00 00                                     | 1A 00          | 1A 00          | \"\"
@@ -131,7 +131,7 @@ A0 04 1A 02, 'Jo'                               | refused 2
 A0 80 04 0D, '240229120000Z', 00 00             | 80 0D, '240229120000Z' | 80 0D, '240229120000Z' | \"240229120000Z\"
 ";
 
-// octets | under DER
+// octets | under DER | under CER | text
 const ENDS: &str = "
 OCTET STRING:
 # in a definite encoding what passes its end is named before what it is, and so is what leaves no room for

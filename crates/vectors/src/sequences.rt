@@ -87,7 +87,7 @@ SEQUENCE { a INTEGER, b BOOLEAN OPTIONAL, c [0] INTEGER DEFAULT 5 }:
 30 83 0F FF FC                 | refused 11
 ";
 
-// octets | under DER | under CER
+// octets | under DER | under CER | text
 const ITEMS: &str = "
 SEQUENCE OF NULL:
 30 04 05 00 05 00              | kept        | 30 80 05 00 05 00 00 00 | { NULL, NULL }

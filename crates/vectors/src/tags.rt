@@ -5,7 +5,7 @@ use crate::types_by_name::type_of;
 use convert::{Class, Tag, Ty, TypeFault, Value, WellTyped, conforms};
 use std::test::Fail;
 
-// octets | under DER
+// octets | under DER | under CER | text
 const OTHER_TAGS: &str = "
 [30] NULL:
 9E 00                    | kept | kept | NULL
