@@ -5,7 +5,7 @@ use crate::types_by_name::type_of;
 use std::alloc::Global;
 use std::test::Fail;
 
-// octets | under DER | under CER
+// octets | under DER | under CER | text
 const LONGEST: &str = "
 SEQUENCE OF OCTET STRING:
 # 1,048,576 octets, whose definite form has one more, and the longest that has it
@@ -16,7 +16,7 @@ SEQUENCE OF OCTET STRING:
 30 83 0F FF FB 04 83 0F FF F7  | refused 4
 ";
 
-// octets | under DER | under CER
+// octets | under DER | under CER | text
 const MANY: &str = "
 SEQUENCE OF BOOLEAN:
 30 82 75 30, 01 01 01 x10000   | 30 82 75 30, 01 01 FF x10000 | 30 80, 01 01 FF x10000, 00 00
@@ -57,12 +57,13 @@ fn definite_tags(alloc: Global) -> Result<String, Fail> {
 #[test]
 fn sixty_explicit_tags(rt: HostRuntime) -> Result<(), Fail> {
     let alloc = rt.alloc();
-    let mut name = repeated(alloc, "[0] EXPLICIT ", 60)?;
-    name.push_str("OCTET STRING")?;
-    let ty = type_of(alloc, name.as_str())?;
+    // no word on tags: they are explicit
+    let tags = repeated(alloc, "[0] ", 60)?;
+    let module = format!(in alloc; "M DEFINITIONS ::= BEGIN T ::= {tags}OCTET STRING END")?;
+    let ty = type_of(alloc, module.as_str())?;
     let der = definite_tags(alloc)?;
-    let cer = "A0 80 x60, 04 01 AA, 00 00 x60";
-    // (how many constructed encodings of the string, under DER and CER)
+    let cer = "A0 80 x60, 04 01 AA, 00 00 x60 | 'AA'H";
+    // (how many constructed encodings of the string, under DER and CER, and the text)
     let cases = [
         (0, format!(in alloc; "{der} 04 01 AA | {cer}")?),
         (4, format!(in alloc; "{der} 04 01 AA | {cer}")?),

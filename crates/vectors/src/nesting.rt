@@ -63,10 +63,10 @@ fn levels_of_definite_lengths(rt: HostRuntime) -> Result<(), Fail> {
         let length = 127 - 2 * level;
         levels.push_str(format!(in rt.alloc(); "24{length:02x}")?.as_str())?;
     }
-    // (identifier and length octets around these, under DER)
+    // (identifier and length octets around these, what they become)
     let cases = [
-        ("", "04 01 AA"),
-        ("24 81 81", "04 01 AA"),
+        ("", "04 01 AA | 04 01 AA | 'AA'H"),
+        ("24 81 81", "04 01 AA | 04 01 AA | 'AA'H"),
         ("24 80 24 81 81", "refused 10"),
         ("24 81 84 24 81 81", "refused 10"),
     ];
