@@ -19,7 +19,7 @@ readonly work
 trap 'rm -rf "$work"' EXIT
 
 mkdir -p "$work/crates/reader/src"
-for crate in octets primitives strings types contents berreader; do
+for crate in octets primitives strings names types contents whole berreader; do
     cp -r "$top/crates/$crate" "$work/crates"
 done
 cp "$top/bench/reader/main.txt" "$work/crates/reader/src/main.rt"
@@ -27,9 +27,11 @@ cat >"$work/crates.txt" <<'END'
 octets:
 primitives: octets
 strings: simdutf8
-types: octets primitives strings
+names:
+types: octets primitives strings names
 contents: octets primitives strings types smallvec
-berreader: octets primitives strings types contents smallvec
+whole: octets primitives strings types contents
+berreader: octets primitives strings types contents whole smallvec
 reader: octets strings types berreader
 END
 cd "$work/crates/reader"

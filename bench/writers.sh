@@ -18,7 +18,7 @@ readonly work
 trap 'rm -rf "$work"' EXIT
 
 mkdir -p "$work/crates/writers/src"
-for crate in octets primitives strings types canon; do
+for crate in octets primitives strings names types canon; do
     cp -r "$top/crates/$crate" "$work/crates"
 done
 cp "$top/bench/writers/main.txt" "$work/crates/writers/src/main.rt"
@@ -26,7 +26,8 @@ cat >"$work/crates.txt" <<'END'
 octets:
 primitives: octets
 strings: simdutf8
-types: octets primitives strings
+names:
+types: octets primitives strings names
 canon: octets primitives strings types
 writers: octets primitives strings types canon
 END

@@ -5,7 +5,7 @@ use primitives::Bits;
 use std::alloc::Global;
 use std::test::Fail;
 use strings::{TextKind, TimeKind};
-use types::{Alternative, Field, Item, Presence, Ty, Value, WellTyped};
+use types::{Alternative, Field, Item, Name, Presence, Ty, Value, WellTyped};
 
 /// A type. Where no tag is planned it has its universal one.
 #[cycle(plans)]
@@ -139,14 +139,14 @@ pub fn ty_of(alloc: Global, plan: &Plan) -> Result<Ty, Fail> {
 }
 
 // The name of what stands behind so many.
-fn name_behind(alloc: Global, before: usize) -> Result<String, Fail> {
+fn name_behind(alloc: Global, before: usize) -> Result<Name, Fail> {
     let name = match before {
         0 => "first",
         1 => "second",
         2 => "third",
         _ => "next",
     };
-    Ok(String::from_str(alloc, name)?)
+    Ok(Name::new(alloc, name)?)
 }
 
 fn items_of(alloc: Global, numbers: &[i128]) -> Result<Vec<Item>, Fail> {

@@ -1,5 +1,5 @@
 -- What types and values of the code stand for, level by level.
-use Rattle.std.proofs.Common.{◌≡◌, ℕ, ℤ, Bool, List, [], ◌∷◌, Option, Vec, Box, Global, map, string_bytes, refl, ap, rules}
+use Rattle.std.proofs.Common.{◌≡◌, ℕ, ℤ, Bool, List, [], ◌∷◌, Option, Vec, Box, Global, map, refl, ap, rules}
 use Rattle.strings.specs.declared.time.TimeKind.{TimeKind}
 use Rattle.strings.specs.declared.text.TextKind.{TextKind}
 use Rattle.octets.specs.declared.tag.Tag.{Tag}
@@ -99,10 +99,10 @@ ty-Choice alternatives = search (rules, ty.the_lemmas)
 pub ty-Explicit : (tag : Tag) (inner : Box Ty Global) → ty_view (ty.Explicit tag inner) ≡ Shape.explicit tag (ty_view inner.value)
 ty-Explicit tag inner = search (rules, ty.the_lemmas)
 
-pub field_is : (f : Field) → field_view f ≡ record { name = string_bytes f.name; type = ty_view f.ty; requirement = requirement_view f.presence }
+pub field_is : (f : Field) → field_view f ≡ record { name = f.name; type = ty_view f.ty; requirement = requirement_view f.presence }
 field_is f = search (rules, field.the_lemmas)
 
-pub alternative_is : (a : Alternative) → alternative_view a ≡ record { name = string_bytes a.name; type = ty_view a.ty }
+pub alternative_is : (a : Alternative) → alternative_view a ≡ record { name = a.name; type = ty_view a.ty }
 alternative_is a = search (rules, alternative.the_lemmas)
 
 -- the items of a value, as a list again

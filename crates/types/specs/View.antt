@@ -1,5 +1,5 @@
 -- What a `Ty` and a `Value` of the code stand for.
-use Rattle.std.specs.Prelude.{ℕ, List, [], ◌∷◌, Option, Some, None, map, option_map, string_bytes}
+use Rattle.std.specs.Prelude.{ℕ, List, [], ◌∷◌, Option, Some, None, map, option_map}
 use Rattle.types.specs.Shape.{EnumerationItem, SimpleType, StringType, SimpleValue, StringValue, Val, Slots, no_slot, absent, present, Items, no_item, item, Requirement, Shape, Components, no_component, component, Alternatives, no_alternative, alternative}
 use Rattle.types.specs.declared.ty.Item.{Item}
 use Rattle.types.specs.declared.ty.Presence.{Presence}
@@ -67,7 +67,7 @@ alternatives_of [] = no_alternative
 alternatives_of (a ∷ others) = alternative a.name a.type (alternatives_of others)
 
 abbrev pub item_view : Item → EnumerationItem
-item_view i = record { name = string_bytes i.name; number = i.number }
+item_view i = record { name = i.name; number = i.number }
 
 -- one level of a type, each type within it seen already
 abbrev pub ty_step : Ty-F Shape AlternativeView ComponentView → Shape
@@ -89,10 +89,10 @@ ty_step (Ty-F.Choice alternatives) = Shape.choice (alternatives_of alternatives.
 ty_step (Ty-F.Explicit tag type) = Shape.explicit tag type.value
 
 abbrev pub alternative_step : Alternative-F Shape AlternativeView ComponentView → AlternativeView
-alternative_step a = record { name = string_bytes a.name; type = a.ty }
+alternative_step a = record { name = a.name; type = a.ty }
 
 abbrev pub field_step : Field-F Shape AlternativeView ComponentView → ComponentView
-field_step f = record { name = string_bytes f.name; type = f.ty; requirement = requirement_view f.presence }
+field_step f = record { name = f.name; type = f.ty; requirement = requirement_view f.presence }
 
 abbrev pub ty_view : Ty → Shape
 ty_view = fold-Ty Shape AlternativeView ComponentView ty_step alternative_step field_step

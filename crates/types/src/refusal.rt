@@ -190,8 +190,8 @@ impl fmt::Display for TypeFault {
 
     ghost output = { λ fault. Some (decimal (type_fault_number fault) ++ codes " " ++ type_fault_name fault) };
 
-    fn fmt<W: fmt::Write>(&self, f: &mut fmt::Formatter<W>) -> fmt::Result {
-        write!(f, "{} {}", self.number(), self.name())
+    fn fmt<W: fmt::Write>(&self, out: &mut fmt::Formatter<W>) -> fmt::Result {
+        write!(out, "{} {}", self.number(), self.name())
     }
 }
 

@@ -3,6 +3,7 @@
 ghost use Rattle.std.specs.Prelude.{◌≡◌};
 
 use crate::Value;
+use names::Name;
 use octets::Tag;
 use strings::{TextKind, TimeKind};
 
@@ -48,7 +49,7 @@ pub enum Ty {
 #[derive(Debug, PartialEq, Eq, Drop)]
 pub struct Item {
     /// Its name.
-    pub name: String,
+    pub name: Name,
     /// Its number, which encodes it.
     pub number: i128,
 }
@@ -58,7 +59,7 @@ pub struct Item {
 #[derive(Debug, PartialEq, Eq, Drop)]
 pub struct Field {
     /// Its name.
-    pub name: String,
+    pub name: Name,
     /// Its type.
     pub ty: Ty,
     /// Whether it may be absent.
@@ -81,7 +82,7 @@ pub enum Presence {
 #[derive(Debug, PartialEq, Eq, Drop)]
 pub struct Alternative {
     /// Its name.
-    pub name: String,
+    pub name: Name,
     /// Its type.
     pub ty: Ty,
 }

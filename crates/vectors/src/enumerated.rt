@@ -1,7 +1,7 @@
 //! ENUMERATED (X.690 8.4), whose contents octets are those of an item's number.
 
 use crate::checks::check_table;
-use convert::{Item, Tag, Ty, TypeFault, Value, WellTyped, conforms};
+use convert::{Item, Name, Tag, Ty, TypeFault, Value, WellTyped, conforms};
 use std::alloc::Global;
 use std::test::Fail;
 
@@ -31,7 +31,7 @@ M DEFINITIONS ::= BEGIN T ::= ENUMERATED { a(1), b, c(0), d } END:
 fn enumerated(alloc: Global, numbers: &[i128]) -> Result<Ty, Fail> {
     let mut items = Vec::new(alloc);
     for number in numbers {
-        let name = String::from_str(alloc, "i")?;
+        let name = Name::new(alloc, "i")?;
         let number = *number;
         items.push(Item { name, number })?;
     }

@@ -1,6 +1,6 @@
 -- Lemmas on values that are read at once.
 use Rattle.std.specs.List.{AllByRecursion, concat}
-use Rattle.std.proofs.Common.{◌≡◌, ◌≢◌, ◌+◌, ◌-◌, ◌<◌, ◌≤◌, ℕ, zero, suc, false, List, [], ◌∷◌, ◌++◌, Option, Some, None, Vec, Global, Box, IfSome, MatchOption, string_bytes, refl, sym, ap, ◌∙◌, subst, arith, take, drop, set, map, option_map, length, get_or, append-nil, append_assoc}
+use Rattle.std.proofs.Common.{◌≡◌, ◌≢◌, ◌+◌, ◌-◌, ◌<◌, ◌≤◌, ℕ, zero, suc, false, List, [], ◌∷◌, ◌++◌, Option, Some, None, Vec, Global, Box, IfSome, MatchOption, refl, sym, ap, ◌∙◌, subst, arith, take, drop, set, map, option_map, length, get_or, append-nil, append_assoc}
 use Rattle.std.proofs.Math.Seq.{take-add}
 use Rattle.std.proofs.lemmas.List.{map_push, map_more, length-drop, take_rest}
 use Rattle.octets.specs.declared.tag.Tag.{Tag}
@@ -131,7 +131,7 @@ component_stands levels f octets (Some v) slot used h is =
     let part = take used octets in
     let c = field_view f in
     let same = field_is f in
-    let come : IsCome levels c (option_map value_view slot) (Some part) = subst (λ (d : ComponentView). IsCome levels d (option_map value_view slot) (Some part)) (sym same) (slot_come levels (string_bytes f.name) (ty_view f.ty) (requirement_view f.presence) (value_view v) (option_map value_view slot) part is h.1) in
+    let come : IsCome levels c (option_map value_view slot) (Some part) = subst (λ (d : ComponentView). IsCome levels d (option_map value_view slot) (Some part)) (sym same) (slot_come levels f.name (ty_view f.ty) (requirement_view f.presence) (value_view v) (option_map value_view slot) part is h.1) in
     record { there = h.0; encoding = Some part; come = come; joined = sym (append-nil part) }
 
 -- the components of a good SEQUENCE

@@ -5,10 +5,10 @@ use contents::{begins, is_node, node_of, node_within, wrap};
 use octets::Tag;
 use std::alloc::Global;
 use std::test::Fail;
-use types::{Alternative, Ty, Value, WellTyped};
+use types::{Alternative, Name, Ty, Value, WellTyped};
 
 fn alternative(alloc: Global, name: &str, ty: Ty) -> Result<Alternative, Fail> {
-    let name = String::from_str(alloc, name)?;
+    let name = Name::new(alloc, name)?;
     Ok(Alternative { name, ty })
 }
 

@@ -5,7 +5,7 @@ use contents::holding_of;
 use octets::{Class, Tag};
 use std::alloc::Global;
 use std::test::Fail;
-use types::{Field, Presence, Ty, Value};
+use types::{Field, Name, Presence, Ty, Value};
 
 const END: Tag = Tag {
     class: Class::Universal,
@@ -23,7 +23,7 @@ fn components(alloc: Global, presences: &[u8]) -> Result<Vec<Field>, Fail> {
             b'd' => Presence::Default(Value::Integer(5)),
             _ => Presence::Required,
         };
-        let name = String::from_str(alloc, "a")?;
+        let name = Name::new(alloc, "a")?;
         let ty = Ty::Integer(context(number));
         fields.push(Field { name, ty, presence })?;
         if number < 100 {

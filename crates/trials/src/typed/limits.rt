@@ -9,7 +9,7 @@ use octets::Class::Context;
 use octets::Tag;
 use std::alloc::Global;
 use std::test::Fail;
-use types::{Alternative, Field, Item, Presence, Ty, TypeFault, WellTyped};
+use types::{Alternative, Field, Item, Name, Presence, Ty, TypeFault, WellTyped};
 
 const LARGE: Option<TypeFault> = Some(TypeFault::TooLarge);
 
@@ -19,7 +19,7 @@ const REPEATED: Option<TypeFault> = Some(TypeFault::RepeatedNumber);
 fn nulls(alloc: Global, count: usize) -> Result<Vec<Field>, Fail> {
     let mut fields = Vec::new(alloc);
     for _ in 0..count {
-        let name = String::from_str(alloc, "a")?;
+        let name = Name::new(alloc, "a")?;
         let ty = Ty::Null(Tag::universal(5));
         let presence = Presence::Required;
         fields.push(Field { name, ty, presence })?;
@@ -31,7 +31,7 @@ fn nulls(alloc: Global, count: usize) -> Result<Vec<Field>, Fail> {
 fn alternatives(alloc: Global, count: u32) -> Result<Vec<Alternative>, Fail> {
     let mut alternatives = Vec::new(alloc);
     for number in 0..count {
-        let name = String::from_str(alloc, "a")?;
+        let name = Name::new(alloc, "a")?;
         let ty = Ty::Null(context(number));
         alternatives.push(Alternative { name, ty })?;
     }
@@ -42,7 +42,7 @@ fn alternatives(alloc: Global, count: u32) -> Result<Vec<Alternative>, Fail> {
 fn items(alloc: Global, count: u32) -> Result<Vec<Item>, Fail> {
     let mut items = Vec::new(alloc);
     for i in 0..count {
-        let name = String::from_str(alloc, "a")?;
+        let name = Name::new(alloc, "a")?;
         let number = -(i as i128);
         items.push(Item { name, number })?;
     }
@@ -85,7 +85,7 @@ fn part(alloc: Global, times: usize, components: usize) -> Result<Field, Fail> {
     for _ in 0..times {
         ty = Ty::SequenceOf(Tag::universal(16), Box::new(alloc, ty)?);
     }
-    let name = String::from_str(alloc, "a")?;
+    let name = Name::new(alloc, "a")?;
     let presence = Presence::Required;
     Ok(Field { name, ty, presence })
 }
