@@ -37,13 +37,13 @@ ending Optional = optional
 ending (Default v) = default (value_view v)
 
 abbrev pub entry : Item → Entry
-entry item = (string_bytes item.name, item.number)
+entry item = (item.name, item.number)
 
 abbrev pub component_step : Component-F Form (List ℕ × Form) (List ℕ × Form × Ending) → List ℕ × Form × Ending
-component_step c = (string_bytes c.name, c.body, ending c.presence)
+component_step c = (c.name, c.body, ending c.presence)
 
 abbrev pub alternative_step : Alternative-F Form (List ℕ × Form) (List ℕ × Form × Ending) → List ℕ × Form
-alternative_step c = (string_bytes c.name, c.body)
+alternative_step c = (c.name, c.body)
 
 abbrev pub expr_step : Expr-F Form (List ℕ × Form) (List ℕ × Form × Ending) → Form
 expr_step (Tagged prefix b) = tagged prefix b.value
@@ -59,10 +59,10 @@ abbrev pub form : Expr → Form
 form = fold-Expr Form (List ℕ × Form) (List ℕ × Form × Ending) expr_step alternative_step component_step
 
 abbrev pub component : Component → List ℕ × Form × Ending
-component c = (string_bytes c.name, form c.body, ending c.presence)
+component c = (c.name, form c.body, ending c.presence)
 
 abbrev pub alternative : Alternative → List ℕ × Form
-alternative c = (string_bytes c.name, form c.body)
+alternative c = (c.name, form c.body)
 
 abbrev pub assignment : Assignment → List ℕ × Form
 assignment a = (string_bytes a.name, form a.body)

@@ -1,5 +1,7 @@
 //! Modules as trees (X.680 clauses 13, 17 and 31, in this project's profile).
 
+use names::Name;
+
 /// A module.
 #[derive(Debug, PartialEq, Eq, Drop)]
 pub struct Module {
@@ -102,7 +104,7 @@ pub enum Group {
 #[cycle(tree)]
 pub struct Component {
     /// Its name.
-    pub name: String,
+    pub name: Name,
     /// Its type.
     pub body: Expr,
     /// What stands behind the type.
@@ -153,7 +155,7 @@ pub struct SignedNumber {
 #[cycle(tree)]
 pub struct Alternative {
     /// Its name.
-    pub name: String,
+    pub name: Name,
     /// Its type.
     pub body: Expr,
 }
@@ -162,7 +164,7 @@ pub struct Alternative {
 #[derive(Debug, PartialEq, Eq, Drop)]
 pub struct Item {
     /// Its name.
-    pub name: String,
+    pub name: Name,
     /// The number in parentheses behind it.
     pub number: Option<SignedNumber>,
 }

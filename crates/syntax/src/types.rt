@@ -15,6 +15,7 @@ use crate::terminal::Terminal;
 use crate::tree::{Alternative, Component, Expr, Group};
 use crate::values::{MAX_PARTS, ending_at, enumerated_at};
 use lexis::{Lexeme, Symbol, Word};
+use names::Name;
 use std::alloc::Global;
 
 /// A type of at most so many levels, its own included.
@@ -252,6 +253,6 @@ fn named_at(
 {
     let (name, next) = identifier_at(terminals, at)?;
     let (body, next) = type_at(alloc, levels, terminals, next)?;
-    let name = String::from_str(alloc, name)?;
+    let name = Name::new(alloc, name)?;
     Ok((Alternative { name, body }, next))
 }

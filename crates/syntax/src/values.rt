@@ -13,6 +13,7 @@ use crate::stop::{Cause, Stop};
 use crate::terminal::Terminal;
 use crate::tree::{DefaultValue, Expr, Item, Presence, SignedNumber};
 use lexis::{Lexeme, Symbol, Word};
+use names::Name;
 use std::alloc::Global;
 
 /// The most parts of one list.
@@ -134,7 +135,7 @@ fn item_at(alloc: Global, terminals: &[Terminal], at: usize) -> Result<(Item, bo
     let (name, next) = identifier_at(terminals, at)?;
     let (number, next) = item_number_at(terminals, next)?;
     let (is_last, next) = end_at(terminals, next)?;
-    let name = String::from_str(alloc, name)?;
+    let name = Name::new(alloc, name)?;
     Ok((Item { name, number }, is_last, next))
 }
 
