@@ -1,5 +1,5 @@
 -- What a type takes of the notation behind DEFAULT.
-use Rattle.std.proofs.Common.{◌≡◌, ◌+◌, ◌<◌, inl, inr, ℕ, List, [], ◌∷◌, ◌++◌, length, map, take, get_or, string_bytes, Option, Some, None, IfSome, IsNone, Contains, refl, sym, ap, ◌∙◌, subst}
+use Rattle.std.proofs.Common.{◌≡◌, ◌+◌, ◌<◌, inl, inr, ℕ, List, [], ◌∷◌, ◌++◌, length, map, take, get_or, Option, Some, None, IfSome, IsNone, Contains, refl, sym, ap, ◌∙◌, subst}
 use Rattle.std.proofs.lemmas.List.{map_more, length-map, get_or-map}
 use Rattle.std.proofs.lemmas.List.Elements.{Contains-push_cases}
 use Rattle.strings.specs.declared.text.TextKind.{TextKind}
@@ -33,7 +33,7 @@ string_at type written other view v is takes same = (v, subst (λ (w : DefaultVa
 abbrev pub IsNoneNamed : List ℕ → List EnumerationItem → Type 0
 IsNoneNamed name items = (item : EnumerationItem) → Contains items item → item.name ≡ name → ⊥
 
-pub none_more : (name : List ℕ) (items : List Item) (i : ℕ) (x : Item) → i < length items → x ≡ get_or items i x → (string_bytes x.name ≡ name → ⊥) → IsNoneNamed name (map item_view (take i items)) → IsNoneNamed name (map item_view (take (i + 1) items))
+pub none_more : (name : List ℕ) (items : List Item) (i : ℕ) (x : Item) → i < length items → x ≡ get_or items i x → (x.name ≡ name → ⊥) → IsNoneNamed name (map item_view (take i items)) → IsNoneNamed name (map item_view (take (i + 1) items))
 none_more name items i x within is other h =
     subst (λ (l : List EnumerationItem). IsNoneNamed name l) (sym (map_more item_view items i x within ∙ ap (λ (y : Item). map item_view (take i items) ++ item_view y ∷ []) (sym is)))
     (λ item among named. elim (Contains-push_cases (map item_view (take i items)) (item_view x) item among) [ inl before ↦ h item before named | inr last ↦ other (ap (λ (y : EnumerationItem). y.name) last ∙ named) ])

@@ -5,15 +5,15 @@
 #![tactic(auto)]
 
 mod defaults;
+mod differing;
 mod digits;
-mod names;
 mod numbering;
 mod stop;
 mod tagging;
 mod universal;
 
 pub use defaults::default_of;
-pub use names::{alternatives_differ, components_differ, enter, items_differ};
+pub use differing::{alternatives_differ, components_differ, enter, items_differ};
 pub use numbering::{are_numbers_within, numbered, numbers_differ};
 pub use stop::{Cause, Stop};
 pub use tagging::{

@@ -14,13 +14,13 @@ returns-then-eq-clause-some c =
     let x = c.item-item.result in
     let fits : FitsSigned w128 x.number = search rules in
     let named : c.as_str.result.now ≡ c.args.name.now = (bytes_eq-Decides c.as_str.result.now c.args.name.now).0 (sym c.eq.ensures ∙ c.if-eq.true) in
-    (item_view x, is_among c.args.items.now c.loop-item.item-index x c.loop-item-test.true c.item-item.is, sym c.as_str.ensures.value ∙ named, sym (to_z-of_z w128 x.number fits))
+    (item_view x, is_among c.args.items.now c.loop-item.item-index x c.loop-item-test.true c.item-item.is, sym c.as_str.ensures ∙ named, sym (to_z-of_z w128 x.number fits))
 
 pub loop-item-preserved : goal.loop-item-preserved
 loop-item-preserved c =
     let x = c.item-item.result in
     none_more c.args.name.now c.args.items.now c.loop-item.item-index x c.loop-item-test.true c.item-item.is
-    (λ named. not_from_Decides _ (bytes_eq-Decides c.as_str.result.now c.args.name.now) (sym c.eq.ensures ∙ c.if-eq.false) (c.as_str.ensures.value ∙ named)) c.loop-item.invariant
+    (λ named. not_from_Decides _ (bytes_eq-Decides c.as_str.result.now c.args.name.now) (sym c.eq.ensures ∙ c.if-eq.false) (c.as_str.ensures ∙ named)) c.loop-item.invariant
 
 pub returns-clause-none : goal.returns-clause-none
 returns-clause-none c = λ none.

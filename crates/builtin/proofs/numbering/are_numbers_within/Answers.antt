@@ -1,4 +1,4 @@
-use Rattle.std.proofs.Common.{List, drop, map, arith, ◌+◌, string_bytes}
+use Rattle.std.proofs.Common.{List, drop, map, arith, ◌+◌}
 use Rattle.types.proofs.LoopLemmas.{goes_on, stops, ends, is_not_so, is_so}
 use Rattle.syntax.specs.declared.tree.Item.{Item}
 use Rattle.syntax.specs.View.{entry}
@@ -17,8 +17,8 @@ loop-item-preserved c =
     let rest = drop (i + 1) items in
     elim c.match-item.branch [
       | in-Some+else-is_none w ↦ goes_on (λ (xs : List Item). AreWithin (map entry xs)) (FitsSigned w128 (number_of w.in-Some.signed)) items i x (omega arith) c.item-item.is
-          (within_written (string_bytes x.name) x.number w.in-Some.signed (map entry rest) w.in-Some.is) (told_within (number_of w.in-Some.signed) w.number_of.result w.number_of.ensures.some (w.if-is_none.ensures)) c.loop-item.invariant
-      | in-None w ↦ goes_on (λ (xs : List Item). AreWithin (map entry xs)) (Unit {0}) items i x (omega arith) c.item-item.is (within_unwritten (string_bytes x.name) x.number (map entry rest) w.in-None.is) tt c.loop-item.invariant
+          (within_written x.name x.number w.in-Some.signed (map entry rest) w.in-Some.is) (told_within (number_of w.in-Some.signed) w.number_of.result w.number_of.ensures.some (w.if-is_none.ensures)) c.loop-item.invariant
+      | in-None w ↦ goes_on (λ (xs : List Item). AreWithin (map entry xs)) (Unit {0}) items i x (omega arith) c.item-item.is (within_unwritten x.name x.number (map entry rest) w.in-None.is) tt c.loop-item.invariant
     ]
 
 pub returns-then-is_none : goal.returns-then-is_none
@@ -28,7 +28,7 @@ returns-then-is_none c =
     let x = c.item-item.result in
     let rest = drop (i + 1) items in
     is_not_so (stops (λ (xs : List Item). AreWithin (map entry xs)) (FitsSigned w128 (number_of c.in-Some.signed)) items i x (omega arith) c.item-item.is
-    (within_written (string_bytes x.name) x.number c.in-Some.signed (map entry rest) c.in-Some.is) (told_great (number_of c.in-Some.signed) c.number_of.result c.number_of.ensures.none (c.if-is_none.ensures)) c.loop-item.invariant)
+    (within_written x.name x.number c.in-Some.signed (map entry rest) c.in-Some.is) (told_great (number_of c.in-Some.signed) c.number_of.result c.number_of.ensures.none (c.if-is_none.ensures)) c.loop-item.invariant)
 
 pub returns : goal.returns
 returns c = is_so (ends (λ (xs : List Item). AreWithin (map entry xs)) c.args.items.now c.loop-item.item-index (omega arith) none_within c.loop-item.invariant)

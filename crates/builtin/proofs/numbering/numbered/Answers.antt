@@ -1,4 +1,4 @@
-use Rattle.std.proofs.Common.{rules, ◌≡◌, ◌+◌, ◌+ℤ◌, ◌≤ℤ◌, ℕ, suc, ℤ, pos, to_z, of_z, FitsSigned, IfSome, IsSome, IsNone, string_bytes, List, [], ◌∷◌, ◌++◌, Some, None, Option, map, take, drop, length, refl, sym, ap, ◌∙◌, subst, arith}
+use Rattle.std.proofs.Common.{rules, ◌≡◌, ◌+◌, ◌+ℤ◌, ◌≤ℤ◌, ℕ, suc, ℤ, pos, to_z, of_z, FitsSigned, IfSome, IsSome, IsNone, List, [], ◌∷◌, ◌++◌, Some, None, Option, map, take, drop, length, refl, sym, ap, ◌∙◌, subst, arith}
 use Rattle.std.specs.Int.{w128}
 use Rattle.std.proofs.lemmas.Int.{ints, to_z-of_z}
 use Rattle.std.proofs.lemmas.List.{map-append, map_more, take_all}
@@ -48,13 +48,13 @@ loop-item-preserved c =
     let some : c.match-item.number ≡ Some z = ok_or-some c.match-item.number z _ c.in_ok-ok_or.ensures.value in
     let y : NumberedItem = record { name = c.in_ok-clone.field-0; number = to_z w128 (of_z w128 z) } in
     let pushed : map item_view new ≡ map item_view old ++ item_view y ∷ [] = ap (λ (l : List NumberedItem). map item_view l) c.in_ok-push.ensures.items ∙ map-append item_view old (y ∷ []) in
-    let named : string_bytes c.in_ok-clone.field-0 ≡ string_bytes x.name = c.in_ok-clone.ensures.cases in
+    let named : c.in_ok-clone.field-0 ≡ x.name = c.in_ok-clone.ensures.cases in
     elim c.match-item.branch [
       | in-Some w ↦ (
           let told : (z ≡ number_of w.in-Some.signed) × FitsSigned w128 (number_of w.in-Some.signed) =
           subst (λ (v : Option ℤ). IfSome v (λ number. (number ≡ number_of w.in-Some.signed) × FitsSigned w128 (number_of w.in-Some.signed))) (sym w.number-is ∙ some) w.number_of-number.ensures.some in
           let to : NumberedTo W 0 (map entry (take i items) ++ entry x ∷ []) (map item_view new) h.3.0 =
-          item-written W 0 (map entry (take i items)) (map item_view old) (map item_view new) h.3.0 (string_bytes x.name) x.number w.in-Some.signed (item_view y) w.in-Some.is pushed named (kept_number z (number_of w.in-Some.signed) told) told.1 h.3.2 in
+          item-written W 0 (map entry (take i items)) (map item_view old) (map item_view new) h.3.0 x.name x.number w.in-Some.signed (item_view y) w.in-Some.is pushed named (kept_number z (number_of w.in-Some.signed) told) told.1 h.3.2 in
           subst (λ (f : FreeNumbers). AreNumberedSoFar es (map entry (take (i + 1) items)) (map item_view new) (i + 1) f)
           (sym w.free-is)
           (h.0, h.1, h.2, (h.3.0, h.3.1, subst (λ (l : List Entry). NumberedTo W 0 l (map item_view new) h.3.0) (sym more) to), (let far = h.4 in omega (arith, ints, far)), h.5))
@@ -66,7 +66,7 @@ loop-item-preserved c =
           subst (λ (v : Option ℤ). IfSome v (λ number. (after.next ≡ number +ℤ pos 1) × IsPassed after.written.now after.passed after.next)) (sym w.number-is ∙ some) (w.take-number.ensures.passed h.1 h.2) in
           let found : (m : ℕ) × (z ≡ pos m) × IsNextFree W h.3.0 m = next_of_free es ws h.3.0 z h.0 fits (subst (λ (n : ℤ). IsFree ws n z) h.3.1 free) in
           let to : NumberedTo W 0 (map entry (take i items) ++ entry x ∷ []) (map item_view new) (suc found.0) =
-          item-free W 0 (map entry (take i items)) (map item_view old) (map item_view new) h.3.0 (string_bytes x.name) x.number found.0 (item_view y) w.in-None.is pushed named (to_z-of_z w128 z fits ∙ found.1) found.2 h.3.2 in
+          item-free W 0 (map entry (take i items)) (map item_view old) (map item_view new) h.3.0 x.name x.number found.0 (item_view y) w.in-None.is pushed named (to_z-of_z w128 z fits ∙ found.1) found.2 h.3.2 in
           let long : length after.written.now ≡ length ws = ap length w.take-number.ensures.kept in
           let step : farthest after.written.now after.passed after.next ≤ℤ (farthest ws c.loop-item.free.passed c.loop-item.free.next +ℤ pos 1) =
           w.take-number.ensures.farthest (subst IsSome (sym (sym w.number-is ∙ some)) refl) in
@@ -103,7 +103,7 @@ returns-in_err-ok_or-clause-refused c =
     let split : es ≡ map entry (take i items) ++ entry x ∷ map entry (drop (i + 1) items) = split_at entry items i x c.loop-item-test.true c.item-item.is in
     let never : (others : List EnumerationItem) → ¬ AreItems es others = λ others g.
     elim c.match-item.branch [
-      | in-Some w ↦ w.number_of-number.ensures.none (subst IsNone (sym (sym w.number-is ∙ none)) refl) (item_fits es (map entry (take i items)) (string_bytes x.name) x.number w.in-Some.signed (map entry (drop (i + 1) items)) others w.in-Some.is split g)
+      | in-Some w ↦ w.number_of-number.ensures.none (subst IsNone (sym (sym w.number-is ∙ none)) refl) (item_fits es (map entry (take i items)) x.name x.number w.in-Some.signed (map entry (drop (i + 1) items)) others w.in-Some.is split g)
       | in-None w ↦ w.take-number.ensures.none (subst IsNone (sym (sym w.number-is ∙ none)) refl) (farthest-fits c.loop-item.free.written.now i c.loop-item.free.passed h.3.0 c.loop-item.free.next h.5 (search rules) h.3.1 h.4)
     ] in
     if_err c.from_residual-in_err-ok_or.result (λ stop other. never)

@@ -1,4 +1,4 @@
-use Rattle.std.proofs.Common.{string_bytes, Vec, Global, ◌≡◌, ◌+◌, ℤ, List, [], ◌∷◌, ◌++◌, map, take, refl, sym, ap, ◌∙◌, subst, arith}
+use Rattle.std.proofs.Common.{Vec, Global, ◌≡◌, ◌+◌, ℤ, List, [], ◌∷◌, ◌++◌, map, take, refl, sym, ap, ◌∙◌, subst, arith}
 use Rattle.std.proofs.lemmas.List.{map_more, take_all}
 use Rattle.syntax.specs.declared.tree.Item.{Item}
 use Rattle.syntax.specs.Tree.{Entry}
@@ -15,7 +15,7 @@ loop-item-preserved c =
     let i = c.loop-item.item-index in
     let x = c.item-item.result in
     let ws = c.loop-item.written.items in
-    let name = string_bytes x.name in
+    let name = x.name in
     let more : map entry (take (i + 1) items) ≡ map entry (take i items) ++ entry x ∷ [] =
     map_more entry items i x (omega arith) ∙ ap (λ (y : Item). map entry (take i items) ++ entry y ∷ []) (sym c.item-item.is) in
     subst (λ (es : List Entry). AreFitting (written_numbers es) c.match-item.written.items) (sym more) (elim c.match-item.branch [
