@@ -1,4 +1,4 @@
-use Rattle.std.proofs.Common.{◌≡◌, ◌+◌, ◌++◌, ◌∙◌, rules, ℕ, suc, Bool, true, List, [], ◌∷◌, Option, IfSome, string_bytes, map, take, sym, ap, subst}
+use Rattle.std.proofs.Common.{◌≡◌, ◌+◌, ◌++◌, ◌∙◌, rules, ℕ, suc, Bool, true, List, [], ◌∷◌, Option, IfSome, map, take, sym, ap, subst}
 use Rattle.std.proofs.lemmas.List.{map_more, map-append, take_all}
 use Rattle.octets.proofs.ResultLemmas.{IfOk-map, IfErr-map, IfErr-from, IfErr-all}
 use Rattle.types.specs.declared.ty.Field.{Field}
@@ -106,9 +106,9 @@ choice-loop-place-preserved t c = λ s.
     map_more alternative xs i x c.loop-place-test.true ∙ ap (λ (z : Alternative). map alternative (take i xs) ++ alternative z ∷ []) (sym c.index-alternatives-place.is) in
     let pushed : map alternative_view new ≡ map alternative_view old ++ alternative_view y ∷ [] =
     ap (λ (l : List MadeAlternative). map alternative_view l) c.in_ok-push.ensures.items ∙ map-append alternative_view old (y ∷ []) in
-    let seen : alternative_view y ≡ record { name = string_bytes y.name; type = ty_view y.ty } = alternative_is y in
-    let named : string_bytes c.in_ok-name.name ≡ string_bytes x.name = c.in_ok-name.ensures.cases in
-    let all = alternative_more m automatic (map alternative (take i xs)) (map alternative_view old) (alternative x) (record { name = string_bytes y.name; type = ty_view y.ty }) i (length_front alternative xs i c.loop-place-test.true) (c.loop-place.invariant s) named (c.in_ok-ty.ensures.value (can_make-alternative c.args.self.now.module.now c.args.self.now xs i x c.loop-place-test.true c.index-alternatives-place.is s)) in
+    let seen : alternative_view y ≡ record { name = y.name; type = ty_view y.ty } = alternative_is y in
+    let named : c.in_ok-name.name ≡ x.name = c.in_ok-name.ensures.cases in
+    let all = alternative_more m automatic (map alternative (take i xs)) (map alternative_view old) (alternative x) (record { name = y.name; type = ty_view y.ty }) i (length_front alternative xs i c.loop-place-test.true) (c.loop-place.invariant s) named (c.in_ok-ty.ensures.value (can_make-alternative c.args.self.now.module.now c.args.self.now xs i x c.loop-place-test.true c.index-alternatives-place.is s)) in
     subst (λ (ws : List (List ℕ × Form)). AreAlternatives m automatic 0 ws (map alternative_view new)) (sym more)
     (subst (λ (vs : List AlternativeView). AreAlternatives m automatic 0 (map alternative (take i xs) ++ alternative x ∷ []) vs) (sym (pushed ∙ ap (λ (v : AlternativeView). map alternative_view old ++ v ∷ []) seen)) all)
 
@@ -134,13 +134,13 @@ fields-loop-place-preserved t c = λ group s.
     let old = c.loop-place.fields.items in
     let new = c.push.new.self.items in
     let y : Field = record { name = c.in_ok-name.name; ty = c.in_ok-ty.ty; presence = c.in_ok-presence.presence } in
-    let view : ComponentView = record { name = string_bytes y.name; type = ty_view y.ty; requirement = requirement_view y.presence } in
+    let view : ComponentView = record { name = y.name; type = ty_view y.ty; requirement = requirement_view y.presence } in
     let more : map component (take (i + 1) xs) ≡ map component (take i xs) ++ component x ∷ [] =
     map_more component xs i x c.loop-place-test.true ∙ ap (λ (z : Component). map component (take i xs) ++ component z ∷ []) (sym c.index-components-place.is) in
     let pushed : map field_view new ≡ map field_view old ++ field_view y ∷ [] =
     ap (λ (l : List Field). map field_view l) c.in_ok-push.ensures.items ∙ map-append field_view old (y ∷ []) in
     let seen : field_view y ≡ view = field_is y in
-    let named : string_bytes c.in_ok-name.name ≡ string_bytes x.name = c.in_ok-name.ensures.cases in
+    let named : c.in_ok-name.name ≡ x.name = c.in_ok-name.ensures.cases in
     let all = component_more m automatic (map component (take i xs)) (map field_view old) (component x) view i (length_front component xs i c.loop-place-test.true) (c.loop-place.invariant group s) named (c.in_ok-ty.ensures.value (can_make-component c.args.self.now.module.now c.args.self.now group xs i x c.loop-place-test.true c.index-components-place.is s)) c.in_ok-presence.ensures.value in
     subst (λ (ws : List (List ℕ × Form × Ending)). AreComponents m automatic 0 ws (map field_view new)) (sym more)
     (subst (λ (vs : List ComponentView). AreComponents m automatic 0 (map component (take i xs) ++ component x ∷ []) vs) (sym (pushed ∙ ap (λ (v : ComponentView). map field_view old ++ v ∷ []) seen)) all)
