@@ -1,5 +1,5 @@
 -- Lemmas on texts of values, part by part.
-use Rattle.std.proofs.Common.{◌≡◌, ◌∙◌, ◌+◌, ◌-◌, ◌<◌, ◌≤◌, ◌++◌, ℕ, zero, suc, Bool, false, cond, List, [], ◌∷◌, Option, Some, None, OnOk, codes, length, map, take, drop, get_or, min, replicate, string_bytes, refl, sym, ap, ap₂, subst, subst₂, arith, append_assoc, length-drop, take_all}
+use Rattle.std.proofs.Common.{◌≡◌, ◌∙◌, ◌+◌, ◌-◌, ◌<◌, ◌≤◌, ◌++◌, ℕ, zero, suc, Bool, false, cond, List, [], ◌∷◌, Option, Some, None, OnOk, codes, length, map, take, drop, get_or, min, replicate, refl, sym, ap, ap₂, subst, subst₂, arith, append_assoc, length-drop, take_all}
 use Rattle.std.proofs.lemmas.List.{append-nil, map-append, take-map, take_more, take-append-drop, length-replicate}
 use Rattle.std.specs.declared.result.Result.{Result}
 use Rattle.octets.proofs.ResultLemmas.{OnOk-map}
@@ -40,10 +40,10 @@ braced old opened mid new texts a b c =
     regroup p q r s = simp append_assoc
 
 -- the text of an alternative, by its place
-pub alternative_at : (xs : List Alternative) (which : ℕ) (a : Alternative) (v : Val) → which < length xs → a ≡ get_or xs which a → alternative_text (alternatives_view xs) which v ≡ string_bytes a.name ++ codes " : " ++ text_of (ty_view a.ty) v
+pub alternative_at : (xs : List Alternative) (which : ℕ) (a : Alternative) (v : Val) → which < length xs → a ≡ get_or xs which a → alternative_text (alternatives_view xs) which v ≡ a.name ++ codes " : " ++ text_of (ty_view a.ty) v
 alternative_at [] which a v below is = absurd (omega arith)
 alternative_at (x ∷ xs) zero a v below is =
-    ap (λ (w : AlternativeView). w.name ++ codes " : " ++ text_of w.type v) (alternative_is x) ∙ ap (λ (y : Alternative). string_bytes y.name ++ codes " : " ++ text_of (ty_view y.ty) v) (sym is)
+    ap (λ (w : AlternativeView). w.name ++ codes " : " ++ text_of w.type v) (alternative_is x) ∙ ap (λ (y : Alternative). y.name ++ codes " : " ++ text_of (ty_view y.ty) v) (sym is)
 alternative_at (x ∷ xs) (suc which) a v below is = alternative_at xs which a v (omega arith) is
 
 pub no_alternative_past : (xs : List Alternative) (which : ℕ) (v : Val) → length xs ≤ which → alternative_text (alternatives_view xs) which v ≡ []
@@ -51,11 +51,11 @@ no_alternative_past [] which v past = refl
 no_alternative_past (x ∷ xs) zero v past = absurd (omega arith)
 no_alternative_past (x ∷ xs) (suc which) v past = no_alternative_past xs which v (omega arith)
 
-pub chosen_added : {E : Type 0} (r : Result (Unit {0}) E) (old one two new : List ℕ) (xs : List Alternative) (which : ℕ) (a : Alternative) (v : Val) → which < length xs → a ≡ get_or xs which a → one ≡ old ++ string_bytes a.name → two ≡ one ++ codes " : "
+pub chosen_added : {E : Type 0} (r : Result (Unit {0}) E) (old one two new : List ℕ) (xs : List Alternative) (which : ℕ) (a : Alternative) (v : Val) → which < length xs → a ≡ get_or xs which a → one ≡ old ++ a.name → two ≡ one ++ codes " : "
     → Added r two (text_of (ty_view a.ty) v) new → Added r old (alternative_text (alternatives_view xs) which v) new
 chosen_added r old one two new xs which a v below at named colon put =
     OnOk-map r _ _
-    (λ e. e ∙ (ap (λ m. m ++ text_of (ty_view a.ty) v) (colon ∙ ap (λ m. m ++ codes " : ") named) ∙ (regroup old (string_bytes a.name) (codes " : ") (text_of (ty_view a.ty) v) ∙ ap (λ x. old ++ x) (sym (alternative_at xs which a v below at)))))
+    (λ e. e ∙ (ap (λ m. m ++ text_of (ty_view a.ty) v) (colon ∙ ap (λ m. m ++ codes " : ") named) ∙ (regroup old a.name (codes " : ") (text_of (ty_view a.ty) v) ∙ ap (λ x. old ++ x) (sym (alternative_at xs which a v below at)))))
     put
   where
     regroup : (p q r' s : List ℕ) → ((p ++ q) ++ r') ++ s ≡ p ++ (q ++ r' ++ s)
@@ -66,14 +66,14 @@ abbrev pub texts_from : List Field → List (Option Value) → ℕ → List (Lis
 texts_from fields slots i = component_texts (components_view (drop i fields)) (slots_view (drop i slots))
 
 pub present_at : (fields : List Field) (slots : List (Option Value)) (i : ℕ) (f : Field) (v : Value) → i < length fields → i < length slots → f ≡ get_or fields i f → Some v ≡ get_or slots i (Some v)
-    → texts_from fields slots i ≡ (string_bytes f.name ++ codes " " ++ text_of (ty_view f.ty) (value_view v)) ∷ texts_from fields slots (suc i)
+    → texts_from fields slots i ≡ (f.name ++ codes " " ++ text_of (ty_view f.ty) (value_view v)) ∷ texts_from fields slots (suc i)
 present_at [] slots i f v l k at stands = absurd (omega arith)
 present_at (g ∷ fields) [] i f v l k at stands = absurd (omega arith)
 present_at (g ∷ fields) (None ∷ slots) zero f v l k at stands = cc
 present_at (g ∷ fields) (Some w ∷ slots) zero f v l k at stands =
     let same : w ≡ v = cc stands in
     ap₂ (λ (x : ComponentView) (y : Value). (x.name ++ codes " " ++ text_of x.type (value_view y)) ∷ component_texts (components_view fields) (slots_view slots)) (field_is g) same
-    ∙ ap (λ (h : Field). (string_bytes h.name ++ codes " " ++ text_of (ty_view h.ty) (value_view v)) ∷ component_texts (components_view fields) (slots_view slots)) (sym at)
+    ∙ ap (λ (h : Field). (h.name ++ codes " " ++ text_of (ty_view h.ty) (value_view v)) ∷ component_texts (components_view fields) (slots_view slots)) (sym at)
 present_at (g ∷ fields) (None ∷ slots) (suc i) f v l k at stands = present_at fields slots i f v (omega arith) (omega arith) at stands
 present_at (g ∷ fields) (Some w ∷ slots) (suc i) f v l k at stands = present_at fields slots i f v (omega arith) (omega arith) at stands
 

@@ -40,7 +40,7 @@ pub(crate) fn put_value(ty: &Ty, value: &Value, out: &mut String) -> Result<(), 
             let Some(alternative) = alternatives.get(*which) else {
                 return Ok(());
             };
-            out.push_str(&alternative.name)?;
+            out.push_str(alternative.name.as_str())?;
             out.push_str(" : ")?;
             put_value(&alternative.ty, inner, out)
         }
@@ -95,9 +95,9 @@ fn put_components(
 // Appends the name of a component, a space and its text.
 #[cycle(printing)]
 fn put_component(field: &Field, value: &Value, out: &mut String) -> Result<(), NoMemory>
-    ensures { OnOk result (string_bytes out.new ≡ string_bytes out.old ++ string_bytes (field.now).name ++ codes " " ++ text_of (ty_view (field.now).ty) (value_view value.now)) }
+    ensures { OnOk result (string_bytes out.new ≡ string_bytes out.old ++ (field.now).name ++ codes " " ++ text_of (ty_view (field.now).ty) (value_view value.now)) }
 {
-    out.push_str(&field.name)?;
+    out.push_str(field.name.as_str())?;
     out.push(' ')?;
     put_value(&field.ty, value, out)
 }

@@ -57,8 +57,8 @@ put_value-returns-in_ok-push_str-in-Choice-Chosen-2 t c =
     let at : a ≡ get_or alternatives.items which a = found.1 ∙ ap (λ (xs : List Alternative). get_or xs which a) listed in
     text_along c.put_value.result (string_bytes c.args.out.now) (string_bytes c.put_value.new.out) _ _ _ _ (ap ty_view c.in-Choice-Chosen.is-0 ∙ ty-Choice alternatives) (ap value_view c.in-Choice-Chosen.is-1 ∙ value-Chosen which inner)
     (chosen_added c.put_value.result (string_bytes c.args.out.now) (string_bytes c.push_str-in-Choice-Chosen.new.self) (string_bytes c.push_str-in-Choice-Chosen-2.new.self) (string_bytes c.put_value.new.out) alternatives.items which a (value_view inner.value) below at
-    (c.in_ok-push_str-in-Choice-Chosen.ensures.bytes ∙ ap (λ n. string_bytes c.args.out.now ++ n) c.deref-in-Choice-Chosen-2.ensures) c.in_ok-push_str-in-Choice-Chosen-2.ensures.bytes
-    (subst (λ (w : Value). Added c.put_value.result (string_bytes c.push_str-in-Choice-Chosen-2.new.self) (text_of (ty_view a.ty) (value_view w)) (string_bytes c.put_value.new.out)) c.deref-in-Choice-Chosen-3.ensures c.put_value.ensures))
+    (c.in_ok-push_str-in-Choice-Chosen.ensures.bytes ∙ ap (λ n. string_bytes c.args.out.now ++ n) c.as_str.ensures) c.in_ok-push_str-in-Choice-Chosen-2.ensures.bytes
+    (subst (λ (w : Value). Added c.put_value.result (string_bytes c.push_str-in-Choice-Chosen-2.new.self) (text_of (ty_view a.ty) (value_view w)) (string_bytes c.put_value.new.out)) c.deref-in-Choice-Chosen-2.ensures c.put_value.ensures))
 
 pub put_components-loop-place-preserved : goal.put_components-loop-place-preserved
 put_components-loop-place-preserved t c =
@@ -76,10 +76,10 @@ put_components-loop-place-preserved t c =
           let v = w.in-Some.value in
           let f = w.index-fields-place.result in
           let stands : Some v ≡ get_or slots i (Some v) = sym w.in-Some.is ∙ c.index-slots-place.is ∙ ap (λ (d : Option Value). get_or slots i d) w.in-Some.is in
-          let one = ap (λ k. (string_bytes f.name ++ codes " " ++ text_of (ty_view f.ty) (value_view v)) ∷ texts_from fields slots k) next in
+          let one = ap (λ k. (f.name ++ codes " " ++ text_of (ty_view f.ty) (value_view v)) ∷ texts_from fields slots k) next in
           let new = string_bytes w.put_component.new.out in
           subst₂ (λ (o : String Global) (b : Bool). string_bytes o ++ led (cond b (codes " ") (codes ", ")) (texts_from fields slots (i + 1)) ≡ whole) (sym w.out-is) (sym w.is_first-is)
-          (one_more c.loop-place.is_first whole now (string_bytes w.put_lead.new.out) new (string_bytes f.name) (text_of (ty_view f.ty) (value_view v)) (texts_from fields slots i) (texts_from fields slots (i + 1)) c.loop-place.invariant
+          (one_more c.loop-place.is_first whole now (string_bytes w.put_lead.new.out) new f.name (text_of (ty_view f.ty) (value_view v)) (texts_from fields slots i) (texts_from fields slots (i + 1)) c.loop-place.invariant
           (present_at fields slots i f v there here w.index-fields-place.is stands ∙ one) w.in_ok-put_lead-in-Some.ensures w.in_ok-put_component-in-Some.ensures)
       | put_components-in-None w ↦
           let stands : None ≡ get_or slots i None = sym w.in-None.is ∙ c.index-slots-place.is ∙ ap (λ (d : Option Value). get_or slots i d) w.in-None.is in
