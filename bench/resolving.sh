@@ -1,5 +1,6 @@
 #!/usr/bin/env bash
-# Prints what resolving a name costs, on modules that are made in code.
+# Prints what resolving a name costs, on modules that are made in code, and how much memory was resident at
+# most, which may be 122,880 KiB. Needs `cc`, for bench/floor.c, which measures.
 #
 #     bench/resolving.sh
 #
@@ -18,7 +19,7 @@ readonly work
 trap 'rm -rf "$work"' EXIT
 
 mkdir -p "$work/crates/resolving/src"
-for crate in octets primitives strings types lexis syntax builtin notation; do
+for crate in octets primitives strings names types lexis syntax builtin notation; do
     cp -r "$top/crates/$crate" "$work/crates"
 done
 cp "$top/bench/resolving/main.txt" "$work/crates/resolving/src/main.rt"
@@ -27,11 +28,20 @@ octets:
 primitives: octets
 strings: simdutf8
 lexis:
-types: octets primitives strings
-syntax: lexis
+names:
+types: octets primitives strings names
+syntax: lexis names
 builtin: lexis syntax octets primitives strings types indexmap
 notation: lexis syntax octets primitives strings types builtin indexmap
 resolving: notation types
 END
 cd "$work/crates/resolving"
 rt run
+cc -O2 -o "$work/floor" "$top/bench/floor.c"
+read -r _ resident < <("$work/floor" measure 1 "$work/crates/resolving/out/resolving")
+readonly resident
+echo "$resident KiB resident at most"
+if ((resident > 122880)); then
+    echo 'resolving: more than 122,880 KiB are resident' >&2
+    exit 1
+fi
