@@ -31,3 +31,8 @@ returns-in-Some-take-clause-never c =
     let old = with_string c.match-self.self.nest string in
     subst (λ (o : Cursor). IfErr c.close.result (λ refusal. IsFinal refusal → (more : List ℕ) → CanFinish o (octets ++ more) → ⊥)) (taken_out c)
     (IfErr-map c.close.result (λ refusal. IsFinal refusal → (all : List ℕ) → CanFinish old all → ⊥) (λ refusal. IsFinal refusal → (more : List ℕ) → CanFinish old (octets ++ more) → ⊥) (λ refusal h final more. h final (octets ++ more)) c.close.ensures.never)
+
+pub returns-then-not-is_closed-clause-never : goal.returns-then-not-is_closed-clause-never
+returns-then-not-is_closed-clause-never c =
+    let octets = c.args.octets.now in
+    subst (λ (o : Cursor). IfErr c.pass.result (λ refusal. IsFinal refusal → (more : List ℕ) → CanFinish o (octets ++ more) → ⊥)) (put_back c.args.self.now c.in-Some.string c.in-Some.is) c.pass.ensures.never
