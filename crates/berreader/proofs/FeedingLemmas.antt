@@ -18,6 +18,7 @@ use Rattle.berreader.specs.declared.nest.Nest.{Nest}
 use Rattle.types.specs.WellFormed.{IsWellFormed}
 use Rattle.berreader.specs.declared.pieces.Pieces.{Pieces}
 use Rattle.berreader.specs.Cursor.{open_in, taken_of, CanFinish, IsStep, IsTaken, IsWhole, IsSoundCursor}
+use Rattle.berreader.specs.Cut.{IsCut}
 use Rattle.berreader.specs.Nest.{AreSound, AreInside, IsSoundNest}
 use Rattle.berreader.proofs.CursorLemmas.{count_taken, sound_nest}
 use Rattle.berreader.specs.Feeding.{HasValue, GoesOn, HasBeenFed, IsDone, IsDoneBefore, IsDoneBehind, IsFed, IsFedStep, IsFresh, IsMore, IsTakenCut, IsTakenWhole, IsGoingOn, IsOfFeeding, IsSoundPieces, IsSoundReader, shape_of}
@@ -103,9 +104,9 @@ done_on_the_way initial now new octets before at used value way step accepts kep
     }
 
 -- the rest is kept
-pub kept_on_the_way : (initial now new : Pieces) (octets before : List ℕ) (at : ℕ) → IsOnTheWay initial now octets at → new.cursor ≡ now.cursor → new.refused ≡ now.refused → new.pending.items ≡ now.pending.items ++ drop at octets → (CanFinish now.cursor (drop at octets) → ⊥) → GoesOn initial.cursor before octets
+pub kept_on_the_way : (initial now new : Pieces) (octets before : List ℕ) (at : ℕ) → IsOnTheWay initial now octets at → new.cursor ≡ now.cursor → new.refused ≡ now.refused → new.pending.items ≡ now.pending.items ++ drop at octets → IsCut now.cursor (drop at octets) → (CanFinish now.cursor (drop at octets) → ⊥) → GoesOn initial.cursor before octets
     → HasBeenFed new (before ++ octets)
-kept_on_the_way initial now new octets before at way cursor accepts kept none on =
+kept_on_the_way initial now new octets before at way cursor accepts kept cut none on =
     let goes = way.on before on in
     let pending : new.pending.items ≡ drop at octets = kept ∙ ap (λ o. o ++ drop at octets) way.kept in
     let here : GoesOn new.cursor (before ++ take at octets) (drop at octets) = subst (λ n. GoesOn n (before ++ take at octets) (drop at octets)) (sym cursor) goes in
@@ -115,6 +116,7 @@ kept_on_the_way initial now new octets before at way cursor accepts kept none on
       before = before ++ take at octets;
       joined = whole ∙ ap (λ o. (before ++ take at octets) ++ o) (sym pending);
       goes_on = subst (GoesOn new.cursor (before ++ take at octets)) (sym pending) here;
+      cut = subst (IsCut new.cursor) (sym pending) (subst (λ n. IsCut n (drop at octets)) (sym cursor) cut);
       none = λ h. none_of_cut new.cursor (before ++ take at octets) (drop at octets) here (subst (λ n. CanFinish n (drop at octets) → ⊥) (sym cursor) none) (subst (HasValue (ty_view new.cursor.nest.ty.now)) whole h);
     }
 
@@ -157,8 +159,8 @@ kept_at now new octets slice fed cursor kept = record {
 }
 
 -- octets are missing
-pub fed_at : (now new : Pieces) (octets : List ℕ) → IsAt now octets → new.cursor ≡ now.cursor → new.pending.items ≡ now.pending.items → new.refused ≡ None → (CanFinish now.cursor now.pending.items → ⊥) → HasBeenFed new octets
-fed_at now new octets at cursor kept accepts none =
+pub fed_at : (now new : Pieces) (octets : List ℕ) → IsAt now octets → new.cursor ≡ now.cursor → new.pending.items ≡ now.pending.items → new.refused ≡ None → IsCut now.cursor now.pending.items → (CanFinish now.cursor now.pending.items → ⊥) → HasBeenFed new octets
+fed_at now new octets at cursor kept accepts cut none =
     let here : GoesOn new.cursor at.before now.pending.items = subst (λ n. GoesOn n at.before now.pending.items) (sym cursor) at.goes_on in
     let never : CanFinish new.cursor now.pending.items → ⊥ = subst (λ n. CanFinish n now.pending.items → ⊥) (sym cursor) none in
     record {
@@ -166,6 +168,7 @@ fed_at now new octets at cursor kept accepts none =
       before = at.before;
       joined = at.joined ∙ ap (λ o. at.before ++ o) (sym kept);
       goes_on = subst (GoesOn new.cursor at.before) (sym kept) here;
+      cut = subst (IsCut new.cursor) (sym kept) (subst (λ n. IsCut n now.pending.items) (sym cursor) cut);
       none = λ h. none_of_cut new.cursor at.before now.pending.items here never (subst (HasValue (ty_view new.cursor.nest.ty.now)) at.joined h);
     }
 

@@ -13,11 +13,13 @@ use Rattle.berreader.specs.declared.pieces.Pieces.{Pieces}
 use Rattle.berreader.specs.declared.reader.Step as answer
 use Rattle.contents.specs.Parts.{IsPartWithin}
 use Rattle.contents.proofs.StepLemmas.{opening_some}
+use Rattle.berreader.specs.Cut.{IsCut}
 use Rattle.berreader.specs.Nest.{end_inside, CanComplete, StandsAt}
 use Rattle.berreader.specs.Stack.{Layer, layers_of}
 use Rattle.berreader.specs.Feeding.{HasBeenFed, HasValue, IsDone, IsFed, IsFedStep, IsFinished, IsFresh, IsMore, shape_of}
 use Rattle.berreader.proofs.AcceptedLemmas.{within_of_accepted}
 use Rattle.berreader.proofs.FeedingLemmas.{done_is_fed}
+use Rattle.berreader.proofs.CutLemmas.{none_cut}
 use Rattle.berreader.proofs.CursorLemmas.{finishes, no_octets, none_begun, taken_by_nest, taken_of_nest}
 
 none_in_none : (shape : Shape) → HasValue shape [] → ⊥
@@ -40,6 +42,7 @@ fresh_has_been_fed pieces fresh =
             subst (λ n. HasFront (IsPartWithin most_nested shape MAX_ENCODING n) (kept ++ more)) (sym fresh.taken) (within_of_accepted shape (kept ++ more) h) in
             finishes cursor (kept ++ more) fresh.string (subst (λ l. CanComplete shape l cursor.nest.taken (kept ++ more)) (sym fresh.layers) part);
       };
+      cut = subst (IsCut cursor) (sym fresh.kept) (none_cut cursor fresh.string fresh.layers fresh.taken);
       none = none_in_none shape;
     }
 

@@ -13,3 +13,5 @@ pub mod HeldLemmas
 pub mod NestStepLemmas
 pub mod StringLemmas
 pub mod CursorLemmas
+pub mod CutLemmas
+pub mod CutInstances

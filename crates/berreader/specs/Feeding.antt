@@ -15,6 +15,7 @@ use Rattle.berreader.specs.declared.cursor.Cursor.{Cursor}
 use Rattle.berreader.specs.declared.pieces.Pieces.{Pieces}
 use Rattle.berreader.specs.declared.reader.Step as step
 use Rattle.berreader.specs.Cursor.{depth_of, CanFinish, HasTaken, IsSoundCursor}
+use Rattle.berreader.specs.Cut.{IsCut}
 use Rattle.berreader.specs.Stack.{layers_of}
 
 -- 2 to 11 and 17: what a reader over pieces refuses a piece with
@@ -34,12 +35,14 @@ pub record GoesOn (cursor : Cursor) (before rest : List ℕ) : Type 0 where
   pub taken : HasTaken cursor before
   pub forth : (more : List ℕ) → HasValue (ty_view cursor.nest.ty.now) (before ++ (rest ++ more)) → CanFinish cursor (rest ++ more)
 
--- these octets have been fed since no value was begun: first those of whole steps, and then those that are kept
+-- these octets have been fed since no value was begun: first those of whole steps, and then those that are kept, which
+-- end inside what may come next
 pub record HasBeenFed (pieces : Pieces) (octets : List ℕ) : Type 0 where
   pub accepts : pieces.refused ≡ None
   pub before : List ℕ
   pub joined : octets ≡ before ++ pieces.pending.items
   pub goes_on : GoesOn pieces.cursor before pieces.pending.items
+  pub cut : IsCut pieces.cursor pieces.pending.items
   pub none : ¬ HasValue (shape_of pieces) octets
 
 -- no value is begun

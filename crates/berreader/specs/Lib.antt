@@ -2,5 +2,6 @@ pub mod Stack
 pub mod Nest
 pub mod Strings
 pub mod Cursor
+pub mod Cut
 pub mod Feeding
 pub mod Weight

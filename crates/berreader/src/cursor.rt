@@ -8,6 +8,8 @@ ghost use Rattle.types.specs.View.{ty_view};
 ghost use Rattle.berreader.specs.Stack.{layers_of, IsCounted};
 ghost use Rattle.berreader.specs.Nest.{IsSoundNest};
 ghost use Rattle.berreader.specs.Strings.{IsSoundString};
+ghost use Rattle.contents.specs.Cut.{IsStringCut};
+ghost use Rattle.berreader.specs.Cut.{IsCut};
 ghost use Rattle.berreader.specs.Cursor.{taken_of, with_string, CanFinish, IsSoundCursor, IsStep, IsTaken};
 
 use crate::nest::{Nest, OpenString};
@@ -52,6 +54,7 @@ impl<'a> Cursor<'a> {
         ensures taken { IfOk result (λ used. IsStep self.old self.new octets.now whole.new used) }
         ensures sound { OnOk result (IsSoundCursor self.new) }
         ensures truncated { result ≡ Err Refusal.Truncated → ¬ CanFinish self.old octets.now }
+        ensures cut { result ≡ Err Refusal.Truncated → IsCut self.old octets.now }
         ensures never { IfErr result (λ refusal. IsFinal refusal → (more : List ℕ) →
             ¬ CanFinish self.old (octets.now ++ more)) }
         ensures unchanged { result ≡ Err Refusal.Truncated → self.new ≡ self.old }
@@ -78,6 +81,7 @@ impl<'a> Cursor<'a> {
         ensures taken { IfOk result (λ used. IsStep self.old self.new octets.now whole.new used) }
         ensures sound { OnOk result (IsSoundCursor self.new) }
         ensures truncated { result ≡ Err Refusal.Truncated → ¬ CanFinish self.old octets.now }
+        ensures cut { result ≡ Err Refusal.Truncated → IsCut self.old octets.now }
         ensures never { IfErr result (λ refusal. IsFinal refusal → (more : List ℕ) →
             ¬ CanFinish self.old (octets.now ++ more)) }
         ensures unchanged { result ≡ Err Refusal.Truncated → self.new ≡ self.old }
@@ -107,6 +111,7 @@ impl<'a> Cursor<'a> {
         ensures taken { IfOk result (λ used. IsStep self.old self.new octets.now whole.new used) }
         ensures sound { OnOk result (IsSoundCursor self.new) }
         ensures truncated { result ≡ Err Refusal.Truncated → ¬ CanFinish self.old octets.now }
+        ensures cut { result ≡ Err Refusal.Truncated → IsCut self.old octets.now }
         ensures never { IfErr result (λ refusal. IsFinal refusal → (more : List ℕ) →
             ¬ CanFinish self.old (octets.now ++ more)) }
         ensures unchanged { result ≡ Err Refusal.Truncated → self.new ≡ self.old }
@@ -164,6 +169,7 @@ fn pass(nest: &Nest<'_>, string: &mut OpenString<'_>, octets: &[u8]) -> Result<u
     ensures taken { IfOk result (λ used. IsTaken (with_string nest.now string.old) (with_string nest.now string.new) octets.now used) }
     ensures sound { OnOk result (IsSoundString nest.now string.new) }
     ensures truncated { result ≡ Err Refusal.Truncated → ¬ CanFinish (with_string nest.now string.old) octets.now }
+    ensures cut { result ≡ Err Refusal.Truncated → IsStringCut string.old.kind string.old.segments octets.now }
     ensures never { IfErr result (λ refusal. IsFinal refusal → (more : List ℕ) →
         ¬ CanFinish (with_string nest.now string.old) (octets.now ++ more)) }
     ensures unchanged { result ≡ Err Refusal.Truncated → string.new ≡ string.old }

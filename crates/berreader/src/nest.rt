@@ -11,6 +11,7 @@ ghost use Rattle.types.specs.Shape.{Shape, Val};
 ghost use Rattle.types.specs.View.{ty_view, value_view};
 ghost use Rattle.berreader.specs.Stack.{layers_of, IsCounted};
 ghost use Rattle.contents.specs.Holding.{IsOfDue};
+ghost use Rattle.berreader.specs.Cut.{IsNestCut};
 ghost use Rattle.berreader.specs.Nest.{end_inside, CanFinish, EndsInside, IsEndInside, IsCome, IsDueInside, IsDueNext, IsReadNext, IsSoundNest, IsStep, IsTaken};
 ghost use Rattle.contents.specs.Parts.{IsGoodType, IsWrapped};
 ghost use Rattle.berreader.specs.Strings.{IsClosed, IsFound, IsOpenedString, IsSoundString, IsString};
@@ -97,6 +98,7 @@ impl<'a> Nest<'a> {
         ensures taken { IfOk result (λ used. IsFound self.old self.new octets.now string.new whole.new used) }
         ensures sound { OnOk result (IsSoundNest self.new) }
         ensures truncated { result ≡ Err Refusal.Truncated → ¬ CanFinish self.old octets.now }
+        ensures cut { result ≡ Err Refusal.Truncated → IsNestCut self.old octets.now }
         ensures never { IfErr result (λ refusal. IsFinal refusal → (more : List ℕ) →
             ¬ CanFinish self.old (octets.now ++ more)) }
         ensures unchanged { result ≡ Err Refusal.Truncated → self.new ≡ self.old }
@@ -151,6 +153,7 @@ impl<'a> Nest<'a> {
             (λ used. (used ≤ length octets.now)
             × IsEndInside (layers_of self.now.layers) self.now.taken (take used octets.now))) }
         ensures truncated { result ≡ Err Refusal.Truncated → ¬ CanFinish self.now octets.now }
+        ensures cut { result ≡ Err Refusal.Truncated → IsNestCut self.now octets.now }
         ensures never { IfErr result (λ refusal. IsFinal refusal → (more : List ℕ) →
             ¬ CanFinish self.now (octets.now ++ more)) }
         ensures numbers { IfErr result IsOfReading }
@@ -208,6 +211,7 @@ impl<'a> Nest<'a> {
         ensures taken { IfOk result (λ used. IsFound self.old self.new octets.now string.new whole.new used) }
         ensures sound { OnOk result (IsSoundNest self.new) }
         ensures truncated { result ≡ Err Refusal.Truncated → ¬ CanFinish self.old octets.now }
+        ensures cut { result ≡ Err Refusal.Truncated → IsNestCut self.old octets.now }
         ensures never { IfErr result (λ refusal. IsFinal refusal → (more : List ℕ) →
             ¬ CanFinish self.old (octets.now ++ more)) }
         ensures unchanged { result ≡ Err Refusal.Truncated → self.new ≡ self.old }
@@ -231,6 +235,7 @@ impl<'a> Nest<'a> {
             ¬ EndsInside (layers_of self.now.layers) self.now.taken (octets.now ++ more) }
         ensures value { IfOk result (λ next. IsReadNext self.now octets.now next) }
         ensures truncated { result ≡ Err Refusal.Truncated → ¬ CanFinish self.now octets.now }
+        ensures cut { result ≡ Err Refusal.Truncated → IsNestCut self.now octets.now }
         ensures never { IfErr result (λ refusal. IsFinal refusal → (more : List ℕ) →
             ¬ CanFinish self.now (octets.now ++ more)) }
         ensures numbers { IfErr result IsOfReading }
@@ -296,6 +301,7 @@ impl<'a> Nest<'a> {
         requires constructed { next.constructed ≡ true }
         ensures begun { IfOk result (λ used. IsFound self.now self.now octets.now string.new None used) }
         ensures truncated { result ≡ Err Refusal.Truncated → ¬ CanFinish self.now octets.now }
+        ensures cut { result ≡ Err Refusal.Truncated → IsNestCut self.now octets.now }
         ensures never { IfErr result (λ refusal. IsFinal refusal → (more : List ℕ) →
             ¬ CanFinish self.now (octets.now ++ more)) }
         ensures kept { OnErr result (string.new ≡ None) }
@@ -321,6 +327,7 @@ impl<'a> Nest<'a> {
         requires constructed { next.constructed ≡ true }
         ensures begun { IfOk result (λ p. IsOpenedString self.now self.now octets.now p.0 p.1) }
         ensures truncated { result ≡ Err Refusal.Truncated → ¬ CanFinish self.now octets.now }
+        ensures cut { result ≡ Err Refusal.Truncated → IsNestCut self.now octets.now }
         ensures never { IfErr result (λ refusal. IsFinal refusal → (more : List ℕ) →
             ¬ CanFinish self.now (octets.now ++ more)) }
         ensures numbers { IfErr result IsOfReading }
@@ -361,6 +368,7 @@ impl<'a> Nest<'a> {
         ensures taken { IfOk result (λ used. IsStep self.old self.new octets.now whole.new used) }
         ensures sound { OnOk result (IsSoundNest self.new) }
         ensures truncated { result ≡ Err Refusal.Truncated → ¬ CanFinish self.old octets.now }
+        ensures cut { result ≡ Err Refusal.Truncated → IsNestCut self.old octets.now }
         ensures never { IfErr result (λ refusal. IsFinal refusal → (more : List ℕ) →
             ¬ CanFinish self.old (octets.now ++ more)) }
         ensures unchanged { result ≡ Err Refusal.Truncated → self.new ≡ self.old }
@@ -389,6 +397,7 @@ impl<'a> Nest<'a> {
         ensures taken { IfOk result (λ used. IsTaken self.old self.new octets.now used) }
         ensures sound { OnOk result (IsSoundNest self.new) }
         ensures truncated { result ≡ Err Refusal.Truncated → ¬ CanFinish self.old octets.now }
+        ensures cut { result ≡ Err Refusal.Truncated → IsNestCut self.old octets.now }
         ensures never { IfErr result (λ refusal. IsFinal refusal → (more : List ℕ) →
             ¬ CanFinish self.old (octets.now ++ more)) }
         ensures unchanged { result ≡ Err Refusal.Truncated → self.new ≡ self.old }

@@ -6,6 +6,7 @@ ghost use Rattle.types.specs.Refusal.{IsFinal, IsOfReading};
 ghost use Rattle.types.specs.View.{ty_view};
 ghost use Rattle.berreader.specs.Stack.{layers_of, IsCounted};
 ghost use Rattle.berreader.specs.Cursor.{taken_of, CanFinish, IsSoundCursor, IsStep};
+ghost use Rattle.berreader.specs.Cut.{IsCut};
 ghost use Rattle.berreader.specs.Feeding.{GoesOn, HasBeenFed, HasValue, IsFed, IsFinished, IsFresh, IsGoingOn, IsOfFeeding, IsSoundPieces, IsSoundReader, IsTakenCut, IsTakenWhole, shape_of};
 
 use crate::cursor::Cursor;
@@ -50,6 +51,7 @@ impl<'a> Pieces<'a> {
         ensures shape { OnOk result (shape_of self.new ≡ shape_of self.old) }
         ensures there { IfOk result (λ used. used ≤ length piece.now) }
         ensures value { IfOk result (λ used. (octets : List ℕ) → HasBeenFed self.old octets → IsFed self.old self.new octets piece.now whole.new used) }
+        ensures empty { piece.now ≡ [] → self.old.refused ≡ None → (result ≡ Ok 0) × (whole.new ≡ None) × (self.new ≡ self.old) }
         ensures never { self.old.refused ≡ None → IfErr result (λ refusal. IsFinal refusal → (octets more : List ℕ) →
             HasBeenFed self.old octets → ¬ HasValue (shape_of self.old) ((octets ++ piece.now) ++ more)) }
         ensures refused { IfErr result (λ refusal. self.new.refused ≡ Some refusal) }
@@ -58,6 +60,9 @@ impl<'a> Pieces<'a> {
     {
         if let Some(refusal) = self.refused {
             return Err(refusal);
+        }
+        if piece.is_empty() {
+            return Ok(0);
         }
         match self.take(piece, whole) {
             Ok(used) => Ok(used),
@@ -243,6 +248,7 @@ impl<'a> Pieces<'a> {
         ensures taken { IfOk result (λ used. IsStep self.old.cursor self.new.cursor octets.now whole.new used) }
         ensures sound { OnOk result (IsSoundCursor self.new.cursor) }
         ensures truncated { result ≡ Err Refusal.Truncated → ¬ CanFinish self.old.cursor octets.now }
+        ensures cut { result ≡ Err Refusal.Truncated → IsCut self.old.cursor octets.now }
         ensures never { IfErr result (λ refusal. IsFinal refusal → (more : List ℕ) →
             ¬ CanFinish self.old.cursor (octets.now ++ more)) }
         ensures unchanged { result ≡ Err Refusal.Truncated → self.new.cursor ≡ self.old.cursor }
@@ -260,6 +266,7 @@ impl<'a> Pieces<'a> {
         ensures taken { IfOk result (λ used. IsStep self.old.cursor self.new.cursor self.old.pending.items whole.new used) }
         ensures sound { OnOk result (IsSoundCursor self.new.cursor) }
         ensures truncated { result ≡ Err Refusal.Truncated → ¬ CanFinish self.old.cursor self.old.pending.items }
+        ensures cut { result ≡ Err Refusal.Truncated → IsCut self.old.cursor self.old.pending.items }
         ensures never { IfErr result (λ refusal. IsFinal refusal → (more : List ℕ) →
             ¬ CanFinish self.old.cursor (self.old.pending.items ++ more)) }
         ensures unchanged { result ≡ Err Refusal.Truncated → self.new.cursor ≡ self.old.cursor }

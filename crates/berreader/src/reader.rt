@@ -64,7 +64,8 @@ impl<'a> Reader<'a> {
 
     /// Takes a piece, from where the one before it ended. `Done` comes with the piece that completes a value, says
     /// how many octets of the piece do, and leaves the reader as it was made; the octets behind them are not
-    /// looked at. `More` says that the whole piece was taken. An empty piece is answered `More`, until a refusal.
+    /// looked at. `More` says that the whole piece was taken. Until a refusal an empty
+    /// piece is answered `More`, and changes nothing.
     ///
     /// Refused with one of the refusals 2 to 11 where no octets that begin with those that have come could be
     /// accepted, and with `NoMemory`. After a refusal it is answered again, and nothing is taken.
@@ -78,6 +79,7 @@ impl<'a> Reader<'a> {
         ensures held { (octets : List ℕ) → HasBeenFed self.new octets → weight_held self.new ≤ most_weight (shape_of self.new) (length octets) }
         ensures light { IfOk result (λ step. (octets : List ℕ) → HasBeenFed self.old octets → IsLight (shape_of self.old) octets step) }
         ensures value { IfOk result (λ step. (octets : List ℕ) → HasBeenFed self.old octets → IsFedStep self.old self.new octets piece.now step) }
+        ensures empty { piece.now ≡ [] → self.old.refused ≡ None → (result ≡ Ok Step.More) × (self.new ≡ self.old) }
         ensures never { self.old.refused ≡ None → IfErr result (λ refusal. IsFinal refusal → (octets more : List ℕ) →
             HasBeenFed self.old octets → ¬ HasValue (shape_of self.old) ((octets ++ piece.now) ++ more)) }
         ensures refused { IfErr result (λ refusal. self.new.refused ≡ Some refusal) }

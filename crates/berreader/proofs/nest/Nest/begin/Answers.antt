@@ -9,6 +9,8 @@ use Rattle.berreader.specs.Nest.{CanFinish, end_inside, levels_left}
 use Rattle.berreader.specs.Stack.{layers_of}
 use Rattle.berreader.proofs.NestStepLemmas.{part_next, part_next_whole}
 use Rattle.berreader.proofs.StringLemmas.{string_opened, tag_of_leaf}
+use Rattle.contents.specs.Cut.{IsPartCut}
+use Rattle.berreader.proofs.CutLemmas.{part_cut}
 use Rattle.berreader.proofs.nest.Nest.begin.Goals as goal
 
 pub begin_string-requires-clause-tagged : goal.begin_string-requires-clause-tagged
@@ -43,3 +45,16 @@ returns-clause-begun c =
     let nest = c.args.self.now in
     let levels : most_nested - c.depth-levels.result ≡ levels_left (layers_of nest.layers) = ap (λ k. most_nested - k) c.depth-levels.ensures in
     string_opened nest c.args.octets.now c.args.next c.in_ok-kind.kind c.in_ok-kind.segments c.end.result (most_nested - c.depth-levels.result) c.in_ok-kind.used c.requires.next c.requires.leaf c.requires.constructed c.end.ensures levels c.in_ok-kind.ensures.begun
+
+pub returns-in_err-kind-clause-cut : goal.returns-in_err-kind-clause-cut
+returns-in_err-kind-clause-cut c = λ refused.
+    let nest = c.args.self.now in
+    let next = c.args.next in
+    let node = ty_view next.node.now in
+    let octets = c.args.octets.now in
+    let levels : most_nested - c.depth-levels.result ≡ levels_left (layers_of nest.layers) = ap (λ k. most_nested - k) c.depth-levels.ensures in
+    let known = Err-known c.from_residual.result _ _ refused c.from_residual.ensures.1 in
+    part_cut nest octets next c.requires.next
+    (subst (λ t. IsPartCut t node (levels_left (layers_of nest.layers)) (end_inside (layers_of nest.layers)) nest.taken octets) (tag_of_leaf nest octets next c.requires.next c.requires.leaf)
+    (subst (λ e. IsPartCut (tag_of node) node (levels_left (layers_of nest.layers)) e nest.taken octets) c.end.ensures
+    (subst (λ l. IsPartCut (tag_of node) node l c.end.result nest.taken octets) levels (c.in_err-kind.ensures.cut (ap Err (sym known))))))

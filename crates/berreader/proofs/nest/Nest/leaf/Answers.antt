@@ -11,6 +11,9 @@ use Rattle.contents.proofs.ChoiceLemmas.{node_good}
 use Rattle.berreader.proofs.NestLemmas.{own_tag}
 use Rattle.berreader.proofs.NestBackLemmas.{good_next}
 use Rattle.berreader.proofs.NestStepLemmas.{IsNoted, leaf_own, part_next, part_next_whole, sound_noted, ready_noted, step_come, sound_come_nest}
+use Rattle.contents.specs.Cut.{IsPartCut}
+use Rattle.berreader.proofs.CutLemmas.{part_cut}
+use Rattle.berreader.proofs.StringLemmas.{tag_of_leaf}
 use Rattle.berreader.proofs.nest.Nest.leaf.Goals as goal
 
 pub read_leaf-requires-clause-good : goal.read_leaf-requires-clause-good
@@ -83,3 +86,15 @@ returns-clause-sound c =
     let fits : nest.taken + used ≤ end_inside layers = subst (λ e. nest.taken + used ≤ e) c.end.ensures c.in_ok-value.ensures.there.1 in
     let ready = ready_noted nest mid octets next v used noted c.requires.no_end c.requires.next c.in_ok-value.ensures.there.0 fits (c.in_ok-value.ensures.value (levels_left layers)) in
     sound_come_nest mid c.come.new.self (ty_view next.ty.now) next.tag v used c.come.new.whole c.in_ok-come.field-0 (sound_noted nest mid next.which noted) ready.room (c.in_ok-come.ensures.counted counted) c.in_ok-come.ensures.come
+
+pub returns-in_err-value-clause-cut : goal.returns-in_err-value-clause-cut
+returns-in_err-value-clause-cut c = λ refused.
+    let nest = c.args.self.now in
+    let next = c.args.next in
+    let node = ty_view next.node.now in
+    let octets = c.args.octets.now in
+    let levels = levels_left (layers_of nest.layers) in
+    let known = Err-known c.from_residual.result _ _ refused c.from_residual.ensures.1 in
+    part_cut nest octets next c.requires.next
+    (subst (λ t. IsPartCut t node levels (end_inside (layers_of nest.layers)) nest.taken octets) (tag_of_leaf nest octets next c.requires.next c.requires.leaf)
+    (subst (λ e. IsPartCut (tag_of node) node levels e nest.taken octets) c.end.ensures (c.in_err-value.ensures.cut (ap Err (sym known)) levels)))

@@ -1,4 +1,4 @@
-use Rattle.std.proofs.Common.{◌≡◌, ◌++◌, ℕ, List, [], Err, sym, ap, subst, append-nil, Contains}
+use Rattle.std.proofs.Common.{inl, ◌≡◌, ◌++◌, ℕ, List, [], Err, sym, ap, subst, append-nil, Contains}
 use Rattle.octets.proofs.ResultLemmas.{IfErr-from, Err-known}
 use Rattle.types.specs.FirstTags.{first_tags}
 use Rattle.types.specs.Refusal.{IsFinal}
@@ -9,6 +9,7 @@ use Rattle.berreader.specs.Nest.{CanFinish, EndsInside}
 use Rattle.berreader.specs.Stack.{layers_of}
 use Rattle.contents.proofs.ChoiceLemmas.{begins_node}
 use Rattle.berreader.proofs.NestStepLemmas.{tag_next, read_begins}
+use Rattle.contents.specs.Cut.{IsIdentifierCut}
 use Rattle.berreader.proofs.nest.Nest.next.Goals as goal
 
 pub returns-in_err-tag-clause-truncated : goal.returns-in_err-tag-clause-truncated
@@ -43,3 +44,8 @@ pub returns-in_default-clause-never : goal.returns-in_default-clause-never
 returns-in_default-clause-never c =
     let n = begins_node c.in_ok-tag.tag (ty_view c.in_ok-which.ty.now) c.in_ok-which.ensures.value.1 in
     absurd (c.in_default.ensures n.0 n.1)
+
+pub returns-in_err-tag-clause-cut : goal.returns-in_err-tag-clause-cut
+returns-in_err-tag-clause-cut c = λ refused.
+    let known = Err-known c.from_residual.result _ _ refused c.from_residual.ensures.1 in
+    inl (subst (λ n. IsIdentifierCut n c.args.self.now.taken c.args.octets.now) c.end.ensures (c.in_err-tag.ensures.cut (ap Err (sym known))))

@@ -11,6 +11,8 @@ use Rattle.berreader.specs.Nest.{CanFinish}
 use Rattle.berreader.specs.Stack.{Layer, layers_of}
 use Rattle.berreader.proofs.NestLemmas.{form_next, extent_next, own_tag}
 use Rattle.berreader.proofs.NestStepLemmas.{IsOpenedBy, opens_next, node_is_node, taken_opening, sound_opening}
+use Rattle.contents.specs.Cut.{IsLengthCut}
+use Rattle.berreader.proofs.CutLemmas.{opening_cut}
 use Rattle.berreader.proofs.nest.Nest.open.Goals as goal
 
 pub returns-then-not-next-clause-never : goal.returns-then-not-next-clause-never
@@ -102,3 +104,13 @@ returns-clause-sound c =
     let nest = c.args.self.now in
     let new : Nest = record { ty = nest.ty; layers = c.push.new.self; taken = nest.taken + c.args.next.identifier + c.in_ok-size.size } in
     sound_opening nest new c.args.octets.now c.args.next c.in_ok-size.frame (parts_view c.in-Some.holding) c.in_ok-size.size (opened c)
+
+pub returns-in_err-size-clause-cut : goal.returns-in_err-size-clause-cut
+returns-in_err-size-clause-cut c = λ refused.
+    let nest = c.args.self.now in
+    let next = c.args.next in
+    let octets = c.args.octets.now in
+    let i = next.identifier in
+    let known = Err-known c.from_residual.result _ _ refused c.from_residual.ensures.1 in
+    opening_cut nest octets next c.end.result c.requires.next c.if-not-next.false c.requires.parts (omega (arith, c.depth.ensures, c.if-depth-ge-MAX_NESTED.false)) c.end.ensures
+    (subst (IsLengthCut c.end.result (nest.taken + i)) (take_rest octets i) (c.in_err-size.ensures.cut (ap Err (sym known))))

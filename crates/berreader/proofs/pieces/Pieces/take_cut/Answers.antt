@@ -58,7 +58,7 @@ returns-then-is_missing-clause-value c = λ before fed.
     let mid = c.keep.new.self in
     let at = kept_at old mid before c.args.octets.now fed c.keep.ensures.cursor c.in_default.ensures.kept in
     let missing = ap Err (c.is_missing.ensures.0 c.if-is_missing.true) in
-    fed_at mid c.step_kept.new.self (before ++ c.args.octets.now) at (c.in-Err-step_kept.ensures.unchanged missing) c.step_kept.ensures.kept (c.step_kept.ensures.refused ∙ c.keep.ensures.refused ∙ c.requires.accepts) (c.in-Err-step_kept.ensures.truncated missing)
+    fed_at mid c.step_kept.new.self (before ++ c.args.octets.now) at (c.in-Err-step_kept.ensures.unchanged missing) c.step_kept.ensures.kept (c.step_kept.ensures.refused ∙ c.keep.ensures.refused ∙ c.requires.accepts) (c.in-Err-step_kept.ensures.cut missing) (c.in-Err-step_kept.ensures.truncated missing)
 
 pub returns-else-is_missing-clause-never : goal.returns-else-is_missing-clause-never
 returns-else-is_missing-clause-never c = λ final before more fed h.

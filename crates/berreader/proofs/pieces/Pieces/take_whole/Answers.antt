@@ -2,6 +2,7 @@ use Rattle.std.proofs.Common.{◌≡◌, ◌+◌, ap, sym, subst, ◌∙◌, ◌
 use Rattle.types.specs.declared.refusal.Refusal.TheVariants as Refusal
 use Rattle.types.specs.View.{value_view}
 use Rattle.berreader.specs.Cursor.{CanFinish}
+use Rattle.berreader.specs.Cut.{IsCut}
 use Rattle.berreader.specs.Feeding.{IsTakenWhole}
 use Rattle.berreader.proofs.FeedingLemmas.{on_the_way_step, done_on_the_way, kept_on_the_way, none_on_the_way, slice_behind, taken_behind, whole_behind}
 use Rattle.berreader.proofs.pieces.Pieces.take_whole.Goals as goal
@@ -39,4 +40,5 @@ returns-in-Err-clause-value c = λ before on.
     let unchanged = c.in-Err.ensures.unchanged (ap Err (sym truncated)) in
     kept_on_the_way c.args.self.now c.loop-used.self c.keep.new.self octets before at c.loop-used.invariant.0 (c.keep.ensures.cursor ∙ unchanged) (c.keep.ensures.refused ∙ c.step.ensures.refused)
     (c.in_ok-keep-in-Err.ensures.kept ∙ ap (λ o. o ++ take (length octets - at) (drop at octets)) c.step.ensures.kept ∙ ap (λ o. c.loop-used.self.pending.items ++ o) (slice_behind octets at))
+    (subst (IsCut c.loop-used.self.cursor) (slice_behind octets at) (c.in-Err.ensures.cut (ap Err (sym truncated))))
     (λ f. c.in-Err.ensures.truncated (ap Err (sym truncated)) (subst (CanFinish c.loop-used.self.cursor) (sym (slice_behind octets at)) f)) on

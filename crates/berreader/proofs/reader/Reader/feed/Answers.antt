@@ -1,7 +1,8 @@
-use Rattle.std.proofs.Common.{◌≡◌, ◌++◌, List, ℕ, None, IfOk, IfErr, subst}
+use Rattle.std.proofs.Common.{◌≡◌, [], ◌++◌, List, ℕ, None, Ok, IfOk, IfErr, subst}
 use Rattle.octets.proofs.ResultLemmas.{IfErr-from}
 use Rattle.types.specs.Refusal.{IsFinal}
 use Rattle.berreader.specs.declared.pieces.Pieces.{Pieces}
+use Rattle.berreader.specs.declared.reader.Step as answer
 use Rattle.berreader.specs.Feeding.{HasBeenFed, HasValue, IsFedStep, shape_of}
 use Rattle.berreader.specs.Weight.{IsLight}
 use Rattle.berreader.proofs.HeldLemmas.{held_light, fed_light}
@@ -37,3 +38,17 @@ returns-clause-light c =
 
 pub returns-clause-held : goal.returns-clause-held
 returns-clause-held c = λ octets fed. held_light c.feed.new.self octets fed
+
+pub returns-in_err-used-clause-empty : goal.returns-in_err-used-clause-empty
+returns-in_err-used-clause-empty c =
+    subst (λ (old : Pieces). c.args.piece.now ≡ [] → old.refused ≡ None → (c.from_residual.result ≡ Ok answer.TheVariants.More) × (c.feed.new.self ≡ old)) c.self.view_is
+    (λ none accepts. let h = c.in_err-used.ensures.empty none accepts in absurd (cc h.0))
+
+pub returns-clause-empty : goal.returns-clause-empty
+returns-clause-empty c =
+    subst (λ (old : Pieces). c.args.piece.now ≡ [] → old.refused ≡ None → (c.match-whole-3.result ≡ Ok answer.TheVariants.More) × (c.feed.new.self ≡ old)) c.self.view_is
+    (λ none accepts. let h = c.in_ok-used.ensures.empty none accepts in
+    elim c.match-whole-3.branch [
+      | in-None w ↦ (w.result-is, h.2)
+      | in-Some w ↦ absurd (cc (h.1, w.in-Some.is))
+    ])
