@@ -3,7 +3,7 @@ use Rattle.std.proofs.Common.{◌≡◌, ℕ, ◌≤◌, ◌<◌, ◌⊎◌, Lis
 use Rattle.std.proofs.lemmas.List.{length-take-le}
 use Rattle.octets.specs.Rule as encoding
 use Rattle.types.specs.declared.refusal.Refusal.{Refusal}
-use Rattle.types.specs.declared.refusal.Refusal.TheVariants.{Truncated, OutputTooLong, NoMemory}
+use Rattle.types.specs.declared.refusal.Refusal.TheVariants.{Truncated, NotCanonical, OutputTooLong, NoMemory}
 use Rattle.types.specs.Encoding.{IsAccepted, IsSomeAccepted}
 use Rattle.types.specs.Refusal.{IsFinal, IsOfWriting}
 use Rattle.types.specs.Shape.{Shape, Val}
@@ -13,10 +13,10 @@ use Rattle.types.proofs.EncodingLemmas.{encoding_unique}
 use Rattle.types.proofs.SameLemmas.{same_encodings}
 use Rattle.engine.specs.declared.rule.Rule.{Rule}
 use Rattle.engine.specs.declared.rule.Rule.TheVariants as reading
+use Rattle.engine.specs.Refusal.{IsOfReadingBy}
 use Rattle.engine.specs.Rule.{rule_of}
 use Rattle.octets.proofs.FrontLemmas.{front_of_more}
 use Rattle.octets.proofs.RuleLemmas.{cer_is_canonical, der_is_canonical}
-use Rattle.strict.specs.Refusal.{IsOfStrictReading}
 use Rattle.strict.proofs.StrictLemmas.{as_ber as accepted_as_ber}
 
 -- what any of the rules accepts, BER accepts
@@ -26,10 +26,11 @@ as_ber reading.Cer shape v octets well h = accepted_as_ber encoding.cer shape v 
 as_ber reading.Der shape v octets well h = accepted_as_ber encoding.der shape v octets well der_is_canonical h
 
 -- what a reader refuses with says that octets are missing, that they are wrong, or that memory was refused
-pub cases_of_reading : (refusal : Refusal) → IsOfStrictReading refusal → (refusal ≡ Truncated) ⊎ (IsFinal refusal ⊎ (refusal ≡ NoMemory))
-cases_of_reading Truncated h = inl refl
-cases_of_reading NoMemory h = inr (inr refl)
-cases_of_reading refusal h = inr (inl h)
+pub cases_of_reading : (rule : encoding.Rule) (refusal : Refusal) → IsOfReadingBy rule refusal → (refusal ≡ Truncated) ⊎ (IsFinal refusal ⊎ (refusal ≡ NoMemory))
+cases_of_reading rule Truncated h = inl refl
+cases_of_reading rule NoMemory h = inr (inr refl)
+cases_of_reading rule NotCanonical h = inr (inl tt)
+cases_of_reading rule refusal h = inr (inl h)
 
 pub cases_of_writing : (refusal : Refusal) → IsOfWriting refusal → (refusal ≡ OutputTooLong) ⊎ (refusal ≡ NoMemory)
 cases_of_writing OutputTooLong h = inl refl

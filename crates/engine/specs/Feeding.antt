@@ -4,7 +4,7 @@ use Rattle.std.specs.Prelude.{◌≡◌, ◌≢◌, ◌≤◌, ◌⊎◌, ⊤, �
 use Rattle.octets.specs.Front.{HasFront}
 use Rattle.octets.specs.Rule.{Rule, IsCanonical}
 use Rattle.types.specs.declared.refusal.Refusal.{Refusal}
-use Rattle.types.specs.declared.refusal.Refusal.TheVariants.{Truncated, NotCanonical, OutputTooLong, NoMemory}
+use Rattle.types.specs.declared.refusal.Refusal.TheVariants.{Truncated, NotCanonical, NoMemory}
 use Rattle.types.specs.Encoding.{IsAccepted, IsSomeAccepted}
 use Rattle.types.specs.Refusal.{IsFinal}
 use Rattle.types.specs.Shape.{Shape, Val}
@@ -45,9 +45,3 @@ IsFinished (Err refusal) old = (refusal ≡ Truncated) × (old ≢ [])
 pub record IsUnfinished (StandsAt : List ℕ → Type 0) (rule : Rule) (shape : Shape) (octets : List ℕ) : Type 0 where
   pub stands : StandsAt octets
   pub none : ¬ HasFront (IsSomeAccepted rule shape) octets
-
--- 2 to 12, 14 and 17: what gathering values of a piece answers
-abbrev pub IsOfGathering : Refusal → Type 0
-IsOfGathering OutputTooLong = ⊤
-IsOfGathering NoMemory = ⊤
-IsOfGathering refusal = IsFinal refusal

@@ -1,5 +1,6 @@
 pub mod Rule
 pub mod Transcoding
+pub mod Refusal
 pub mod Laws
 pub mod Stream
 pub mod Passing

@@ -1,5 +1,5 @@
 -- Streams of values: what a call over one has done, and why it stops.
-use Rattle.std.specs.Prelude.{◌≡◌, ◌≢◌, ◌≤◌, ◌<◌, ⊤, ℕ, List, [], ◌∷◌, ◌++◌, length, Option, IfSome}
+use Rattle.std.specs.Prelude.{◌≡◌, ◌≢◌, ◌≤◌, ◌<◌, ℕ, List, [], ◌∷◌, ◌++◌, length, Option, IfSome}
 use Rattle.std.specs.Io.KnownBytes.{Appends}
 use Rattle.std.specs.List.{AllZip, concat}
 use Rattle.octets.specs.Front.{HasFront}
@@ -117,14 +117,3 @@ source_failures _ = 0
 abbrev pub sink_failures : Refusal → ℕ
 sink_failures SinkFault = 1
 sink_failures _ = 0
-
--- 1 to 13, 15 and 17: what a call that writes nothing answers
-abbrev pub IsOfChecking : Refusal → Type 0
-IsOfChecking OutputTooLong = ⊥
-IsOfChecking SinkFault = ⊥
-IsOfChecking _ = ⊤
-
--- 1 to 13 and 15 to 17: what a call that writes texts answers
-abbrev pub IsOfListing : Refusal → Type 0
-IsOfListing OutputTooLong = ⊥
-IsOfListing _ = ⊤

@@ -5,8 +5,9 @@ ghost use Rattle.types.specs.Conforms.{Conforms};
 ghost use Rattle.types.specs.Refusal.{IsOfWriting};
 ghost use Rattle.types.specs.Shape.{Val};
 ghost use Rattle.types.specs.View.{value_view};
-ghost use Rattle.engine.specs.Feeding.{IsUnfinished, IsOfGathering};
+ghost use Rattle.engine.specs.Feeding.{IsUnfinished};
 ghost use Rattle.engine.specs.Passing.{IsAdded, HasGathered, StopsGathering};
+ghost use Rattle.engine.specs.Refusal.{IsOfGathering};
 
 use crate::feeding::Feed;
 use crate::putting::Put;
@@ -95,7 +96,7 @@ impl Batch {
             (old ++ piece.now) self.new.octets.items self.new.lengths.items) }
         ensures long { result ≡ Err Refusal.OutputTooLong → P.can_be_too_long }
         ensures few { length self.new.lengths.items ≤ length piece.now }
-        ensures numbers { IfErr result IsOfGathering }
+        ensures numbers { IfErr result (IsOfGathering F.rule) }
     {
         self.octets.clear();
         self.lengths.clear();

@@ -3,7 +3,8 @@
 ghost use Rattle.std.specs.Prelude.{◌≡◌, [], None, IfOk, IfErr, IfSome, MatchResult};
 ghost use Rattle.types.specs.View.{ty_view};
 ghost use Rattle.engine.specs.Given.{HasGiven};
-ghost use Rattle.engine.specs.Stream.{IsChecked, IsCheckStopped, IsOfChecking, source_failures};
+ghost use Rattle.engine.specs.Refusal.{IsOfChecking};
+ghost use Rattle.engine.specs.Stream.{IsChecked, IsCheckStopped, source_failures};
 
 use crate::Stopped;
 use crate::batch::Batch;
@@ -49,7 +50,7 @@ pub fn check_by<F: Feed, S: Source>(
         HasGiven F.rule (ty_view ty.now) stopped.done (S.left source.old) (S.left source.new)) }
     ensures source { MatchResult result (λ _. S.failures source.new ≡ 0)
         (λ stopped. S.failures source.new ≡ source_failures stopped.refusal) }
-    ensures numbers { IfErr result (λ stopped. IsOfChecking stopped.refusal) }
+    ensures numbers { IfErr result (λ stopped. IsOfChecking F.rule stopped.refusal) }
 {
     let mut batch = Batch::new(alloc);
     pass_all(reader, &Nothing { ty }, &mut batch, source, &mut Nowhere)

@@ -4,6 +4,7 @@ ghost use Rattle.std.specs.Prelude.{◌≡◌, [], IfOk, IfErr, MatchResult};
 ghost use Rattle.types.specs.Encoding.{IsAccepted};
 ghost use Rattle.types.specs.View.{ty_view};
 ghost use Rattle.engine.specs.Given.{HasGiven};
+ghost use Rattle.engine.specs.Refusal.{IsOfConverting};
 ghost use Rattle.engine.specs.Rule.{canonical_rule_of};
 ghost use Rattle.engine.specs.Stream.{IsConverted, IsStopped, OfStream, source_failures, sink_failures};
 
@@ -39,6 +40,7 @@ pub fn convert_by<F: Feed, S: Source, K: Sink>(
         (λ stopped. S.failures source.new ≡ source_failures stopped.refusal) }
     ensures sink { MatchResult result (λ _. K.failures sink.new ≡ 0)
         (λ stopped. K.failures sink.new ≡ sink_failures stopped.refusal) }
+    ensures numbers { IfErr result (λ stopped. IsOfConverting F.rule stopped.refusal) }
 {
     let _well_formed = ty.as_type();
     let writer = Encodings { alloc, ty, to };

@@ -4,7 +4,8 @@ ghost use Rattle.std.specs.Prelude.{◌≡◌, [], IfOk, IfErr, MatchResult};
 ghost use Rattle.texts.specs.Shown.{IsShown};
 ghost use Rattle.types.specs.View.{ty_view};
 ghost use Rattle.engine.specs.Given.{HasGiven};
-ghost use Rattle.engine.specs.Stream.{IsLine, IsListed, IsOfListing, IsStopped, OfStream, source_failures, sink_failures};
+ghost use Rattle.engine.specs.Refusal.{IsOfListing};
+ghost use Rattle.engine.specs.Stream.{IsLine, IsListed, IsStopped, OfStream, source_failures, sink_failures};
 
 use crate::Stopped;
 use crate::batch::Batch;
@@ -37,7 +38,7 @@ pub fn list_by<F: Feed, S: Source, K: Sink>(
         (λ stopped. S.failures source.new ≡ source_failures stopped.refusal) }
     ensures sink { MatchResult result (λ _. K.failures sink.new ≡ 0)
         (λ stopped. K.failures sink.new ≡ sink_failures stopped.refusal) }
-    ensures numbers { IfErr result (λ stopped. IsOfListing stopped.refusal) }
+    ensures numbers { IfErr result (λ stopped. IsOfListing F.rule stopped.refusal) }
 {
     let mut batch = Batch::new(alloc);
     pass_all(reader, &Lines { alloc, ty }, &mut batch, source, sink)

@@ -4,6 +4,7 @@ ghost use Rattle.std.specs.Prelude.{◌≡◌, ◌≤◌, ◌+◌, ◌++◌, ℕ
 ghost use Rattle.engine.specs.Feeding.{IsUnfinished};
 ghost use Rattle.engine.specs.Given.{HasGiven};
 ghost use Rattle.engine.specs.Passing.{Writes, PassesOn, StopsPassing};
+ghost use Rattle.engine.specs.Refusal.{IsOfConverting};
 ghost use Rattle.engine.specs.Stream.{most_streamed, IsStopped, OfStream, source_failures, sink_failures};
 
 use crate::Stopped;
@@ -43,6 +44,7 @@ fn pass<F: Feed, P: Put, K: Sink>(
         (λ stopped. K.failures sink.new ≡ sink_failures stopped.refusal) }
     ensures source { IfErr result (λ stopped. source_failures stopped.refusal ≡ 0) }
     ensures long { IfErr result (λ stopped. stopped.refusal ≡ Refusal.OutputTooLong → P.can_be_too_long) }
+    ensures numbers { IfErr result (λ stopped. IsOfConverting F.rule stopped.refusal) }
 {
     let gathered = batch.gather(reader, writer, piece);
     let lengths = batch.lengths.as_slice();
@@ -86,6 +88,7 @@ pub fn pass_all<F: Feed, P: Put, S: Source, K: Sink>(
     ensures sink { MatchResult result (λ _. K.failures sink.new ≡ 0)
         (λ stopped. K.failures sink.new ≡ sink_failures stopped.refusal) }
     ensures long { IfErr result (λ stopped. stopped.refusal ≡ Refusal.OutputTooLong → P.can_be_too_long) }
+    ensures numbers { IfErr result (λ stopped. IsOfConverting F.rule stopped.refusal) }
 {
     let mut piece = Piece::new();
     let mut done = 0;

@@ -9,7 +9,8 @@ ghost use Rattle.types.specs.Encoding.{IsAccepted};
 ghost use Rattle.types.specs.View.{ty_view};
 ghost use Rattle.engine.specs.Given.{HasGiven};
 ghost use Rattle.engine.specs.Rule.{rule_of, canonical_rule_of};
-ghost use Rattle.engine.specs.Stream.{IsChecked, IsCheckStopped, IsConverted, IsLine, IsListed, IsOfChecking, IsOfListing, IsStopped, OfStream, source_failures, sink_failures};
+ghost use Rattle.engine.specs.Refusal.{IsOfChecking, IsOfConverting, IsOfListing};
+ghost use Rattle.engine.specs.Stream.{IsChecked, IsCheckStopped, IsConverted, IsLine, IsListed, IsStopped, OfStream, source_failures, sink_failures};
 
 use crate::checking::check_by;
 use crate::converting::convert_by;
@@ -48,6 +49,7 @@ pub fn convert<S: Source, K: Sink>(
         (λ stopped. S.failures source.new ≡ source_failures stopped.refusal) }
     ensures sink { MatchResult result (λ _. K.failures sink.new ≡ 0)
         (λ stopped. K.failures sink.new ≡ sink_failures stopped.refusal) }
+    ensures numbers { IfErr result (λ stopped. IsOfConverting (rule_of from) stopped.refusal) }
 {
     match from {
         Rule::Ber => convert_by(alloc, &mut Reader::new(alloc, ty), ty, to, source, sink),
@@ -78,7 +80,7 @@ pub fn check<S: Source>(
         HasGiven (rule_of from) (ty_view ty.now) stopped.done (S.left source.old) (S.left source.new)) }
     ensures source { MatchResult result (λ _. S.failures source.new ≡ 0)
         (λ stopped. S.failures source.new ≡ source_failures stopped.refusal) }
-    ensures numbers { IfErr result (λ stopped. IsOfChecking stopped.refusal) }
+    ensures numbers { IfErr result (λ stopped. IsOfChecking (rule_of from) stopped.refusal) }
 {
     match from {
         Rule::Ber => check_by(alloc, &mut Reader::new(alloc, ty), ty, source),
@@ -114,7 +116,7 @@ pub fn list<S: Source, K: Sink>(
         (λ stopped. S.failures source.new ≡ source_failures stopped.refusal) }
     ensures sink { MatchResult result (λ _. K.failures sink.new ≡ 0)
         (λ stopped. K.failures sink.new ≡ sink_failures stopped.refusal) }
-    ensures numbers { IfErr result (λ stopped. IsOfListing stopped.refusal) }
+    ensures numbers { IfErr result (λ stopped. IsOfListing (rule_of from) stopped.refusal) }
 {
     match from {
         Rule::Ber => list_by(alloc, &mut Reader::new(alloc, ty), ty, source, sink),

@@ -4,10 +4,10 @@ ghost use Rattle.std.specs.Prelude.{◌≡◌, ◌≤◌, ◌++◌, ℕ, List, �
 ghost use Rattle.octets.specs.Front.{Appends, Begins, HasFront};
 ghost use Rattle.types.specs.Conforms.{Conforms};
 ghost use Rattle.types.specs.Encoding.{IsAccepted, IsSomeAccepted};
-ghost use Rattle.types.specs.Refusal.{IsFinal, IsOfTranscoding, IsOfWriting};
+ghost use Rattle.types.specs.Refusal.{IsFinal, IsOfWriting};
 ghost use Rattle.types.specs.View.{ty_view, value_view};
 ghost use Rattle.types.specs.WellFormed.{IsWellFormed};
-ghost use Rattle.strict.specs.Refusal.{IsOfStrictReading};
+ghost use Rattle.engine.specs.Refusal.{IsOfReadingBy, IsOfTranscoding};
 ghost use Rattle.engine.specs.Rule.{rule_of, canonical_rule_of};
 ghost use Rattle.engine.specs.Transcoding.{IsTranscoded, HasNoShortEncoding};
 
@@ -37,7 +37,7 @@ pub fn transcode(
         HasNoShortEncoding (rule_of from) (canonical_rule_of to) (ty_view ty.now) octets.now }
     ensures limit { HasNoShortEncoding (rule_of from) (canonical_rule_of to) (ty_view ty.now) octets.now →
         (result ≡ Err Refusal.OutputTooLong) ⊎ (result ≡ Err Refusal.NoMemory) }
-    ensures numbers { IfErr result IsOfTranscoding }
+    ensures numbers { IfErr result (IsOfTranscoding (rule_of from)) }
 {
     let (value, used) = read_by(alloc, ty, from, octets)?;
     if used < octets.len() {
@@ -61,7 +61,7 @@ fn read_by(
         ¬ HasFront (IsSomeAccepted (rule_of from) (ty_view ty.now)) octets.now }
     ensures never { IfErr result (λ refusal. IsFinal refusal → (more : List ℕ) →
         ¬ HasFront (IsSomeAccepted (rule_of from) (ty_view ty.now)) (octets.now ++ more)) }
-    ensures numbers { IfErr result IsOfStrictReading }
+    ensures numbers { IfErr result (IsOfReadingBy (rule_of from)) }
     ensures well_formed { IsWellFormed (ty_view ty.now) }
 {
     match from {

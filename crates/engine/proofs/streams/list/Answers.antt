@@ -3,6 +3,7 @@ use Rattle.types.specs.declared.refusal.Refusal.TheVariants.{SourceFault}
 use Rattle.types.specs.View.{ty_view}
 use Rattle.engine.specs.declared.rule.Rule.{Rule}
 use Rattle.engine.specs.Given.{HasGiven}
+use Rattle.engine.specs.Refusal.{IsOfListing}
 use Rattle.engine.specs.Rule.{rule_of}
 use Rattle.engine.proofs.ReaderLemmas.{stands_fresh}
 use Rattle.engine.proofs.streams.list.Goals as goal
@@ -19,3 +20,8 @@ pub returns-in-Der-clause-given : goal.returns-in-Der-clause-given
 returns-in-Der-clause-given g c =
     let call = c.list_by-in-Der in
     subst (λ (rule : Rule). IfErr call.result (λ stopped. stopped.refusal ≡ SourceFault → HasGiven (rule_of rule) (ty_view c.args.ty.now) stopped.done (g.S.Source.left c.args.source.now) (g.S.Source.left call.new.source))) (sym c.in-Der.is) call.ensures.given
+
+pub returns-in-Der-clause-numbers : goal.returns-in-Der-clause-numbers
+returns-in-Der-clause-numbers g c =
+    let call = c.list_by-in-Der in
+    subst (λ (rule : Rule). IfErr call.result (λ stopped. IsOfListing (rule_of rule) stopped.refusal)) (sym c.in-Der.is) call.ensures.numbers

@@ -29,7 +29,7 @@ returns-in_err-value-clause-limit c = λ h.
     let Some = IsSomeAccepted (rule_of c.args.from) (ty_view c.args.ty.now) in
     let octets = c.args.octets.now in
     let front = HasFront-whole Some octets (h.value, h.read) in
-    elim (cases_of_reading c.in_err-value.field-0.0 c.in_err-value.ensures.numbers) [
+    elim (cases_of_reading (rule_of c.args.from) c.in_err-value.field-0.0 c.in_err-value.ensures.numbers) [
       | inl truncated ↦ absurd (c.in_err-value.ensures.truncated (ap Err truncated) front)
       | inr other ↦ elim other [
         | inl final ↦ absurd (c.in_err-value.ensures.never final [] (subst (HasFront Some) (sym (append-nil octets)) front))
