@@ -5,6 +5,7 @@ use std::alloc::{AllocError, Global};
 use std::process::Abort;
 
 mod command_lines;
+mod cuts;
 mod dripping;
 mod each_call;
 mod failing_devices;

@@ -39,8 +39,16 @@ fn converted_by_octets(
 #[test]
 fn converted_streams(rt: HostRuntime) -> Result<(), Fail> {
     // (type, rule, octets, what is written, how many values are done, the refusal's number)
-    let cases: [(u8, Rule, &[u8], &[u8], u64, u8); 10] = [
+    let cases: [(u8, Rule, &[u8], &[u8], u64, u8); 11] = [
         (b'b', Rule::Ber, &[], &[], 0, 0),
+        (
+            b'b',
+            Rule::Ber,
+            &[0x01, 0x01, 0x01, 0x01, 0x01, 0x00],
+            &[0x01, 0x01, 0xFF, 0x01, 0x01, 0x00],
+            2,
+            0,
+        ),
         (
             b'b',
             Rule::Ber,
@@ -176,7 +184,12 @@ fn source_that_fails_at_each_call(rt: HostRuntime) -> Result<(), Fail> {
                 _ => (done as u64, 15),
             };
             assert_eq!(rt; counted(result), want, "at call {call}");
-            assert_eq!(rt; sink.as_slice().len() as u64, 3 * want.0, "at call {call}");
+            let written: &[u8] = match want.0 {
+                0 => &[],
+                1 => &[0x01, 0x01, 0xFF],
+                _ => &[0x01, 0x01, 0xFF, 0x01, 0x01, 0x00],
+            };
+            assert_eq!(rt; sink.as_slice(), written, "at call {call}");
         }
     }
     Ok(())
