@@ -1,6 +1,7 @@
 //! A module's file, and the type that a name of the module means.
 
-ghost use Rattle.std.specs.Prelude.{◌≡◌, ◌≢◌, ◌⊎◌, IfOk, IfErr, IfSome, take};
+ghost use Rattle.std.specs.Prelude.{◌≡◌, ◌≢◌, ◌↔◌, ◌⊎◌, IfOk, IfErr, IfSome, take};
+ghost use Rattle.std.specs.IoError.{error_kind};
 ghost use Rattle.std.specs.Str.{IsUtf8};
 ghost use Rattle.types.specs.Shape.{Shape};
 ghost use Rattle.types.specs.View.{ty_view};
@@ -70,7 +71,8 @@ pub fn read_module<R: Read>(alloc: Global, file: &mut R) -> io::Result<Vec<u8>>
 /// Prints the line of a module's file that cannot be opened or read, and returns the exit status: 3, or 4
 /// where memory ran out.
 pub fn cannot_read_module<E: Write>(path: &str, error: &io::Error, err: &mut E) -> u8
-    ensures { (result ≡ 3) ⊎ (result ≡ 4) }
+    ensures status { (result ≡ 3) ⊎ (result ≡ 4) }
+    ensures memory { (result ≡ 4) ↔ (error_kind error.now ≡ ErrorKind.OutOfMemory) }
 {
     let fault = match error.kind() {
         ErrorKind::OutOfMemory => Fault::Module(at_front(33)),
