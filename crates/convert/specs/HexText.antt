@@ -1,6 +1,6 @@
 -- Hexadecimal text: two digits an octet, the high four bits first, in either case, with white space
 -- anywhere.
-use Rattle.std.specs.Prelude.{◌≡◌, ℕ, ◌+◌, ◌/◌, ◌%◌, ◌<◌, ◌≤◌, ◌||◌, ◌==◌, ◌⊎◌, Bool, not, List, [], ◌∷◌, filter}
+use Rattle.std.specs.Prelude.{◌≡◌, ℕ, ◌+◌, ◌/◌, ◌%◌, ◌<◌, ◌≤◌, ◌||◌, ◌==◌, ◌⊎◌, Bool, not, List, [], ◌∷◌, filter, length}
 
 -- a tab, a line feed, a carriage return or a space
 abbrev pub is_space : ℕ → Bool
@@ -34,3 +34,12 @@ most_text_octets = 4_194_304
 -- the text spells the octets
 abbrev pub IsHexText : List ℕ → List ℕ → Type 0
 IsHexText octets text = IsHexPairs octets (without_spaces text)
+
+-- and has no more octets than it may
+pub record IsHexInput (octets text : List ℕ) : Type 0 where
+  pub spelt : IsHexText octets text
+  pub within : length text ≤ most_text_octets
+
+-- the text spells no octets, or has more of its own than it may
+abbrev pub IsRefusedText : List ℕ → Type 0
+IsRefusedText text = ((octets : List ℕ) → ¬ IsHexText octets text) ⊎ (most_text_octets < length text)

@@ -36,6 +36,7 @@ pub fn run<R: Read, W: Write, E: Write>(
     ensures refused { (result ≡ 2) → ¬ HasLineType line.now «module».now }
     ensures done { (result ≡ 0) → IsRun line.now «module».now (R.remaining input.old) (W.contents out.old) (W.contents out.new) }
     ensures stopped { (result ≡ 1) → IsRefusedRun line.now «module».now (R.remaining input.old) (W.contents out.old) (W.contents out.new) }
+    ensures kept { (result ≡ 1) → line.now.verb ≡ Verb.Check → W.contents out.new ≡ W.contents out.old }
 {
     let Some(task) = task_of(line) else {
         return 64;
@@ -122,6 +123,7 @@ fn run_over<'a, R: Read, W: Write>(
     ensures done { IfOk result (λ _. IsInputDone line.now.hex task (rule_of line.now.from) (ty_view ty.now) (R.remaining input.old) (W.contents out.old) (W.contents out.new)) }
     ensures refused { IfErr result (λ fault. fault_status fault ≡ 1 →
         IsInputRefused line.now.hex task (rule_of line.now.from) (ty_view ty.now) (R.remaining input.old) (W.contents out.old) (W.contents out.new)) }
+    ensures kept { IfErr result (λ fault. fault_status fault ≡ 1 → task ≡ Task.Check → W.contents out.new ≡ W.contents out.old) }
     ensures status { IfErr result IsFaultOfInput }
 {
     if !line.hex {

@@ -4,7 +4,7 @@ ghost use Rattle.std.specs.Prelude.{◌≡◌, OnOk, IfOk, IfErr, true, false};
 ghost use Rattle.std.specs.Io.KnownBytes.{Appends};
 ghost use Rattle.types.specs.View.{ty_view};
 ghost use Rattle.engine.specs.Rule.{rule_of};
-ghost use Rattle.convert.specs.Fault.{IsFaultOfInput};
+ghost use Rattle.convert.specs.Fault.{fault_status, IsFaultOfInput};
 ghost use Rattle.convert.specs.Task.{IsDone, IsTaskFault, count_line};
 
 use crate::fault::Fault;
@@ -39,6 +39,7 @@ pub fn perform<'a, S: Source, W: Write>(
     requires { S.failures source.old ≡ 0 }
     ensures done { IfOk result (λ _. IsDone task line.now.hex (rule_of line.now.from) (ty_view ty.now) (S.left source.old) (W.contents out.old) (W.contents out.new)) }
     ensures stopped { IfErr result (IsTaskFault task line.now.hex (rule_of line.now.from) (ty_view ty.now) (S.left source.old) (W.contents out.old) (W.contents out.new)) }
+    ensures kept { IfErr result (λ fault. fault_status fault ≡ 1 → task ≡ Task.Check → W.contents out.new ≡ W.contents out.old) }
     ensures status { IfErr result IsFaultOfInput }
 {
     match task {

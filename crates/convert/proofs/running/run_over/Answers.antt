@@ -1,4 +1,4 @@
-use Rattle.std.proofs.Common.{rules, ◌≡◌, ℕ, List, sym, subst, take, true}
+use Rattle.std.proofs.Common.{rules, ◌≡◌, ℕ, List, refl, sym, subst, take, true}
 use Rattle.std.specs.Prelude.{IfSome}
 use Rattle.std.proofs.lemmas.Result.{IfErr-weaker, IfOk-weaker, err_from_is_err_and}
 use Rattle.types.specs.View.{ty_view}
@@ -15,7 +15,7 @@ returns-in_err-octets-clause-refused g c =
     let is_hex : c.args.line.now.hex ≡ true = search rules in
     let p = err_from_is_err_and c.from_residual-in_err-octets.result c.from_residual-in_err-octets.ensures.1 in
     rw (p.1, p.2) (λ status. text_refused c.args.task (rule_of c.args.line.now.from) (ty_view c.args.ty.now) (g.W.Write.contents c.args.out.now) _ input text is _
-    c.args.line.now.hex c.in_err-octets.field-0.0 is_hex c.in_err-octets.ensures.none c.in_err-octets.ensures.too_long.0 c.in_err-octets.ensures.too_long.1 status)
+    c.args.line.now.hex c.in_err-octets.field-0.0 is_hex c.in_err-octets.ensures.none c.in_err-octets.ensures.too_long.0 c.in_err-octets.ensures.too_long.1 status refl)
 
 pub returns-clause-done : goal.returns-clause-done
 returns-clause-done g c =
