@@ -6,6 +6,7 @@ use Rattle.octets.specs.Identifier.{IsIdentifier}
 use Rattle.octets.specs.Length.{IsShortestLength}
 use Rattle.octets.specs.Rule.{Rule}
 use Rattle.primitives.specs.Bits.{IsBits}
+use Rattle.primitives.specs.Integer.{IsWideInteger}
 use Rattle.primitives.specs.Oid.{IsOidValue, IsRelativeOidValue}
 use Rattle.types.specs.Shape.{SimpleType, StringType, SimpleValue, StringValue, Val, Shape}
 use Rattle.types.specs.Form.{IsPrimitive}
@@ -20,10 +21,11 @@ IsLeafOf tag shape = ((type : SimpleType) × (shape ≡ Shape.simple tag type)) 
 abbrev pub IsSimpleOf : Tag → Shape → Type 0
 IsSimpleOf tag shape = (type : SimpleType) × (shape ≡ Shape.simple tag type)
 
--- numbers of 128 bits, and arcs within the limits
+-- numbers of 128 bits, contents octets of wider ones, and arcs, within the limits
 abbrev pub IsWithin : SimpleValue → Type 0
 IsWithin (SimpleValue.boolean truth) = ⊤
 IsWithin (SimpleValue.integer number) = FitsSigned w128 number
+IsWithin (SimpleValue.wide_integer octets) = IsWideInteger octets
 IsWithin (SimpleValue.enumerated number) = FitsSigned w128 number
 IsWithin SimpleValue.null = ⊤
 IsWithin (SimpleValue.oid arcs) = IsOidValue arcs

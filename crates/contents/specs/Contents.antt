@@ -1,6 +1,6 @@
 -- The contents octets that primitive encodings hold.
-use Rattle.std.specs.Prelude.{◌≡◌, ℕ, ℤ, Bool, List, ⊤}
-use Rattle.octets.specs.Rule.{Rule}
+use Rattle.std.specs.Prelude.{◌≡◌, ◌⊎◌, ℕ, ℤ, Bool, false, List, ◌++◌, replicate, ⊤}
+use Rattle.octets.specs.Rule.{Rule, IsCanonical}
 use Rattle.types.specs.declared.ty.Ty.{Ty}
 use Rattle.types.specs.declared.ty.Ty.TheVariants.{Enumerated as EnumeratedType, Text as TextType, Time as TimeType}
 use Rattle.types.specs.declared.refusal.Refusal.{Refusal}
@@ -10,7 +10,7 @@ use Rattle.primitives.specs.Boolean.{IsBoolean}
 use Rattle.primitives.specs.Integer.{IsInteger}
 use Rattle.primitives.specs.Null.{IsNull}
 use Rattle.primitives.specs.Oid.{IsOid, IsRelativeOid}
-use Rattle.primitives.specs.Bits.{IsBits}
+use Rattle.primitives.specs.Bits.{IsBits, IsTrimmed}
 use Rattle.types.specs.Shape.{SimpleType, StringType, SimpleValue, StringValue, Shape, Val}
 
 pub record IsBooleanContents (rule : Rule) (value : SimpleValue) (contents : List ℕ) : Type 0 where
@@ -18,10 +18,14 @@ pub record IsBooleanContents (rule : Rule) (value : SimpleValue) (contents : Lis
   pub is : value ≡ SimpleValue.boolean truth
   pub spelt : IsBoolean rule truth contents
 
-pub record IsIntegerContents (value : SimpleValue) (contents : List ℕ) : Type 0 where
+pub record IsNumberContents (value : SimpleValue) (contents : List ℕ) : Type 0 where
   pub number : ℤ
   pub is : value ≡ SimpleValue.integer number
   pub spelt : IsInteger number contents
+
+-- a number past 128 bits is its contents octets
+abbrev pub IsIntegerContents : SimpleValue → List ℕ → Type 0
+IsIntegerContents value contents = IsNumberContents value contents ⊎ (value ≡ SimpleValue.wide_integer contents)
 
 pub record IsEnumeratedContents (value : SimpleValue) (contents : List ℕ) : Type 0 where
   pub number : ℤ
@@ -57,9 +61,19 @@ pub record IsBitsContents (rule : Rule) (value : StringValue) (contents : List �
   pub is : value ≡ StringValue.bits bits
   pub spelt : IsBits rule bits contents
 
+-- 11.2.2: those of a BIT STRING with named bits, behind which under BER alone may be any number of bits 0
+pub record IsNamedBitsContents (rule : Rule) (value : StringValue) (contents : List ℕ) : Type 0 where
+  pub bits : List Bool
+  pub is : value ≡ StringValue.bits bits
+  pub trimmed : IsTrimmed bits
+  pub zeros : ℕ
+  pub canonical : IsCanonical rule → zeros ≡ 0
+  pub spelt : IsBits rule (bits ++ replicate zeros false) contents
+
 -- 8.7.2: the contents octets of a primitive OCTET STRING are the value's octets
 abbrev pub IsStringContents : Rule → StringType → StringValue → List ℕ → Type 0
 IsStringContents rule StringType.bit_string value contents = IsBitsContents rule value contents
+IsStringContents rule (StringType.named_bits names) value contents = IsNamedBitsContents rule value contents
 IsStringContents rule StringType.octet_string value contents = value ≡ StringValue.octets contents
 IsStringContents rule (StringType.text kind) value contents = value ≡ StringValue.text contents
 IsStringContents rule (StringType.time kind) value contents = value ≡ StringValue.text contents
@@ -92,6 +106,10 @@ abbrev pub IsTextual : Ty → Type 0
 IsTextual (TextType tag kind) = ⊤
 IsTextual (TimeType tag kind) = ⊤
 IsTextual _ = ⊥
+
+-- the value of an INTEGER past 128 bits with these contents octets
+abbrev pub wide_view : List ℕ → Val
+wide_view octets = Val.simple (SimpleValue.wide_integer octets)
 
 -- the value of a character string or a time with these octets
 abbrev pub text_view : List ℕ → Val

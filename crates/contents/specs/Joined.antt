@@ -1,6 +1,6 @@
 -- The strings that may be cut into segments (X.690 8.6.4 and 8.7.3): their elements, and what the reader
 -- holds of them.
-use Rattle.std.specs.Prelude.{◌≡◌, ℕ, ◌<◌, Bool, List, ◌++◌, All, ⊤}
+use Rattle.std.specs.Prelude.{◌≡◌, ℕ, ◌<◌, Bool, true, false, List, [], ◌∷◌, ◌++◌, All, ⊤}
 use Rattle.octets.specs.declared.tag.Tag.{Tag}
 use Rattle.octets.specs.Rule.{ber}
 use Rattle.primitives.specs.Bits.{IsBits, bits_before, CanBeUnused}
@@ -85,6 +85,7 @@ IsNoString shape = IsString shape → ⊥
 -- the strings that the segments of the type are
 abbrev pub segments_kind : Shape → Kind
 segments_kind (Shape.string tag StringType.bit_string) = Bits
+segments_kind (Shape.string tag (StringType.named_bits names)) = Bits
 segments_kind _ = Octets
 
 -- the type is a string of such segments
@@ -92,8 +93,21 @@ pub record IsStringOf (kind : Kind) (shape : Shape) : Type 0 where
   pub kind_is : kind ≡ segments_kind shape
   pub string : IsString shape
 
--- the value of the type that a string makes: a text or a time has the octets of an OCTET STRING (8.23)
+-- a bit 0 stands where bits follow it
+abbrev pub behind_zero : List Bool → List Bool
+behind_zero [] = []
+behind_zero (bit ∷ bits) = false ∷ bit ∷ bits
+
+-- the bits without the bits 0 at their end
+abbrev pub trimmed_bits : List Bool → List Bool
+trimmed_bits [] = []
+trimmed_bits (true ∷ bits) = true ∷ trimmed_bits bits
+trimmed_bits (false ∷ bits) = behind_zero (trimmed_bits bits)
+
+-- the value of the type that a string makes: a text or a time has the octets of an OCTET STRING (8.23), and named bits
+-- have no bit 0 at their end (11.2.2)
 abbrev pub typed : Shape → (kind : Kind) → List (Element kind) → Val
+typed (Shape.string tag (StringType.named_bits names)) Bits string = Val.string (StringValue.bits (trimmed_bits string))
 typed (Shape.string tag (StringType.text text)) Octets string = Val.string (StringValue.text string)
 typed (Shape.string tag (StringType.time time)) Octets string = Val.string (StringValue.text string)
 typed _ kind string = string_value kind string

@@ -6,11 +6,11 @@ use Rattle.strings.specs.declared.time.TimeKind.{TimeKind}
 use Rattle.strings.specs.declared.time.TimeKind.TheVariants.{Utc, Generalized}
 use Rattle.types.specs.Shape.{SimpleType, StringType, Shape}
 
--- bounds on the contents octets of a primitive encoding: a number has up to 16, which are 128 bits, and an
--- OBJECT IDENTIFIER or RELATIVE-OID up to 19 for each of 128 subidentifiers
+-- bounds on the contents octets of a primitive encoding: an INTEGER has up to 1,024, the number of an ENUMERATED up to
+-- 16, which are 128 bits, and an OBJECT IDENTIFIER or RELATIVE-OID up to 19 for each of 128 subidentifiers
 abbrev pub SimpleLength : SimpleType → ℕ → Type 0
 SimpleLength SimpleType.boolean n = n ≡ 1
-SimpleLength SimpleType.integer n = (1 ≤ n) × (n ≤ 16)
+SimpleLength SimpleType.integer n = (1 ≤ n) × (n ≤ 1_024)
 SimpleLength (SimpleType.enumerated numbers) n = (1 ≤ n) × (n ≤ 16)
 SimpleLength SimpleType.null n = n ≡ 0
 SimpleLength SimpleType.oid n = (1 ≤ n) × (n ≤ 2432)
@@ -28,6 +28,7 @@ TimeLength Generalized n = (n ≡ 15) ⊎ ((17 ≤ n) × (n ≤ 28))
 
 abbrev pub StringLength : StringType → ℕ → Type 0
 StringLength StringType.bit_string n = 1 ≤ n
+StringLength (StringType.named_bits names) n = 1 ≤ n
 StringLength StringType.octet_string n = ⊤
 StringLength (StringType.text kind) n = TextLength kind n
 StringLength (StringType.time kind) n = TimeLength kind n

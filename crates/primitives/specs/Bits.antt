@@ -1,5 +1,5 @@
 -- Contents octets of a BIT STRING in a primitive encoding (X.690 8.6.2 and 11.2.1).
-use Rattle.std.specs.Prelude.{◌≡◌, ℕ, ◌*◌, ◌-◌, ◌/◌, ◌%◌, ◌<◌, ◌≤◌, Bool, false, List, [], ◌∷◌, ◌++◌, length, take, map, replicate, nat_eq, All, ⊤}
+use Rattle.std.specs.Prelude.{◌≡◌, ◌⊎◌, ℕ, ◌*◌, ◌-◌, ◌/◌, ◌%◌, ◌<◌, ◌≤◌, Bool, true, false, List, [], ◌∷◌, ◌++◌, length, take, map, replicate, nat_eq, All, ⊤}
 use Rattle.octets.specs.Rule.{Rule, ber, cer, der}
 
 -- whether the bit of this place value is set
@@ -36,6 +36,10 @@ pub record IsBits (rule : Rule) (bits : List Bool) (contents : List ℕ) : Type 
 -- these are the contents octets under CER and DER both
 abbrev pub IsCanonicalBits : List Bool → List ℕ → Type 0
 IsCanonicalBits bits contents = IsBits cer bits contents × IsBits der bits contents
+
+-- 11.2.2: no bit, or the last one is 1
+abbrev pub IsTrimmed : List Bool → Type 0
+IsTrimmed bits = (bits ≡ []) ⊎ ((front : List Bool) × (bits ≡ front ++ (true ∷ [])))
 
 -- 8.6.2.2 and 8.6.2.3: as many bits at the end of the octets can be unused
 pub record CanBeUnused (unused : ℕ) (octets : List ℕ) : Type 0 where

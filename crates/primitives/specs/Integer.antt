@@ -1,6 +1,7 @@
 -- Contents octets of an INTEGER and of an ENUMERATED number (X.690 8.3 and 8.4): two's complement in
 -- the fewest octets, under every rule.
-use Rattle.std.specs.Prelude.{◌≡◌, ℕ, ◌*◌, ◌/◌, ◌%◌, ◌^◌, ◌<◌, ◌≤◌, List, [], ◌∷◌, length, All, ⊤, ℤ, pos, negsuc, ◌-ℤ◌, ◌-◌, Bool, true, false}
+use Rattle.std.specs.Prelude.{◌≡◌, ℕ, ◌*◌, ◌/◌, ◌%◌, ◌^◌, ◌<◌, ◌≤◌, List, [], ◌∷◌, length, All, ⊤, ℤ, pos, negsuc, FitsSigned, ◌-ℤ◌, ◌-◌, Bool, true, false}
+use Rattle.std.specs.Int.{w128}
 use Rattle.octets.specs.Digits.{number_of}
 
 -- 8.3.3: the sum of the place values of the bits that are set, less that of bit 8 of the first octet
@@ -21,6 +22,13 @@ pub record IsInteger (number : ℤ) (contents : List ℕ) : Type 0 where
   pub below_256 : All (λ octet. octet < 256) contents
   pub shortest : NineBitsDiffer contents
   pub value : integer_of contents ≡ number
+
+-- these are contents octets of a number that 128 bits do not hold, at most 1,024 of them
+pub record IsWideInteger (contents : List ℕ) : Type 0 where
+  pub number : ℤ
+  pub spelt : IsInteger number contents
+  pub outside : ¬ FitsSigned w128 number
+  pub within : length contents ≤ 1_024
 
 -- the number that stands at this distance above 0, or below -1
 abbrev pub number_at : Bool → ℕ → ℤ

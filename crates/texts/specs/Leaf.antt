@@ -20,15 +20,6 @@ abbrev pub arcs_text : List ℕ → List ℕ
 arcs_text [] = []
 arcs_text (arc ∷ arcs) = decimal arc ++ flat_map (λ other. codes "." ++ decimal other) arcs
 
-abbrev pub simple_text : SimpleType → SimpleValue → List ℕ
-simple_text SimpleType.boolean (SimpleValue.boolean truth) = boolean_text truth
-simple_text SimpleType.integer (SimpleValue.integer number) = signed_decimal number
-simple_text (SimpleType.enumerated items) (SimpleValue.enumerated number) = item_name items number
-simple_text SimpleType.null SimpleValue.null = codes "NULL"
-simple_text SimpleType.oid (SimpleValue.oid arcs) = arcs_text arcs
-simple_text SimpleType.relative_oid (SimpleValue.relative_oid arcs) = arcs_text arcs
-simple_text _ _ = []
-
 -- `1` is octet 49, and `0` 48
 abbrev pub bit_digit : Bool → ℕ
 bit_digit true = 49
@@ -49,6 +40,17 @@ hex_digits octet = hex_digit (octet / 16) ∷ hex_digit (octet % 16) ∷ []
 -- two digits for each octet, in quotes
 abbrev pub octets_text : List ℕ → List ℕ
 octets_text octets = codes "'" ++ flat_map hex_digits octets ++ codes "'H"
+
+-- an INTEGER past 128 bits as the contents octets that it has
+abbrev pub simple_text : SimpleType → SimpleValue → List ℕ
+simple_text SimpleType.boolean (SimpleValue.boolean truth) = boolean_text truth
+simple_text SimpleType.integer (SimpleValue.integer number) = signed_decimal number
+simple_text SimpleType.integer (SimpleValue.wide_integer octets) = octets_text octets
+simple_text (SimpleType.enumerated items) (SimpleValue.enumerated number) = item_name items number
+simple_text SimpleType.null SimpleValue.null = codes "NULL"
+simple_text SimpleType.oid (SimpleValue.oid arcs) = arcs_text arcs
+simple_text SimpleType.relative_oid (SimpleValue.relative_oid arcs) = arcs_text arcs
+simple_text _ _ = []
 
 -- octet 34, which is `"`, stands twice
 abbrev pub quoted_octet : ℕ → List ℕ
@@ -77,6 +79,7 @@ text_of_kind _ octets = readable_text octets
 
 abbrev pub string_text : StringType → StringValue → List ℕ
 string_text StringType.bit_string (StringValue.bits bits) = bits_text bits
+string_text (StringType.named_bits names) (StringValue.bits bits) = bits_text bits
 string_text StringType.octet_string (StringValue.octets octets) = octets_text octets
 string_text (StringType.text kind) (StringValue.text octets) = text_of_kind kind octets
 string_text (StringType.time kind) (StringValue.text octets) = readable_text octets

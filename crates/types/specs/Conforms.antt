@@ -1,4 +1,6 @@
 -- Which values a type has.
+use Rattle.primitives.specs.Bits.{IsTrimmed}
+use Rattle.primitives.specs.Integer.{IsWideInteger}
 use Rattle.primitives.specs.Oid.{IsOidValue, IsRelativeOidValue}
 use Rattle.strings.specs.Time.{IsTime}
 use Rattle.strings.specs.Alphabet.{IsText}
@@ -7,18 +9,21 @@ use Rattle.std.specs.List.{AllByRecursion}
 use Rattle.std.specs.Int.{w128}
 use Rattle.types.specs.Shape.{SimpleType, StringType, SimpleValue, StringValue, Val, Slots, no_slot, absent, present, listed, Requirement, required, optional, default, Shape, Components, no_component, component, Alternatives, no_alternative, alternative}
 
--- numbers are those of 128 bits in two's complement, and an ENUMERATED number is an item's
+-- numbers are those of 128 bits in two's complement, or wider ones as their contents octets; an ENUMERATED number is an item's
 abbrev pub SimpleConforms : SimpleType → SimpleValue → Type 0
 SimpleConforms SimpleType.boolean (SimpleValue.boolean truth) = ⊤
 SimpleConforms SimpleType.integer (SimpleValue.integer number) = FitsSigned w128 number
+SimpleConforms SimpleType.integer (SimpleValue.wide_integer octets) = IsWideInteger octets
 SimpleConforms (SimpleType.enumerated items) (SimpleValue.enumerated number) = Contains (map (λ item. item.number) items) number × FitsSigned w128 number
 SimpleConforms SimpleType.null SimpleValue.null = ⊤
 SimpleConforms SimpleType.oid (SimpleValue.oid arcs) = IsOidValue arcs
 SimpleConforms SimpleType.relative_oid (SimpleValue.relative_oid arcs) = IsRelativeOidValue arcs
 SimpleConforms _ _ = ⊥
 
+-- 11.2.2: named bits have no 0 behind their last 1
 abbrev pub StringConforms : StringType → StringValue → Type 0
 StringConforms StringType.bit_string (StringValue.bits bits) = ⊤
+StringConforms (StringType.named_bits names) (StringValue.bits bits) = IsTrimmed bits
 StringConforms StringType.octet_string (StringValue.octets octets) = All (λ octet. octet < 256) octets
 StringConforms (StringType.text kind) (StringValue.text octets) = All (λ octet. octet < 256) octets × IsText kind octets
 StringConforms (StringType.time kind) (StringValue.text octets) = All (λ octet. octet < 256) octets × IsTime kind octets

@@ -1,9 +1,9 @@
 -- The encodings of a value (X.690 clauses 8 to 11), by cases on its type.
-use Rattle.std.specs.Prelude.{◌≡◌, ◌≤◌, ⊤, ℕ, zero, suc, Bool, List, [], ◌∷◌, length, Option, Some, None, IsPermutation}
+use Rattle.std.specs.Prelude.{◌≡◌, ◌≤◌, ⊤, ℕ, zero, suc, Bool, false, List, [], ◌∷◌, ◌++◌, length, replicate, Option, Some, None, IsPermutation}
 use Rattle.std.specs.List.{AllZip, concat}
 use Rattle.octets.specs.declared.tag.Tag.{Tag}
 use Rattle.octets.specs.Rule.{Rule, ber, cer, der, IsCanonical}
-use Rattle.primitives.specs.Bits.{IsBits}
+use Rattle.primitives.specs.Bits.{IsBits, IsTrimmed}
 use Rattle.types.specs.Shape.{SimpleType, StringType, SimpleValue, StringValue, Val, Slots, no_slot, absent, present, Items, listed, Requirement, required, optional, default, Shape, Components, no_component, component, Alternatives, no_alternative, alternative}
 use Rattle.types.specs.Conforms.{SimpleConforms, StringConforms, DiffersFromDefault}
 use Rattle.types.specs.Form.{IsPrimitive, IsConstructed}
@@ -31,6 +31,15 @@ pub record IsBitStringEncoding (rule : Rule) (tag : Tag) (v : Val) (octets : Lis
   pub is : v ≡ Val.string (StringValue.bits bits)
   pub string : IsStringEncoding rule tag bit_segment (IsBits rule) IsWholeOctets bits octets
 
+-- an encoding of a BIT STRING with named bits: of its bits and, under BER alone, any number of bits 0 behind them (11.2.2)
+pub record IsNamedBitsEncoding (rule : Rule) (tag : Tag) (v : Val) (octets : List ℕ) : Type 0 where
+  pub bits : List Bool
+  pub is : v ≡ Val.string (StringValue.bits bits)
+  pub trimmed : IsTrimmed bits
+  pub zeros : ℕ
+  pub canonical : IsCanonical rule → zeros ≡ 0
+  pub string : IsStringEncoding rule tag bit_segment (IsBits rule) IsWholeOctets (bits ++ replicate zeros false) octets
+
 -- an encoding of an OCTET STRING (8.7), and, as of one, of a character string or a time (8.23 and 8.25)
 pub record IsOctetStringEncoding (rule : Rule) (tag : Tag) (type : StringType) (value_of : List ℕ → StringValue) (v : Val) (octets : List ℕ) : Type 0 where
   pub string_octets : List ℕ
@@ -40,6 +49,7 @@ pub record IsOctetStringEncoding (rule : Rule) (tag : Tag) (type : StringType) (
 
 abbrev pub IsEncodingOfString : Rule → Tag → StringType → Meaning
 IsEncodingOfString rule tag StringType.bit_string v octets = IsBitStringEncoding rule tag v octets
+IsEncodingOfString rule tag (StringType.named_bits names) v octets = IsNamedBitsEncoding rule tag v octets
 IsEncodingOfString rule tag StringType.octet_string v octets = IsOctetStringEncoding rule tag StringType.octet_string StringValue.octets v octets
 IsEncodingOfString rule tag (StringType.text kind) v octets = IsOctetStringEncoding rule tag (StringType.text kind) StringValue.text v octets
 IsEncodingOfString rule tag (StringType.time kind) v octets = IsOctetStringEncoding rule tag (StringType.time kind) StringValue.text v octets

@@ -3,7 +3,7 @@ use Rattle.std.specs.Prelude.{◌≡◌, ◌+◌, ◌≤◌, ⊤, ℕ, length, L
 use Rattle.octets.specs.declared.tag.Tag.{Tag}
 use Rattle.types.specs.declared.condition.Condition.{Condition}
 use Rattle.types.specs.declared.condition.Condition.TheVariants.{Limits, Numbers, Tags, Defaults}
-use Rattle.types.specs.Shape.{SimpleType, Shape, Components, no_component, component, Alternatives, no_alternative, alternative}
+use Rattle.types.specs.Shape.{SimpleType, StringType, Shape, Components, no_component, component, Alternatives, no_alternative, alternative}
 use Rattle.types.specs.Conforms.{MayBeAbsent}
 use Rattle.types.specs.FirstTags.{first_tags, tags_of_components, tags_of_run, tags_of_alternatives, IsUsable}
 use Rattle.types.specs.WellFormed.{IsNodeWithin, NumbersDiffer, HasGoodDefaults}
@@ -36,9 +36,10 @@ TellsPartsApart (Shape.set_of tag type) = IsUsable tag
 TellsPartsApart (Shape.choice alternatives) = AlternativesAreApart alternatives
 TellsPartsApart (Shape.explicit tag type) = IsUsable tag
 
--- the items of an ENUMERATED are not more than its limit
+-- the items of an ENUMERATED, or the named bits of a BIT STRING, are not more than the limit
 abbrev pub HasFewItems : Shape → Type 0
 HasFewItems (Shape.simple tag (SimpleType.enumerated items)) = length items ≤ 256
+HasFewItems (Shape.string tag (StringType.named_bits bits)) = length bits ≤ 256
 HasFewItems _ = ⊤
 
 -- a node meets one of the conditions of a well-formed type

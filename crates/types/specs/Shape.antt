@@ -9,6 +9,11 @@ pub record EnumerationItem : Type 0 where
   pub name : List ℕ
   pub number : ℤ
 
+-- a bit of a BIT STRING that has a name (X.680 22.1)
+pub record NamedBitView : Type 0 where
+  pub name : List ℕ
+  pub number : ℕ
+
 -- a type without parts whose encodings are primitive
 pub data SimpleType : Type 0 where
   boolean : SimpleType
@@ -21,14 +26,16 @@ pub data SimpleType : Type 0 where
 -- a type without parts whose encodings may be cut into segments
 pub data StringType : Type 0 where
   bit_string : StringType
+  named_bits : List NamedBitView → StringType
   octet_string : StringType
   text : TextKind → StringType
   time : TimeKind → StringType
 
--- a value of a type without parts whose encodings are primitive
+-- a value of a type without parts whose encodings are primitive; an INTEGER past 128 bits has its contents octets
 pub data SimpleValue : Type 0 where
   boolean : Bool → SimpleValue
   integer : ℤ → SimpleValue
+  wide_integer : List ℕ → SimpleValue
   enumerated : ℤ → SimpleValue
   null : SimpleValue
   oid : List ℕ → SimpleValue

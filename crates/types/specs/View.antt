@@ -1,7 +1,8 @@
 -- What a `Ty` and a `Value` of the code stand for.
 use Rattle.std.specs.Prelude.{ℕ, List, [], ◌∷◌, Option, Some, None, map, option_map}
-use Rattle.types.specs.Shape.{EnumerationItem, SimpleType, StringType, SimpleValue, StringValue, Val, Slots, no_slot, absent, present, Items, no_item, item, Requirement, Shape, Components, no_component, component, Alternatives, no_alternative, alternative}
+use Rattle.types.specs.Shape.{EnumerationItem, NamedBitView, SimpleType, StringType, SimpleValue, StringValue, Val, Slots, no_slot, absent, present, Items, no_item, item, Requirement, Shape, Components, no_component, component, Alternatives, no_alternative, alternative}
 use Rattle.types.specs.declared.ty.Item.{Item}
+use Rattle.types.specs.declared.ty.NamedBit.{NamedBit}
 use Rattle.types.specs.declared.ty.Presence.{Presence}
 use Rattle.types.specs.declared.ty.Ty.{Ty, fold-Ty}
 use Rattle.types.specs.declared.ty.Field.{Field, fold-Field}
@@ -23,6 +24,7 @@ items_of (value ∷ values) = item value (items_of values)
 abbrev pub value_step : Value-F Val → Val
 value_step (Value-F.Boolean truth) = Val.simple (SimpleValue.boolean truth)
 value_step (Value-F.Integer number) = Val.simple (SimpleValue.integer number)
+value_step (Value-F.WideInteger octets) = Val.simple (SimpleValue.wide_integer octets.items)
 value_step (Value-F.Enumerated number) = Val.simple (SimpleValue.enumerated number)
 value_step Value-F.Null = Val.simple SimpleValue.null
 value_step (Value-F.Oid arcs) = Val.simple (SimpleValue.oid arcs.items)
@@ -69,6 +71,9 @@ alternatives_of (a ∷ others) = alternative a.name a.type (alternatives_of othe
 abbrev pub item_view : Item → EnumerationItem
 item_view i = record { name = i.name; number = i.number }
 
+abbrev pub named_bit_view : NamedBit → NamedBitView
+named_bit_view b = record { name = b.name; number = b.number }
+
 -- one level of a type, each type within it seen already
 abbrev pub ty_step : Ty-F Shape AlternativeView ComponentView → Shape
 ty_step (Ty-F.Boolean tag) = Shape.simple tag SimpleType.boolean
@@ -78,6 +83,7 @@ ty_step (Ty-F.Null tag) = Shape.simple tag SimpleType.null
 ty_step (Ty-F.Oid tag) = Shape.simple tag SimpleType.oid
 ty_step (Ty-F.RelativeOid tag) = Shape.simple tag SimpleType.relative_oid
 ty_step (Ty-F.Bits tag) = Shape.string tag StringType.bit_string
+ty_step (Ty-F.NamedBits tag bits) = Shape.string tag (StringType.named_bits (map named_bit_view bits.items))
 ty_step (Ty-F.Octets tag) = Shape.string tag StringType.octet_string
 ty_step (Ty-F.Text tag kind) = Shape.string tag (StringType.text kind)
 ty_step (Ty-F.Time tag kind) = Shape.string tag (StringType.time kind)

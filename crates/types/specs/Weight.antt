@@ -1,10 +1,12 @@
--- How much a value weighs: one for each value in it, each slot, each item, each arc and each octet of a string.
+-- How much a value weighs: one for each value in it, each slot, each item, each arc and each octet of a string
+-- or of a wide INTEGER.
 use Rattle.std.specs.Prelude.{ℕ, ◌+◌, ◌/◌, length}
 use Rattle.types.specs.Shape.{SimpleValue, StringValue, Val, Slots, no_slot, absent, present, Items, no_item, item}
 
 abbrev pub weight_of_simple : SimpleValue → ℕ
 weight_of_simple (SimpleValue.oid arcs) = 1 + length arcs
 weight_of_simple (SimpleValue.relative_oid arcs) = 1 + length arcs
+weight_of_simple (SimpleValue.wide_integer octets) = 1 + length octets
 weight_of_simple _ = 1
 
 -- bits count as the octets that hold them

@@ -1,9 +1,9 @@
 -- Types that are well formed.
-use Rattle.std.specs.Prelude.{◌≢◌, ◌≤◌, ⊤, ℕ, suc, max, map, length, List, [], ◌∷◌, ◌++◌}
+use Rattle.std.specs.Prelude.{◌≢◌, ◌≤◌, ⊤, ℕ, suc, max, map, All, length, List, [], ◌∷◌, ◌++◌}
 use Rattle.std.specs.List.{AllPairs, AllByRecursion}
 use Rattle.strings.specs.declared.text.TextKind.TheVariants.{Bmp}
 use Rattle.octets.specs.declared.tag.Tag.{Tag}
-use Rattle.types.specs.Shape.{SimpleType, StringType, Requirement, required, optional, default, Shape, Components, no_component, component, Alternatives, no_alternative, alternative}
+use Rattle.types.specs.Shape.{NamedBitView, SimpleType, StringType, SimpleValue, Val, Requirement, required, optional, default, Shape, Components, no_component, component, Alternatives, no_alternative, alternative}
 use Rattle.types.specs.FirstTags.{HasDistinctTags}
 use Rattle.types.specs.Conforms.{Conforms}
 
@@ -62,10 +62,20 @@ abbrev pub AreItemsWithin : SimpleType → Type 0
 AreItemsWithin (SimpleType.enumerated items) = (1 ≤ length items) × (length items ≤ 256)
 AreItemsWithin _ = ⊤
 
+-- 1 to 256 named bits, each of the first 65,536
+pub record AreNamedBitsWithin (bits : List NamedBitView) : Type 0 where
+  pub at_least_one : 1 ≤ length bits
+  pub at_most_256 : length bits ≤ 256
+  pub each : All (λ bit. bit.number ≤ 65_535) bits
+
+abbrev pub AreBitsWithin : StringType → Type 0
+AreBitsWithin (StringType.named_bits bits) = AreNamedBitsWithin bits
+AreBitsWithin _ = ⊤
+
 -- a node's tag number and list are within their limits
 abbrev pub IsNodeWithin : Shape → Type 0
 IsNodeWithin (Shape.simple tag type) = IsTagWithin tag × AreItemsWithin type
-IsNodeWithin (Shape.string tag type) = IsTagWithin tag
+IsNodeWithin (Shape.string tag type) = IsTagWithin tag × AreBitsWithin type
 IsNodeWithin (Shape.sequence tag components) = IsTagWithin tag × (count_of_components components ≤ 256)
 IsNodeWithin (Shape.set tag components) = IsTagWithin tag × (count_of_components components ≤ 256)
 IsNodeWithin (Shape.sequence_of tag type) = IsTagWithin tag
@@ -78,9 +88,10 @@ pub record KeepsLimits (shape : Shape) : Type 0 where
   pub levels : levels_of shape ≤ 60
   pub each : AllByRecursion IsNodeWithin (nodes_of shape)
 
--- the numbers of an ENUMERATED's items differ (X.680 clause 20)
+-- the numbers of an ENUMERATED's items differ (X.680 clause 20), and so do those of named bits (22.4)
 abbrev pub NumbersDiffer : Shape → Type 0
 NumbersDiffer (Shape.simple tag (SimpleType.enumerated items)) = AllPairs (λ a b. a ≢ b) (map (λ item. item.number) items)
+NumbersDiffer (Shape.string tag (StringType.named_bits bits)) = AllPairs (λ a b. a ≢ b) (map (λ bit. bit.number) bits)
 NumbersDiffer _ = ⊤
 
 -- the types that take a DEFAULT in this profile, seen through explicit tags
@@ -89,16 +100,22 @@ TakesDefault (Shape.simple tag SimpleType.boolean) = ⊤
 TakesDefault (Shape.simple tag SimpleType.integer) = ⊤
 TakesDefault (Shape.simple tag (SimpleType.enumerated items)) = ⊤
 TakesDefault (Shape.string tag StringType.bit_string) = ⊤
+TakesDefault (Shape.string tag (StringType.named_bits bits)) = ⊤
 TakesDefault (Shape.string tag StringType.octet_string) = ⊤
 TakesDefault (Shape.string tag (StringType.text Bmp)) = ⊥
 TakesDefault (Shape.string tag (StringType.text kind)) = ⊤
 TakesDefault (Shape.explicit tag type) = TakesDefault type
 TakesDefault _ = ⊥
 
+-- a DEFAULT on INTEGER is a number of 128 bits
+abbrev pub IsNoWideInteger : Val → Type 0
+IsNoWideInteger (Val.simple (SimpleValue.wide_integer octets)) = ⊥
+IsNoWideInteger _ = ⊤
+
 abbrev pub IsGoodDefault : Shape → Requirement → Type 0
 IsGoodDefault type required = ⊤
 IsGoodDefault type optional = ⊤
-IsGoodDefault type (default value) = TakesDefault type × Conforms type value
+IsGoodDefault type (default value) = TakesDefault type × Conforms type value × IsNoWideInteger value
 
 abbrev pub AreGoodDefaults : Components → Type 0
 AreGoodDefaults no_component = ⊤
