@@ -128,7 +128,7 @@ IsCleared-from octets n unused x y size some most below item low bits =
 front_bits : (octets : List ℕ) (unused y : ℕ) → List Bool
 front_bits octets unused y = bits_of (take (length octets - 1) octets) ++ take (8 - unused) (bits_of_octet (get_or octets (length octets - 1) 0))
 
-last_of : (octets : List ℕ) → 1 ≤ length octets → octets ≡ take (length octets - 1) octets ++ get_or octets (length octets - 1) 0 ∷ []
+pub last_of : (octets : List ℕ) → 1 ≤ length octets → octets ≡ take (length octets - 1) octets ++ get_or octets (length octets - 1) 0 ∷ []
 last_of octets some =
     let i = length octets - 1 in
     let size : i + 1 ≡ length octets = omega arith in

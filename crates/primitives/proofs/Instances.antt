@@ -1,19 +1,21 @@
 -- The definitions, held against octets of the standard and of its examples.
-use Rattle.std.proofs.Common.{◌≡◌, ℕ, ◌+◌, ◌-◌, ◌*◌, ◌^◌, ◌<◌, ◌≤◌, Bool, true, false, List, [], ◌∷◌, ◌++◌, length, refl, sym, ◌∙◌, ap, arith, All, replicate, suc, subst, get_or}
+use Rattle.std.proofs.Common.{◌≡◌, inl, inr, ℕ, ◌+◌, ◌-◌, ◌*◌, ◌^◌, ◌<◌, ◌≤◌, Bool, true, false, List, [], ◌∷◌, ◌++◌, length, refl, sym, ◌∙◌, ap, arith, All, replicate, suc, subst, get_or}
 use Rattle.std.specs.Prelude.{ℤ, pos, negsuc}
 use Rattle.std.proofs.lemmas.List.{length-replicate}
 use Rattle.std.proofs.lemmas.List.Elements.{All-cons, All-nil, All-replicate}
 use Rattle.octets.specs.Base128.{IsBase128}
 use Rattle.octets.specs.Rule.{Rule, ber, cer, der, IsCanonical}
 use Rattle.octets.proofs.RuleLemmas.{der_is_canonical}
-use Rattle.primitives.specs.Bits.{bits_of_octet, IsBits}
+use Rattle.primitives.specs.Bits.{bits_of_octet, IsBits, IsTrimmed}
 use Rattle.primitives.specs.Boolean.{IsBoolean}
-use Rattle.primitives.specs.Integer.{IsInteger}
+use Rattle.primitives.specs.Integer.{IsInteger, IsWideInteger}
 use Rattle.primitives.specs.Null.{IsNull}
 use Rattle.primitives.specs.Oid.{AreOfArcs, IsOid, IsOidValue, IsRelativeOid, IsRelativeOidValue}
 use Rattle.primitives.proofs.BitsLemmas.{CanBeUnused-from, one_bits_value, one_canonical_bits}
 use Rattle.primitives.proofs.BooleanLemmas.{one_boolean_value, one_canonical_boolean}
+use Rattle.primitives.proofs.IntegerLemmas.{IsWideInteger-from, above_sixteen}
 use Rattle.primitives.proofs.OidLemmas.{one_oid_value, one_oid_encoding}
+use Rattle.primitives.proofs.TrimLemmas.{last-from_IsTrimmed}
 
 not_same : (a b : ℕ) → a < b → a ≡ b → ⊥
 not_same a b less same = omega arith
@@ -87,6 +89,27 @@ one_hundred_and_twenty_eight_is_not_80 h = let v : negsuc 127 ≡ pos 128 = h.va
 
 no_integer_is_00_7F : (number : ℤ) → IsInteger number (0 ∷ 127 ∷ []) → ⊥
 no_integer_is_00_7F number h = let few : 128 ≤ 127 = h.shortest.0 refl in omega arith
+
+All-two : (first second : ℕ) (rest : List ℕ) → first < 256 → second < 256 → All (λ x. x < 256) rest → All (λ x. x < 256) (first ∷ second ∷ rest)
+All-two first second rest low also below = All-cons (λ x. x < 256) first (second ∷ rest) low (All-cons (λ x. x < 256) second rest also below)
+
+-- one more than 128 bits hold, and one less
+two_to_the_127_is_wide : IsWideInteger (0 ∷ 128 ∷ replicate 15 0)
+two_to_the_127_is_wide =
+    IsWideInteger-from (0 ∷ 128 ∷ replicate 15 0) (omega arith) (omega arith) (All-two 0 128 (replicate 15 0) (omega arith) (omega arith) (All-replicate {X = ℕ} (λ x. x < 256) 15 0 (omega arith))) (λ h. omega arith, λ h. omega arith)
+
+one_below_minus_two_to_the_127_is_wide : IsWideInteger (255 ∷ 127 ∷ replicate 15 255)
+one_below_minus_two_to_the_127_is_wide =
+    IsWideInteger-from (255 ∷ 127 ∷ replicate 15 255) (omega arith) (omega arith) (All-two 255 127 (replicate 15 255) (omega arith) (omega arith) (All-replicate {X = ℕ} (λ x. x < 256) 15 255 (omega arith))) (λ h. omega arith, λ h. omega arith)
+
+seventeen_octets_from_00_7F_are_not_wide : IsWideInteger (0 ∷ 127 ∷ replicate 15 255) → ⊥
+seventeen_octets_from_00_7F_are_not_wide h = let few : 128 ≤ 127 = h.spelt.shortest.0 refl in omega arith
+
+minus_two_to_the_127_is_not_wide : IsWideInteger (128 ∷ replicate 15 0) → ⊥
+minus_two_to_the_127_is_not_wide h = let many : 16 < 16 = above_sixteen (128 ∷ replicate 15 0) h in omega arith
+
+octets_beyond_1024_are_not_wide : (contents : List ℕ) → length contents ≡ 1025 → IsWideInteger contents → ⊥
+octets_beyond_1024_are_not_wide contents size h = omega (arith, h.within)
 
 no_integer_is_FF_FF : (number : ℤ) → IsInteger number (255 ∷ 255 ∷ []) → ⊥
 no_integer_is_FF_FF number h = let few : 255 < 128 = h.shortest.1 refl in omega arith
@@ -308,3 +331,14 @@ nine_ones_are_07_FF_80 = record { unused = 7; octets = 255 ∷ 128 ∷ []; tail 
 nine_ones_are_07_FF_FF : IsBits ber (replicate 9 true) (7 ∷ 255 ∷ 255 ∷ [])
 unfolding bits_of_octet
 nine_ones_are_07_FF_FF = record { unused = 7; octets = 255 ∷ 255 ∷ []; tail = replicate 7 true; contents_are = refl; at_most_7 = omega arith; below_256 = (All-cons (λ x. x < 256) 255 (255 ∷ []) (omega arith) (All-cons (λ x. x < 256) 255 ([]) (omega arith) (All-nil (λ x. x < 256)))); bits_are = refl; tail_is = refl; free = tt }
+
+no_bits_are_trimmed : IsTrimmed []
+no_bits_are_trimmed = inl refl
+
+bits_101_are_trimmed : IsTrimmed (true ∷ false ∷ true ∷ [])
+bits_101_are_trimmed = inr (true ∷ false ∷ [], refl)
+
+bits_1010_are_not_trimmed : IsTrimmed (true ∷ false ∷ true ∷ false ∷ []) → ⊥
+bits_1010_are_not_trimmed h =
+    let one : false ≡ true = last-from_IsTrimmed (true ∷ false ∷ true ∷ false ∷ []) (omega arith) h in
+    cc

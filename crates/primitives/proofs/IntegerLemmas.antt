@@ -1,6 +1,7 @@
 -- Lemmas on numbers in two's complement.
 use Rattle.std.proofs.Common.{◌≡◌, ℕ, ◌+◌, ◌*◌, ◌^◌, ◌<◌, ◌≤◌, ◌-◌, ◌/◌, ◌%◌, inl, inr, ◌⊎◌, List, [], ◌∷◌, ◌++◌, length, take, refl, sym, ◌∙◌, ap, arith, All, get_or, suc, Bool, true, false, length-append, append_assoc, drop, set, subst}
-use Rattle.std.specs.Prelude.{pos, negsuc, ◌-ℤ◌}
+use Rattle.std.specs.Prelude.{ℤ, pos, negsuc, ◌-ℤ◌, FitsSigned}
+use Rattle.std.specs.Int.{w128}
 use Rattle.std.proofs.lemmas.List.{take_more, drop-set, length-set}
 use Rattle.std.proofs.lemmas.List.Elements.{All-append, All-cons, All-nil}
 use Rattle.std.proofs.Math.Nat.{pow-le-pow_right, pow-suc, mul-le-mul_right}
@@ -11,7 +12,7 @@ use Rattle.std.proofs.lemmas.Int.{ints}
 use Rattle.octets.specs.Digits.{number_of}
 use Rattle.octets.proofs.DigitLemmas.{number_of-snoc, number_of-below, All-tail}
 use Rattle.octets.proofs.PlaceLemmas.{number_of-injective}
-use Rattle.primitives.specs.Integer.{IsInteger, integer_of, NineBitsDiffer, number_at, last_octet_at}
+use Rattle.primitives.specs.Integer.{IsInteger, IsWideInteger, integer_of, NineBitsDiffer, number_at, last_octet_at}
 use Rattle.primitives.specs.Laws.{OneIntegerValue, OneIntegerEncoding, AtMostSixteenOctets}
 
 -- one octet more
@@ -183,6 +184,28 @@ at_most_sixteen_octets (pos n) c fits h =
 at_most_sixteen_octets (negsuc n) c fits h =
     let whole : 256 ^ 16 ≡ 2 ^ 128 = refl in
     not_longer true n c 16 h (omega (arith, ints, fits, whole)) (omega arith)
+
+-- and sixteen octets hold no other
+fits_from_sixteen : (number : ℤ) (contents : List ℕ) → IsInteger number contents → length contents ≤ 16 → FitsSigned w128 number
+fits_from_sixteen (pos n) c h few = let k = IsComplement-from false n c h in omega (arith, ints, k.half, sixteen (length c) few)
+fits_from_sixteen (negsuc n) c h few = let k = IsComplement-from true n c h in omega (arith, ints, k.half, sixteen (length c) few)
+
+pub IsWideInteger-from : (contents : List ℕ) → 16 < length contents → length contents ≤ 1024 → All (λ d. d < 256) contents → NineBitsDiffer contents → IsWideInteger contents
+IsWideInteger-from c many few octets short =
+    let h : IsInteger (integer_of c) c = record { at_least_one = omega arith; below_256 = octets; shortest = short; value = refl } in
+    record {
+      number = integer_of c;
+      spelt = h;
+      outside = λ fits. absurd (omega (arith, many, at_most_sixteen_octets (integer_of c) c fits h));
+      within = few;
+    }
+
+pub above_sixteen : (contents : List ℕ) → IsWideInteger contents → 16 < length contents
+above_sixteen c h =
+    elim (cases_lt 16 (length c)) [
+      | inl many ↦ many
+      | inr few ↦ absurd (h.outside (fits_from_sixteen h.number c h.spelt few))
+    ]
 
 same_number : (negative : Bool) (m : ℕ) (c d : List ℕ) → length c ≡ length d → Spells negative m c → Spells negative m d → number_of 256 c ≡ number_of 256 d
 same_number false m c d size h k = h ∙ sym k

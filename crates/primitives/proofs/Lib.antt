@@ -3,4 +3,5 @@ pub mod IntegerLemmas
 pub mod SubidentifierLemmas
 pub mod OidLemmas
 pub mod BitsLemmas
+pub mod TrimLemmas
 mod Instances

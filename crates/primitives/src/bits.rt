@@ -1,12 +1,12 @@
 //! A BIT STRING value, and its contents octets in a primitive encoding (X.690 8.6.2 and 11.2.1).
 
-ghost use Rattle.std.specs.Prelude.{◌≡◌, ℕ, ◌-◌, ◌≤◌, ◌↔◌, Bool, false, List, ◌++◌, take, replicate, IfSome, IsSome, IfOk, OnOk, OnErr, IsErrOf};
+ghost use Rattle.std.specs.Prelude.{◌≡◌, ℕ, ◌+◌, ◌*◌, ◌^◌, ◌-◌, ◌/◌, ◌%◌, ◌<◌, ◌≤◌, ◌↔◌, ◌⊎◌, Bool, true, false, List, [], ◌∷◌, ◌++◌, length, slice_index, take, replicate, IfSome, IsSome, IfOk, OnOk, OnErr, IsErrOf, IsTrue};
 ghost use Rattle.std.specs.Cmp.{partial_equiv_from_equiv, bool_eq_equiv};
 ghost use Rattle.std.specs.Cmp.Lexicographic.{pointwise, lists_equiv};
 ghost use mathlib.Core.Bool.{beq};
 ghost use Rattle.octets.specs.Front.{Appends};
 ghost use Rattle.octets.specs.Rule.{ber};
-ghost use Rattle.primitives.specs.Bits.{bits_of_octet, bits_before, CanBeUnused, IsBits, IsCanonicalBits, IsFrontOf, IsPadded};
+ghost use Rattle.primitives.specs.Bits.{bits_of_octet, bits_before, CanBeUnused, IsBits, IsCanonicalBits, IsFrontOf, IsPadded, IsTrimmed};
 
 use crate::Fault;
 use octets::NoMemory;
@@ -61,6 +61,31 @@ impl Bits {
     {
         self.unused
     }
+
+    /// Whether there are no bits, or the last one is 1 (X.690 11.2.2). Takes no memory.
+    pub fn is_trimmed(&self) -> bool
+        ensures { IsTrue result ↔ IsTrimmed self.now }
+    {
+        match self.octets.last() {
+            Some(last) => (*last >> self.unused) % 2 == 1,
+            None => true,
+        }
+    }
+
+    /// These bits without the zero bits at their end (X.690 11.2.2). Takes no memory.
+    pub fn trimmed(self) -> Bits
+        ensures front { (zeros : ℕ) × (self ≡ result ++ replicate zeros false) }
+        ensures trimmed { IsTrimmed result }
+    {
+        let mut octets = self.octets;
+        let count = count_before_zeros(&octets);
+        octets.truncate(count);
+        if count == 0 {
+            return Bits { octets, unused: 0 };
+        }
+        let unused = zero_bits_at_end(octets[count - 1]);
+        Bits { octets, unused }
+    }
 }
 
 impl PartialEq for Bits {
@@ -84,6 +109,28 @@ fn clear_last_bits(octet: u8, unused: u8) -> u8
     ensures { bits_of_octet result ≡ take (8 - unused) (bits_of_octet octet) ++ replicate unused false }
 {
     octet >> unused << unused
+}
+
+// How many octets there are before the zero octets at the end.
+fn count_before_zeros(octets: &[u8]) -> usize
+    ensures within { result ≤ length octets.now }
+    ensures zeros { (zeros : ℕ) × (octets.now ≡ take result octets.now ++ replicate zeros 0) }
+    ensures last { 0 < result → 0 < slice_index octets.now (result - 1) }
+{
+    let mut count = octets.len();
+    while count > 0 && octets[count - 1] == 0 {
+        count -= 1;
+    }
+    count
+}
+
+// How many zero bits there are after the last bit that is 1.
+fn zero_bits_at_end(octet: u8) -> u8
+    requires { 0 < octet }
+    ensures within { result ≤ 7 }
+    ensures bits { bits_of_octet octet ≡ take (7 - result) (bits_of_octet octet) ++ true ∷ replicate result false }
+{
+    octet.trailing_zeros() as u8
 }
 
 /// The value of a BIT STRING's contents octets in a primitive encoding under BER. Unused bits need not

@@ -4,8 +4,9 @@ ghost use Rattle.std.specs.Prelude.{◌≡◌, ◌+◌, ◌*◌, ◌^◌, ◌<�
 ghost use Rattle.std.specs.Int.{w128};
 ghost use Rattle.octets.specs.Digits.{number_of};
 ghost use Rattle.octets.specs.Front.{Appends};
-ghost use Rattle.primitives.specs.Integer.{IsInteger, NineBitsDiffer, number_at, last_octet_at};
+ghost use Rattle.primitives.specs.Integer.{IsInteger, IsWideInteger, NineBitsDiffer, number_at, last_octet_at};
 
+use crate::MAX_INTEGER_OCTETS;
 use octets::NoMemory;
 
 /// The number of an INTEGER's contents octets, from -2^127 to 2^127 - 1. Takes no memory.
@@ -24,6 +25,17 @@ pub fn read_integer(contents: &[u8]) -> Option<i128>
     } else {
         Some(-1 - number_below(contents) as i128)
     }
+}
+
+/// Whether these are contents octets of a number below -2^127 or above 2^127 - 1, at most
+/// `MAX_INTEGER_OCTETS` of them. Takes no memory.
+pub fn is_wide_integer(contents: &[u8]) -> bool
+    ensures { IsTrue result ↔ IsWideInteger contents.now }
+{
+    if contents.len() <= 16 || contents.len() > MAX_INTEGER_OCTETS {
+        return false;
+    }
+    is_shortest(contents)
 }
 
 // Whether the first nine bits are neither all 0 nor all 1.

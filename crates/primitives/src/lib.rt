@@ -16,7 +16,7 @@ mod subidentifier;
 pub use bits::{Bits, put_bits, read_bits};
 pub use boolean::{put_boolean, read_boolean};
 pub use fault::Fault;
-pub use integer::{put_integer, read_integer};
+pub use integer::{is_wide_integer, put_integer, read_integer};
 pub use laws::{
     at_most_sixteen_octets, canonical_bits_are_ber, canonical_boolean_is_ber, one_bits_value,
     one_boolean_value, one_canonical_bits, one_canonical_boolean, one_integer_encoding,
@@ -28,3 +28,6 @@ pub use oid::{put_oid, put_relative_oid, read_oid, read_relative_oid};
 
 /// The most subidentifiers of one value.
 pub const MAX_SUBIDENTIFIERS: usize = 128;
+
+/// The most contents octets of an INTEGER.
+pub const MAX_INTEGER_OCTETS: usize = 1_024;
