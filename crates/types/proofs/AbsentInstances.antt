@@ -46,7 +46,7 @@ well_formed_by_default = record {
   limits = record { nodes = omega arith; levels = omega arith; each = ((omega arith, omega arith), (omega arith, ((omega arith, tt), tt))) };
   tags = ((usable_universal 16 (omega arith), (one_differs (context 0), tt)), (usable_context 0, (usable_universal 1 (omega arith), tt)));
   numbers = (tt, (tt, (tt, tt)));
-  defaults = (((tt, tt), tt), (tt, (tt, tt)));
+  defaults = (((tt, tt, tt), tt), (tt, (tt, tt)));
 }
 
 default-der : IsEncoding der true_by_default (Val.fields (absent no_slot)) (0x30 ∷ 0x00 ∷ [])

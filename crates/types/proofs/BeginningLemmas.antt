@@ -1,6 +1,6 @@
 -- Lemmas on what the encodings of a type begin with, and that each of them is one encoding.
 use Rattle.std.specs.List.{AllByRecursion, AllZip, concat}
-use Rattle.std.proofs.Common.{◌≡◌, ◌+◌, ℕ, zero, suc, inl, inr, Bool, true, false, List, [], ◌∷◌, ◌++◌, Option, Some, None, refl, sym, ap, ◌∙◌, subst, arith, IsPermutation, append-nil, add_comm, zero-add, suc-add}
+use Rattle.std.proofs.Common.{◌≡◌, ◌+◌, ℕ, zero, suc, inl, inr, Bool, true, false, List, [], ◌∷◌, ◌++◌, Option, Some, None, refl, sym, ap, ◌∙◌, subst, arith, IsPermutation, append-nil, replicate, add_comm, zero-add, suc-add}
 use Rattle.std.proofs.lemmas.List.Elements.{All-from_recursion, recursion_from_All}
 use Rattle.std.proofs.lemmas.List.Sorted.{All-permutation}
 use Rattle.octets.specs.declared.tag.Tag.{Tag}
@@ -42,6 +42,7 @@ string_begins der tag inner Holds Whole string octets h = definite_begins der ta
 
 of_string_begins : (rule : Rule) (tag : Tag) (type : StringType) (v : Val) (octets : List ℕ) → IsEncodingOfString rule tag type v octets → BeginsWith tag octets
 of_string_begins rule tag StringType.bit_string v octets h = string_begins rule tag _ _ _ h.bits octets h.string
+of_string_begins rule tag (StringType.named_bits names) v octets h = string_begins rule tag _ _ _ (h.bits ++ replicate h.zeros false) octets h.string
 of_string_begins rule tag StringType.octet_string v octets h = string_begins rule tag _ _ _ h.string_octets octets h.string
 of_string_begins rule tag (StringType.text kind) v octets h = string_begins rule tag _ _ _ h.string_octets octets h.string
 of_string_begins rule tag (StringType.time kind) v octets h = string_begins rule tag _ _ _ h.string_octets octets h.string
@@ -141,6 +142,7 @@ string_is_nested tag inner Holds Whole string octets usable inner_usable (inr h)
 
 of_string_is_nested : (tag : Tag) (type : StringType) (v : Val) (octets : List ℕ) → IsUsable tag → IsEncodingOfString ber tag type v octets → IsOneNested octets
 of_string_is_nested tag StringType.bit_string v octets usable h = string_is_nested tag _ _ _ h.bits octets usable (λ u. omega arith) h.string
+of_string_is_nested tag (StringType.named_bits names) v octets usable h = string_is_nested tag _ _ _ (h.bits ++ replicate h.zeros false) octets usable (λ u. omega arith) h.string
 of_string_is_nested tag StringType.octet_string v octets usable h = string_is_nested tag _ _ _ h.string_octets octets usable (λ u. omega arith) h.string
 of_string_is_nested tag (StringType.text kind) v octets usable h = string_is_nested tag _ _ _ h.string_octets octets usable (λ u. omega arith) h.string
 of_string_is_nested tag (StringType.time kind) v octets usable h = string_is_nested tag _ _ _ h.string_octets octets usable (λ u. omega arith) h.string

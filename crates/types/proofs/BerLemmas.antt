@@ -1,5 +1,5 @@
 -- Lemmas on the encodings of CER and DER: BER takes them, as encodings of the same values.
-use Rattle.std.proofs.Common.{inl, inr, ℕ, zero, suc, List, [], ◌∷◌, Option, Some, None, refl, subst₂, append-nil}
+use Rattle.std.proofs.Common.{inl, inr, ℕ, zero, suc, false, List, [], ◌∷◌, ◌++◌, replicate, Option, Some, None, refl, subst₂, append-nil}
 use Rattle.std.specs.List.{AllZip, concat}
 use Rattle.octets.specs.declared.tag.Tag.{Tag}
 use Rattle.octets.specs.Rule.{Rule, ber, cer, der}
@@ -21,6 +21,7 @@ constructed_by_ber der tag contents octets h = inl record { identifier = h.ident
 pub contents_by_ber : (rule : Rule) (value : SimpleValue) (contents : List ℕ) → IsContents rule value contents → IsContents ber value contents
 contents_by_ber rule (SimpleValue.boolean truth) contents h = canonical_boolean_is_ber rule truth contents h
 contents_by_ber rule (SimpleValue.integer number) contents h = h
+contents_by_ber rule (SimpleValue.wide_integer wide) contents h = h
 contents_by_ber rule (SimpleValue.enumerated number) contents h = h
 contents_by_ber rule SimpleValue.null contents h = h
 contents_by_ber rule (SimpleValue.oid arcs) contents h = h
@@ -55,6 +56,14 @@ octets_by_ber rule tag type value_of v octets h = record {
 pub string_encoding_by_ber : (rule : Rule) (tag : Tag) (type : StringType) (v : Val) (octets : List ℕ) → IsEncodingOfString rule tag type v octets → IsEncodingOfString ber tag type v octets
 string_encoding_by_ber rule tag StringType.bit_string v octets h =
     record { bits = h.bits; is = h.is; string = string_by_ber bit_segment IsBits IsWholeOctets canonical_bits_are_ber rule tag h.bits octets h.string }
+string_encoding_by_ber rule tag (StringType.named_bits names) v octets h = record {
+  bits = h.bits;
+  is = h.is;
+  trimmed = h.trimmed;
+  zeros = h.zeros;
+  canonical = λ canonical. absurd (canonical refl);
+  string = string_by_ber bit_segment IsBits IsWholeOctets canonical_bits_are_ber rule tag (h.bits ++ replicate h.zeros false) octets h.string;
+}
 string_encoding_by_ber rule tag StringType.octet_string v octets h = octets_by_ber rule tag StringType.octet_string StringValue.octets v octets h
 string_encoding_by_ber rule tag (StringType.text kind) v octets h = octets_by_ber rule tag (StringType.text kind) StringValue.text v octets h
 string_encoding_by_ber rule tag (StringType.time kind) v octets h = octets_by_ber rule tag (StringType.time kind) StringValue.text v octets h

@@ -87,7 +87,7 @@ cut_15984 d f size other below low =
 
 -- and so not in other octets
 bits_once : (bits : List Bool) (a b : List ℕ) → IsEncoding cer bit_string (bits_in bits) a → IsEncoding cer bit_string (bits_in bits) b → a ≡ b
-bits_once bits a b h k = one_canonical cer bit_string (bits_in bits) a b (well_formed_string (universal 3) StringType.bit_string usable_bit (omega arith)) cer_is_canonical h k
+bits_once bits a b h k = one_canonical cer bit_string (bits_in bits) a b (well_formed_string (universal 3) StringType.bit_string usable_bit (omega arith) tt tt) cer_is_canonical h k
 
 -- 7,992 bits are not cut
 cut_7992 : (d : List ℕ) → length d ≡ 999 → All (λ o. o < 256) d → IsEncoding cer bit_string (bits_in (bits_of d)) (0x23 ∷ indefinite_around (bits_999 d)) → ⊥

@@ -61,7 +61,7 @@ one_bit-cut = record {
 
 one_bit-only : (rule : Rule) (octets : List ℕ) → IsCanonical rule → (0x03 ∷ 0x02 ∷ 0x07 ∷ 0x80 ∷ [] ≡ octets → ⊥) → IsEncoding rule bit_string (bits_in one) octets → ⊥
 one_bit-only rule octets canonical apart h =
-    in_other_octets rule bit_string (bits_in one) (0x03 ∷ 0x02 ∷ 0x07 ∷ 0x80 ∷ []) octets (well_formed_string (universal 3) StringType.bit_string (usable_universal 3 (omega arith)) (omega arith)) canonical (one_bit rule) apart h
+    in_other_octets rule bit_string (bits_in one) (0x03 ∷ 0x02 ∷ 0x07 ∷ 0x80 ∷ []) octets (well_formed_string (universal 3) StringType.bit_string (usable_universal 3 (omega arith)) (omega arith) tt tt) canonical (one_bit rule) apart h
 
 one_bit-set_canonical : (rule : Rule) → IsCanonical rule → IsEncoding rule bit_string (bits_in one) (0x03 ∷ 0x02 ∷ 0x07 ∷ 0xFF ∷ []) → ⊥
 one_bit-set_canonical rule canonical h = one_bit-only rule (0x03 ∷ 0x02 ∷ 0x07 ∷ 0xFF ∷ []) canonical (λ same. not_same 0x80 0xFF (omega arith) (ap (λ l. get_or l 3 0) same)) h
@@ -79,4 +79,4 @@ two_bits = record { bits = true ∷ false ∷ []; is = refl; string = inl record
 
 one_bit-two : (rule : Rule) → IsEncoding rule bit_string (bits_in one) (0x03 ∷ 0x02 ∷ 0x06 ∷ 0x80 ∷ []) → ⊥
 one_bit-two rule h =
-    of_another rule bit_string (bits_in one) (bits_in (true ∷ false ∷ [])) (0x03 ∷ 0x02 ∷ 0x06 ∷ 0x80 ∷ []) (well_formed_string (universal 3) StringType.bit_string (usable_universal 3 (omega arith)) (omega arith)) two_bits (λ same. cc) h
+    of_another rule bit_string (bits_in one) (bits_in (true ∷ false ∷ [])) (0x03 ∷ 0x02 ∷ 0x06 ∷ 0x80 ∷ []) (well_formed_string (universal 3) StringType.bit_string (usable_universal 3 (omega arith)) (omega arith) tt tt) two_bits (λ same. cc) h

@@ -115,6 +115,7 @@ boolean_by_cer false contents h = h
 pub contents_by_der : (v : SimpleValue) (contents : List ℕ) → IsContents cer v contents → IsContents der v contents
 contents_by_der (SimpleValue.boolean truth) contents h = boolean_by_der truth contents h
 contents_by_der (SimpleValue.integer number) contents h = h
+contents_by_der (SimpleValue.wide_integer octets) contents h = h
 contents_by_der (SimpleValue.enumerated number) contents h = h
 contents_by_der SimpleValue.null contents h = h
 contents_by_der (SimpleValue.oid arcs) contents h = h
@@ -123,6 +124,7 @@ contents_by_der (SimpleValue.relative_oid arcs) contents h = h
 pub contents_by_cer : (v : SimpleValue) (contents : List ℕ) → IsContents der v contents → IsContents cer v contents
 contents_by_cer (SimpleValue.boolean truth) contents h = boolean_by_cer truth contents h
 contents_by_cer (SimpleValue.integer number) contents h = h
+contents_by_cer (SimpleValue.wide_integer octets) contents h = h
 contents_by_cer (SimpleValue.enumerated number) contents h = h
 contents_by_cer SimpleValue.null contents h = h
 contents_by_cer (SimpleValue.oid arcs) contents h = h

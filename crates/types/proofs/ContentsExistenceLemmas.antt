@@ -64,6 +64,7 @@ simple_contents rule SimpleType.boolean (SimpleValue.boolean truth) canonical c 
     let made = boolean_contents rule truth canonical in (made.0, made.1, omega (arith, made.2))
 simple_contents rule SimpleType.integer (SimpleValue.integer number) canonical c =
     let made = integer_contents number c in (made.0, made.1, omega (arith, made.2))
+simple_contents rule SimpleType.integer (SimpleValue.wide_integer octets) canonical c = (octets, refl, omega arith)
 simple_contents rule (SimpleType.enumerated items) (SimpleValue.enumerated number) canonical c =
     let made = integer_contents number c.1 in (made.0, made.1, omega (arith, made.2))
 simple_contents rule SimpleType.null SimpleValue.null canonical c = ([], refl, omega arith)

@@ -1,5 +1,5 @@
 -- Lemmas on how deep encodings nest.
-use Rattle.std.proofs.Common.{◌≡◌, ◌≤◌, inl, inr, ℕ, zero, suc, List, [], ◌∷◌, ◌++◌, Option, Some, None, refl, sym, ap, subst, arith, append-nil}
+use Rattle.std.proofs.Common.{◌≡◌, ◌≤◌, inl, inr, ℕ, zero, suc, false, replicate, List, [], ◌∷◌, ◌++◌, Option, Some, None, refl, sym, ap, subst, arith, append-nil}
 use Rattle.std.specs.List.{AllByRecursion, concat}
 use Rattle.octets.specs.declared.tag.Tag.{Tag}
 use Rattle.octets.specs.Rule.{Rule, ber, cer, der, IsCanonical}
@@ -49,6 +49,7 @@ module _ {A : Type 0} (inner : Tag) (usable : IsUsable inner) (Holds : List A �
 
 pub string_encoding_nested : (rule : Rule) (n : ℕ) (tag : Tag) (type : StringType) (v : Val) (octets : List ℕ) → IsCanonical rule → IsUsable tag → IsEncodingOfString rule tag type v octets → IsNested (suc n) octets
 string_encoding_nested rule n tag StringType.bit_string v octets canonical u h = string_nested bit_segment (λ class. omega arith) (IsBits rule) IsWholeOctets rule n tag h.bits octets canonical u h.string
+string_encoding_nested rule n tag (StringType.named_bits names) v octets canonical u h = string_nested bit_segment (λ class. omega arith) (IsBits rule) IsWholeOctets rule n tag (h.bits ++ replicate h.zeros false) octets canonical u h.string
 string_encoding_nested rule n tag StringType.octet_string v octets canonical u h = string_nested octet_segment (λ class. omega arith) AreOctets AlwaysWhole rule n tag h.string_octets octets canonical u h.string
 string_encoding_nested rule n tag (StringType.text kind) v octets canonical u h = string_nested octet_segment (λ class. omega arith) AreOctets AlwaysWhole rule n tag h.string_octets octets canonical u h.string
 string_encoding_nested rule n tag (StringType.time kind) v octets canonical u h = string_nested octet_segment (λ class. omega arith) AreOctets AlwaysWhole rule n tag h.string_octets octets canonical u h.string

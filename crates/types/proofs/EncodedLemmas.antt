@@ -12,6 +12,7 @@ use Rattle.types.proofs.SlotLemmas.{AreFilled, filled}
 
 string_conforms : (rule : Rule) (tag : Tag) (type : StringType) (v : Val) (octets : List ℕ) → IsEncodingOfString rule tag type v octets → Conforms (Shape.string tag type) v
 string_conforms rule tag StringType.bit_string v octets h = subst (Conforms (Shape.string tag StringType.bit_string)) (sym h.is) tt
+string_conforms rule tag (StringType.named_bits names) v octets h = subst (Conforms (Shape.string tag (StringType.named_bits names))) (sym h.is) h.trimmed
 string_conforms rule tag StringType.octet_string v octets h = subst (Conforms (Shape.string tag StringType.octet_string)) (sym h.is) h.conforms
 string_conforms rule tag (StringType.text kind) v octets h = subst (Conforms (Shape.string tag (StringType.text kind))) (sym h.is) h.conforms
 string_conforms rule tag (StringType.time kind) v octets h = subst (Conforms (Shape.string tag (StringType.time kind))) (sym h.is) h.conforms

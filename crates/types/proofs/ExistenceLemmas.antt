@@ -42,6 +42,7 @@ size_of_order xs ys order = size_is ys ∙ (sum_by-IsPermutation (λ x. length x
 some_weight : (v : Val) → 1 ≤ weight_of v
 some_weight (Val.simple (SimpleValue.boolean truth)) = omega arith
 some_weight (Val.simple (SimpleValue.integer number)) = omega arith
+some_weight (Val.simple (SimpleValue.wide_integer octets)) = omega arith
 some_weight (Val.simple (SimpleValue.enumerated number)) = omega arith
 some_weight (Val.simple SimpleValue.null) = omega arith
 some_weight (Val.simple (SimpleValue.oid arcs)) = omega arith
@@ -96,7 +97,7 @@ module _ (limit : ℕ) (lengths : HasLengthsBelow (16_384 * limit)) (rule : Rule
   mutual
     pub exists : (shape : Shape) (v : Val) (n : ℕ) → n ≤ 60 → levels_of shape ≤ n → AllByRecursion HasDistinctTags (nodes_of shape) → AllByRecursion IsNodeWithin (nodes_of shape) → Conforms shape v → weight_of v < limit → IsOfWeight (IsEncoding rule shape v) (weight_of v) n
     exists (Shape.simple tag type) (Val.simple value) n most levels tags within c light = simple_exists n tag type value within.0.0 c light
-    exists (Shape.string tag type) (Val.string value) n most levels tags within c light = string_exists n tag type value within.0 c light
+    exists (Shape.string tag type) (Val.string value) n most levels tags within c light = string_exists n tag type value within.0.0 c light
     exists (Shape.sequence tag components) (Val.fields slots) zero most levels tags within c light = absurd (omega arith)
     exists (Shape.sequence tag components) (Val.fields slots) (suc n) most levels tags within c light =
         let parts = slots_exist components slots n (omega arith) (omega arith) tags.1 within.1 c (omega arith) in

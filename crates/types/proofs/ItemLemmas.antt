@@ -1,5 +1,5 @@
--- Lemmas on the numbers of an ENUMERATED's items.
-use Rattle.std.proofs.Common.{◌<ℤ◌, ◌+◌, ◌≤◌, Bool, true, false, IsPermutation, ◌≡◌, ◌≢◌, ◌↔◌, ◌<◌, ℕ, ℤ, zero, suc, List, [], ◌∷◌, length, get_or, map, Contains, AllPairs, inl, inr, refl, sym, ap, subst, ◌∙◌, arith}
+-- Lemmas on the numbers of an ENUMERATED's items and of named bits.
+use Rattle.std.proofs.Common.{◌<ℤ◌, ◌+◌, ◌≤◌, Bool, true, false, IsPermutation, ◌≡◌, ◌≢◌, ◌↔◌, ◌<◌, ℕ, ℤ, pos, zero, suc, List, [], ◌∷◌, length, get_or, map, Contains, AllPairs, inl, inr, refl, sym, ap, subst, ◌∙◌, arith}
 use Rattle.std.specs.List.{AllByRecursion, IsDistinct}
 use Rattle.std.specs.List.Sorted.{IsSorted}
 use Rattle.std.specs.declared.cmp.Ordering.{Ordering}
@@ -8,11 +8,12 @@ use Rattle.std.specs.Ordering.{is_lt, ordering_reverse, int_cmp, int_eq, MatchOr
 use Rattle.std.specs.Cmp.{int_ranks}
 use Rattle.std.proofs.lemmas.Cmp.{int_cmp_total, int_eq_equiv}
 use Rattle.std.proofs.lemmas.Bool.Decides.{Decides-int_eq}
-use Rattle.std.proofs.lemmas.List.{length-map}
+use Rattle.std.proofs.lemmas.List.{length-map, get_or-map}
 use Rattle.std.proofs.lemmas.List.Sorted.{sorted_far, ranks_by, IsPermutation-sym}
 use Rattle.std.proofs.lemmas.Map.Keys.{IsDistinct-IsPermutation}
 use Rattle.types.specs.declared.ty.Item.{Item}
-use Rattle.types.specs.View.{item_view}
+use Rattle.types.specs.declared.ty.NamedBit.{NamedBit}
+use Rattle.types.specs.View.{item_view, named_bit_view}
 use Rattle.types.proofs.ListLemmas.{not_in_nil, contains_first, contains_later, contains_cases, first_differs, others_differ, all_differ-cons, AllPairs-nil}
 
 abbrev pub item_numbers : List Item → List ℤ
@@ -117,3 +118,30 @@ moved_back xs ys moved h = differ_moved ys xs (IsPermutation-sym xs ys moved) h
 
 pub few_items : (items : List Item) → length items ≤ 256 → length (map item_view items) ≤ 256
 few_items items few = omega (arith, length-map items item_view)
+
+-- the numbers of named bits
+abbrev pub bit_numbers : List NamedBit → List ℕ
+bit_numbers bits = map (λ (bit : NamedBit). bit.number) bits
+
+pub bit_numbers_of : (bits : List NamedBit) → map (λ bit. bit.number) (map named_bit_view bits) ≡ bit_numbers bits
+bit_numbers_of [] = refl
+bit_numbers_of (bit ∷ bits) = ap (λ numbers. bit.number ∷ numbers) (bit_numbers_of bits)
+
+pub few_bits : (bits : List NamedBit) → length bits ≤ 256 → length (map named_bit_view bits) ≤ 256
+few_bits bits few = omega (arith, length-map bits named_bit_view)
+
+-- natural numbers differ exactly where they do as integers
+pub differ_as_naturals : (ns : List ℕ) → AllDiffer (map pos ns) ↔ AllPairs (λ a b. a ≢ b) ns
+differ_as_naturals ns = (
+  λ h i j d less below same.
+      h i j (pos d) less (omega (arith, length-map ns pos)) (get_or-map pos ns i d (pos d) (omega arith) ∙ ap pos same ∙ sym (get_or-map pos ns j d (pos d) below)),
+  λ h i j d less below same.
+      let short : j < length ns = omega (arith, length-map ns pos) in
+      let equal : pos (get_or ns i 0) ≡ pos (get_or ns j 0) = sym (get_or-map pos ns i 0 d (omega arith)) ∙ same ∙ get_or-map pos ns j 0 d short in
+      let one : get_or ns i 0 ≡ get_or ns j 0 = cc equal in
+      h i j 0 less short one,
+)
+
+pub bits_differ_along : (answer : Type 0) (bits found : List NamedBit) → found ≡ bits → answer ↔ AllPairs (λ a b. a ≢ b) (bit_numbers found) → answer ↔ AllPairs (λ a b. a ≢ b) (map (λ bit. bit.number) (map named_bit_view bits))
+bits_differ_along answer bits found p h =
+    subst (λ numbers. answer ↔ AllPairs (λ a b. a ≢ b) numbers) (sym (bit_numbers_of bits)) (subst (λ (l : List NamedBit). answer ↔ AllPairs (λ a b. a ≢ b) (bit_numbers l)) p h)

@@ -18,6 +18,7 @@ pub mod BeginningLemmas
 pub mod BerLemmas
 pub mod DepthLemmas
 pub mod ZipLemmas
+pub mod TrimLemmas
 pub mod LeafLemmas
 pub mod SlotLemmas
 pub mod SetLemmas
@@ -60,6 +61,7 @@ pub mod StreamInstances
 pub mod NodeInstances
 pub mod FirstTagInstances
 pub mod BitStringInstances
+pub mod NamedBitsInstances
 pub mod OtherLeafInstances
 pub mod TimeInstances
 pub mod SetPartInstances

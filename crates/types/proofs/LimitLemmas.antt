@@ -1,14 +1,16 @@
 -- Lemmas on the limits of types: nodes and levels of lists, and how long they are.
-use Rattle.std.proofs.Common.{◌≡◌, ◌↔◌, ◌+◌, ◌<◌, ◌≤◌, ℕ, ◌-◌, zero, suc, max, List, [], ◌∷◌, ◌++◌, Option, Some, None, Bool, true, false, get_or, drop, length, refl, sym, ap, subst, IsTrue, arith, length-append}
+use Rattle.std.proofs.Common.{All, map, ◌≡◌, ◌↔◌, ◌+◌, ◌<◌, ◌≤◌, ℕ, ◌-◌, zero, suc, max, List, [], ◌∷◌, ◌++◌, Option, Some, None, Bool, true, false, get_or, drop, length, refl, sym, ap, subst, IsTrue, arith, length-append}
 use mathlib.Core.Bool.{not}
 use Rattle.std.specs.Prelude.{◌==◌, is_some}
 use Rattle.std.proofs.Math.Dec.{leb}
 use Rattle.std.proofs.lemmas.Bool.{leb-true, le-leb, eqb-true}
 use Rattle.std.proofs.lemmas.List.{drop_all}
+use Rattle.std.proofs.lemmas.List.Elements.{All-head, All-tail, All-cons}
 use Rattle.types.specs.declared.ty.Field.{Field}
 use Rattle.types.specs.declared.ty.Alternative.{Alternative}
-use Rattle.types.specs.Shape.{Shape}
-use Rattle.types.specs.View.{ComponentView, AlternativeView, ty_view, field_view, alternative_view, components_view, alternatives_view}
+use Rattle.types.specs.declared.ty.NamedBit.{NamedBit}
+use Rattle.types.specs.Shape.{NamedBitView, Shape}
+use Rattle.types.specs.View.{ComponentView, AlternativeView, ty_view, named_bit_view, field_view, alternative_view, components_view, alternatives_view}
 use Rattle.types.specs.WellFormed.{count_of_components, count_of_alternatives, IsNodeWithin, nodes_of, levels_of, nodes_of_components, levels_of_components, nodes_of_alternatives, levels_of_alternatives}
 use Rattle.types.specs.Judging.{IsLeft}
 use Rattle.types.proofs.LoopLemmas.{left_at, is_not_so}
@@ -138,3 +140,14 @@ not_true false P is never = absurd (cc is)
 pub fits : (nodes levels count depth : ℕ) (r : Option ℕ) → IsLeft nodes levels count depth r → is_some r ≡ true → (count ≤ nodes) × (depth ≤ levels)
 fits nodes levels count depth None h some = absurd (cc some)
 fits nodes levels count depth (Some left) h some = (omega (arith, h.0), h.1)
+
+-- the numbers of these named bits are within the limit
+abbrev pub NumbersWithin : List NamedBit → Type 0
+NumbersWithin bits = All (λ bit. bit.number ≤ 65_535) (map named_bit_view bits)
+
+pub numbers_first : (bit : NamedBit) (bits : List NamedBit) → NumbersWithin (bit ∷ bits) ↔ ((bit.number ≤ 65_535) × NumbersWithin bits)
+numbers_first bit bits =
+    let Within = λ (b : NamedBitView). b.number ≤ 65_535 in (
+      λ h. (All-head Within (named_bit_view bit) (map named_bit_view bits) h, All-tail Within (named_bit_view bit) (map named_bit_view bits) h),
+      λ h. All-cons Within (named_bit_view bit) (map named_bit_view bits) h.0 h.1,
+    )

@@ -115,7 +115,7 @@ repeated_number h = first_differs (pos 1) (pos 2 ∷ pos 1 ∷ []) h.numbers.0 (
 
 -- a default is seen through tags and not through a CHOICE
 through_tag : IsGoodDefault (Shape.explicit (context 0) integer) (default (number (pos 5)))
-through_tag = (tt, omega (arith, ints))
+through_tag = (tt, omega (arith, ints), tt)
 
 through_choice : IsGoodDefault (Shape.choice (alternative a integer no_alternative)) (default (Val.chosen 0 (number (pos 5)))) → ⊥
 through_choice h = h.0

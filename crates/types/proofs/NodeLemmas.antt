@@ -2,7 +2,7 @@
 use Rattle.std.proofs.Common.{ℕ, ◌↔◌, List, [], ◌∷◌, ◌++◌, sym, subst}
 use Rattle.std.specs.List.{AllByRecursion}
 use Rattle.types.specs.declared.ty.Field.{Field}
-use Rattle.types.specs.Shape.{Shape, SimpleType}
+use Rattle.types.specs.Shape.{Shape, StringType, SimpleType}
 use Rattle.types.specs.declared.condition.Condition.TheVariants.{Numbers}
 use Rattle.types.specs.Judging.{Meets, HasFewItems}
 use Rattle.types.specs.View.{ty_view, requirement_view, components_view, ComponentView}
@@ -42,7 +42,11 @@ numbers_differ (s ∷ nodes) within told = (told.0 (few_items_of s within.0), nu
     few_items_of (Shape.simple tag SimpleType.null) h = tt
     few_items_of (Shape.simple tag SimpleType.oid) h = tt
     few_items_of (Shape.simple tag SimpleType.relative_oid) h = tt
-    few_items_of (Shape.string tag type) h = tt
+    few_items_of (Shape.string tag StringType.bit_string) h = tt
+    few_items_of (Shape.string tag (StringType.named_bits bits)) h = h.1.at_most_256
+    few_items_of (Shape.string tag StringType.octet_string) h = tt
+    few_items_of (Shape.string tag (StringType.text kind)) h = tt
+    few_items_of (Shape.string tag (StringType.time kind)) h = tt
     few_items_of (Shape.sequence tag components) h = tt
     few_items_of (Shape.set tag components) h = tt
     few_items_of (Shape.sequence_of tag type) h = tt

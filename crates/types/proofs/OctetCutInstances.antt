@@ -111,7 +111,7 @@ cut_2000 d f size other below low =
 -- and so not in other octets
 octets_once : (class : Class) (number : ℕ) (string a b : List ℕ) → IsUsable record { class = class; number = number } → number ≤ 30 → IsEncoding cer (octet_string record { class = class; number = number }) (octets_of string) a
     → IsEncoding cer (octet_string record { class = class; number = number }) (octets_of string) b → a ≡ b
-octets_once class number string a b usable low h k = one_canonical cer (octet_string record { class = class; number = number }) (octets_of string) a b (well_formed_string record { class = class; number = number } StringType.octet_string usable low) cer_is_canonical h k
+octets_once class number string a b usable low h k = one_canonical cer (octet_string record { class = class; number = number }) (octets_of string) a b (well_formed_string record { class = class; number = number } StringType.octet_string usable low tt tt) cer_is_canonical h k
 
 -- 1000 octets are not cut
 cut_1000 : (d : List ℕ) → length d ≡ 1000 → All (λ o. o < 256) d → IsEncoding cer (octet_string (universal 4)) (octets_of d) (0x24 ∷ indefinite_around (octets_1000 d)) → ⊥

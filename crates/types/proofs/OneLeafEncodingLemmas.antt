@@ -1,5 +1,5 @@
 -- Lemmas on the values without parts: each has one encoding under CER and under DER.
-use Rattle.std.proofs.Common.{◌≡◌, ℕ, List, Bool, true, false, refl, sym, ◌∙◌, subst}
+use Rattle.std.proofs.Common.{◌≡◌, ℕ, List, ◌++◌, Bool, true, false, replicate, refl, sym, ap, ◌∙◌, subst}
 use Rattle.octets.specs.declared.tag.Tag.{Tag}
 use Rattle.octets.specs.Rule.{Rule, ber, cer, der, IsCanonical}
 use Rattle.primitives.specs.Bits.{IsBits}
@@ -31,6 +31,7 @@ one_boolean false c d h g = h ∙ sym g
 pub one_contents : (v : SimpleValue) (c d : List ℕ) → IsContents der v c → IsContents der v d → c ≡ d
 one_contents (SimpleValue.boolean truth) c d h g = one_boolean truth c d h g
 one_contents (SimpleValue.integer number) c d h g = one_integer_encoding number c d h g
+one_contents (SimpleValue.wide_integer octets) c d h g = h ∙ sym g
 one_contents (SimpleValue.enumerated number) c d h g = one_integer_encoding number c d h g
 one_contents SimpleValue.null c d h g = h ∙ sym g
 one_contents (SimpleValue.oid arcs) c d h g = one_oid_encoding arcs c d h g
@@ -76,6 +77,11 @@ pub one_string : (rule : Rule) (tag : Tag) (type : StringType) (v : Val) (a b : 
 one_string rule tag StringType.bit_string v a b canonical h g =
     let same : h.bits ≡ g.bits = bits-injective h.bits g.bits (string-injective (StringValue.bits h.bits) (StringValue.bits g.bits) (sym h.is ∙ g.is)) in
     one_bits rule tag g.bits a b canonical (subst (λ s. IsStringEncoding rule tag bit_segment (IsBits rule) IsWholeOctets s a) same h.string) g.string
+one_string rule tag (StringType.named_bits names) v a b canonical h g =
+    let same : h.bits ≡ g.bits = bits-injective h.bits g.bits (string-injective (StringValue.bits h.bits) (StringValue.bits g.bits) (sym h.is ∙ g.is)) in
+    let zeros : h.zeros ≡ g.zeros = h.canonical canonical ∙ sym (g.canonical canonical) in
+    let string : h.bits ++ replicate h.zeros false ≡ g.bits ++ replicate g.zeros false = ap (λ bits. bits ++ replicate h.zeros false) same ∙ ap (λ n. g.bits ++ replicate n false) zeros in
+    one_bits rule tag (g.bits ++ replicate g.zeros false) a b canonical (subst (λ s. IsStringEncoding rule tag bit_segment (IsBits rule) IsWholeOctets s a) string h.string) g.string
 one_string rule tag StringType.octet_string v a b canonical h g = one_octet_string rule tag StringType.octet_string StringValue.octets v a b canonical octets-injective h g
 one_string rule tag (StringType.text kind) v a b canonical h g = one_octet_string rule tag (StringType.text kind) StringValue.text v a b canonical text-injective h g
 one_string rule tag (StringType.time kind) v a b canonical h g = one_octet_string rule tag (StringType.time kind) StringValue.text v a b canonical text-injective h g

@@ -1,5 +1,5 @@
 -- Lemmas on which encodings of strings there are: each string has one, and CER cuts the long ones.
-use Rattle.std.proofs.Common.{◌≡◌, ◌≢◌, ◌⊎◌, ◌+◌, ◌-◌, ◌*◌, ◌/◌, ◌<◌, ◌≤◌, inl, inr, ℕ, zero, suc, Bool, false, List, [], ◌++◌, length, take, drop, refl, ap, subst, arith, length-append, length-drop}
+use Rattle.std.proofs.Common.{◌≡◌, ◌≢◌, ◌⊎◌, ◌+◌, ◌-◌, ◌*◌, ◌/◌, ◌<◌, ◌≤◌, inl, inr, ℕ, zero, suc, Bool, false, List, [], ◌++◌, length, take, drop, refl, sym, ap, subst, arith, append-nil, length-append, length-drop}
 use Rattle.std.proofs.lemmas.Bool.{cases_lt}
 use Rattle.std.proofs.lemmas.List.{take-append-drop, length-take-le}
 use Rattle.octets.specs.declared.tag.Tag.{Tag}
@@ -143,6 +143,10 @@ pub encoding_of_string : (room : ℕ) → HasLengthsBelow room → 1000 < room �
 encoding_of_string room lengths wide rule tag StringType.bit_string (StringValue.bits bits) canonical within c fits =
     let made = string_encoding room lengths wide bit_segment (omega arith) (IsBits rule) IsWholeOctets 7992 octets_for (bits_cuttable rule) rule tag bits canonical within fits in
     record { octets = made.octets; encoding = record { bits = bits; is = refl; string = made.encoding }; size = omega (arith, made.size) }
+encoding_of_string room lengths wide rule tag (StringType.named_bits names) (StringValue.bits bits) canonical within c fits =
+    let made = string_encoding room lengths wide bit_segment (omega arith) (IsBits rule) IsWholeOctets 7992 octets_for (bits_cuttable rule) rule tag bits canonical within fits in
+    let string = subst (λ s. IsStringEncoding rule tag bit_segment (IsBits rule) IsWholeOctets s made.octets) (sym (append-nil bits)) made.encoding in
+    record { octets = made.octets; encoding = record { bits = bits; is = refl; trimmed = c; zeros = 0; canonical = λ k. refl; string = string }; size = omega (arith, made.size) }
 encoding_of_string room lengths wide rule tag StringType.octet_string (StringValue.octets octets) canonical within c fits =
     let made = octets_encoding room lengths wide rule tag octets canonical within fits in
     record { octets = made.octets; encoding = record { string_octets = octets; is = refl; conforms = c; string = made.encoding }; size = omega (arith, made.size) }

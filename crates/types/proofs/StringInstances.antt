@@ -12,7 +12,7 @@ use Rattle.strings.specs.declared.text.TextKind.{TextKind}
 use Rattle.strings.specs.declared.text.TextKind.TheVariants.{Utf8, Visible}
 use Rattle.types.specs.Shape.{StringType, Shape, StringValue, Val}
 use Rattle.types.specs.FirstTags.{IsUsable}
-use Rattle.types.specs.WellFormed.{IsWellFormed}
+use Rattle.types.specs.WellFormed.{IsWellFormed, AreBitsWithin, NumbersDiffer}
 use Rattle.types.specs.Conforms.{StringConforms}
 use Rattle.types.specs.Form.{IsDefinite, IsConstructed}
 use Rattle.types.specs.Strings.{IsStringEncoding, octet_segment, AreOctets, AlwaysWhole}
@@ -38,11 +38,11 @@ text_of octets = Val.string (StringValue.text octets)
 abbrev pub octets_of : List ℕ → Val
 octets_of octets = Val.string (StringValue.octets octets)
 
-pub well_formed_string : (tag : Tag) (type : StringType) → IsUsable tag → tag.number ≤ 30 → IsWellFormed (Shape.string tag type)
-well_formed_string tag type usable low = record {
-  limits = record { nodes = omega arith; levels = omega arith; each = (omega (arith, low), tt) };
+pub well_formed_string : (tag : Tag) (type : StringType) → IsUsable tag → tag.number ≤ 30 → AreBitsWithin type → NumbersDiffer (Shape.string tag type) → IsWellFormed (Shape.string tag type)
+well_formed_string tag type usable low bits differ = record {
+  limits = record { nodes = omega arith; levels = omega arith; each = ((omega (arith, low), bits), tt) };
   tags = (usable, tt);
-  numbers = (tt, tt);
+  numbers = (differ, tt);
   defaults = (tt, tt);
 }
 
@@ -63,7 +63,7 @@ only_few : (rule : Rule) (class : Class) (number : ℕ) (kind : TextKind) (strin
 only_few rule class number kind string octets canonical usable low few conforms h =
     let tag : Tag = record { class = class; number = number } in
     one_canonical rule (Shape.string tag (StringType.text kind)) (text_of string) octets ((class_bits class + form_bit false + number) ∷ length string ∷ string)
-    (well_formed_string tag (StringType.text kind) usable low) canonical h (few_text rule class number kind string low few conforms)
+    (well_formed_string tag (StringType.text kind) usable low tt tt) canonical h (few_text rule class number kind string low few conforms)
 
 -- VisibleString "Jo" is 1A 02 4A 6F under every rule
 conforms_4A_6F : All (λ o. o < 256) (0x4A ∷ 0x6F ∷ []) × All IsVisibleOctet (0x4A ∷ 0x6F ∷ [])
@@ -172,7 +172,7 @@ no_octets-24_80 = record {
 
 no_octets-canonical : (rule : Rule) (rest : List ℕ) → IsCanonical rule → IsEncoding rule (octet_string (universal 4)) (octets_of []) (0x24 ∷ rest) → ⊥
 no_octets-canonical rule rest canonical h =
-    let well = well_formed_string (universal 4) StringType.octet_string (usable_universal 4 (omega arith)) (omega arith) in
+    let well = well_formed_string (universal 4) StringType.octet_string (usable_universal 4 (omega arith)) (omega arith) tt tt in
     let same = one_canonical rule (octet_string (universal 4)) (octets_of []) (0x24 ∷ rest) (0x04 ∷ 0x00 ∷ []) well canonical h (no_octets rule) in
     not_same 0x04 0x24 (omega arith) (ap (λ l. get_or l 0 0) (sym same))
 

@@ -58,5 +58,5 @@ utc_noon-cut = record {
 
 utc_noon-cut_canonical : (rule : Rule) → IsCanonical rule → IsEncoding rule utc_time (Val.string (StringValue.text noon)) (0x37 ∷ 0x0F ∷ 0x04 ∷ 0x0D ∷ noon) → ⊥
 utc_noon-cut_canonical rule canonical h =
-    in_other_octets rule utc_time (Val.string (StringValue.text noon)) (0x17 ∷ 0x0D ∷ noon) (0x37 ∷ 0x0F ∷ 0x04 ∷ 0x0D ∷ noon) (well_formed_string (universal 23) (StringType.time Utc) (usable_universal 23 (omega arith)) (omega arith)) canonical (utc_noon rule)
+    in_other_octets rule utc_time (Val.string (StringValue.text noon)) (0x17 ∷ 0x0D ∷ noon) (0x37 ∷ 0x0F ∷ 0x04 ∷ 0x0D ∷ noon) (well_formed_string (universal 23) (StringType.time Utc) (usable_universal 23 (omega arith)) (omega arith) tt tt) canonical (utc_noon rule)
     (λ same. not_same 15 17 (omega arith) (ap length same)) h

@@ -131,7 +131,7 @@ well_formed_default = record {
   limits = record { nodes = omega arith; levels = omega arith; each = ((omega arith, omega arith), ((omega arith, tt), ((omega arith, tt), tt))) };
   tags = ((usable_universal 16 (omega arith), (integer_and_boolean, (one_differs (universal 1), tt))), (usable_universal 2 (omega arith), (usable_universal 1 (omega arith), tt)));
   numbers = (tt, (tt, (tt, tt)));
-  defaults = (((tt, omega (arith, ints)), (tt, tt)), (tt, (tt, tt)));
+  defaults = (((tt, omega (arith, ints), tt), (tt, tt)), (tt, (tt, tt)));
 }
 
 -- SEQUENCE OF INTEGER, SET OF INTEGER and SET OF BOOLEAN

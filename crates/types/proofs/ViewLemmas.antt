@@ -4,10 +4,11 @@ use Rattle.strings.specs.declared.time.TimeKind.{TimeKind}
 use Rattle.strings.specs.declared.text.TextKind.{TextKind}
 use Rattle.octets.specs.declared.tag.Tag.{Tag}
 use Rattle.types.specs.Shape.{SimpleType, StringType, SimpleValue, StringValue, Val, listed, Shape}
-use Rattle.types.specs.View.{value_view, slots_view, items_view, items_of, item_view, requirement_view, ty_view, field_view, alternative_view, components_view, alternatives_view}
+use Rattle.types.specs.View.{value_view, slots_view, items_view, items_of, item_view, named_bit_view, requirement_view, ty_view, field_view, alternative_view, components_view, alternatives_view}
 use Rattle.types.specs.declared.value.Value.{Value}
 use Rattle.types.specs.declared.value.Value as value
 use Rattle.types.specs.declared.ty.Item.{Item}
+use Rattle.types.specs.declared.ty.NamedBit.{NamedBit}
 use Rattle.types.specs.declared.ty.Ty.{Ty}
 use Rattle.types.specs.declared.ty.Ty as ty
 use Rattle.types.specs.declared.ty.Field.{Field}
@@ -20,6 +21,9 @@ value-Boolean truth = search (rules, value.the_lemmas)
 
 pub value-Integer : (number : ℤ) → value_view (value.Integer number) ≡ Val.simple (SimpleValue.integer number)
 value-Integer number = search (rules, value.the_lemmas)
+
+pub value-WideInteger : (octets : Vec ℕ Global) → value_view (value.WideInteger octets) ≡ Val.simple (SimpleValue.wide_integer octets.items)
+value-WideInteger octets = search (rules, value.the_lemmas)
 
 pub value-Enumerated : (number : ℤ) → value_view (value.Enumerated number) ≡ Val.simple (SimpleValue.enumerated number)
 value-Enumerated number = search (rules, value.the_lemmas)
@@ -71,6 +75,9 @@ ty-RelativeOid tag = search (rules, ty.the_lemmas)
 
 pub ty-Bits : (tag : Tag) → ty_view (ty.Bits tag) ≡ Shape.string tag StringType.bit_string
 ty-Bits tag = search (rules, ty.the_lemmas)
+
+pub ty-NamedBits : (tag : Tag) (bits : Vec NamedBit Global) → ty_view (ty.NamedBits tag bits) ≡ Shape.string tag (StringType.named_bits (map named_bit_view bits.items))
+ty-NamedBits tag bits = search (rules, ty.the_lemmas)
 
 pub ty-Octets : (tag : Tag) → ty_view (ty.Octets tag) ≡ Shape.string tag StringType.octet_string
 ty-Octets tag = search (rules, ty.the_lemmas)

@@ -54,7 +54,8 @@ pub fn each_meets(condition: Condition, ty: &Ty) -> bool
         Ty::Choice(alternatives) => alternatives_meet(condition, alternatives),
         Ty::Boolean(_) | Ty::Integer(_) | Ty::Enumerated(_, _) | Ty::Null(_) => true,
         Ty::Oid(_) | Ty::RelativeOid(_) => true,
-        Ty::Bits(_) | Ty::Octets(_) | Ty::Text(_, _) | Ty::Time(_, _) => true,
+        Ty::Bits(_) | Ty::NamedBits(_, _) | Ty::Octets(_) => true,
+        Ty::Text(_, _) | Ty::Time(_, _) => true,
     }
 }
 

@@ -9,6 +9,7 @@ use crate::equality::are_equal;
 use crate::items::has_number;
 use crate::oid_values::{is_oid_value, is_relative_oid_value};
 use crate::{Alternative, Field, Presence, Ty, Value};
+use primitives::is_wide_integer;
 use strings::{allowed, is_time};
 
 /// Whether `value` is a value of `ty`. Takes no memory.
@@ -22,6 +23,7 @@ pub fn conforms(ty: &Ty, value: &Value) -> bool
             let _in_range = *number;
             true
         }
+        (Ty::Integer(_), Value::WideInteger(octets)) => is_wide_integer(octets.as_slice()),
         (Ty::Enumerated(_, items), Value::Enumerated(number)) => {
             let _in_range = *number;
             has_number(items.as_slice(), number)
@@ -30,6 +32,7 @@ pub fn conforms(ty: &Ty, value: &Value) -> bool
         (Ty::Oid(_), Value::Oid(arcs)) => is_oid_value(arcs.as_slice()),
         (Ty::RelativeOid(_), Value::RelativeOid(arcs)) => is_relative_oid_value(arcs.as_slice()),
         (Ty::Bits(_), Value::Bits(_)) => true,
+        (Ty::NamedBits(_, _), Value::Bits(bits)) => bits.is_trimmed(),
         (Ty::Octets(_), Value::Octets(octets)) => {
             below_256(octets.as_slice());
             true

@@ -1,10 +1,10 @@
 //! Which defaults are good: a value of a type that takes one.
 
 ghost use Rattle.std.specs.Prelude.{◌↔◌, IsTrue};
-ghost use Rattle.types.specs.View.{ty_view, components_view, requirement_view};
-ghost use Rattle.types.specs.WellFormed.{TakesDefault, IsGoodDefault, AreGoodDefaults, HasGoodDefaults};
+ghost use Rattle.types.specs.View.{ty_view, value_view, components_view, requirement_view};
+ghost use Rattle.types.specs.WellFormed.{TakesDefault, IsNoWideInteger, IsGoodDefault, AreGoodDefaults, HasGoodDefaults};
 
-use crate::{Field, Presence, Ty, conforms};
+use crate::{Field, Presence, Ty, Value, conforms};
 use strings::TextKind;
 
 // Whether each default of the outermost node's components is a value of a type that takes one.
@@ -16,7 +16,8 @@ pub fn has_good_defaults(ty: &Ty) -> bool
         Ty::Set(_, fields) => are_good_defaults(fields),
         Ty::Boolean(_) | Ty::Integer(_) | Ty::Enumerated(_, _) | Ty::Null(_) => true,
         Ty::Oid(_) | Ty::RelativeOid(_) => true,
-        Ty::Bits(_) | Ty::Octets(_) | Ty::Text(_, _) | Ty::Time(_, _) => true,
+        Ty::Bits(_) | Ty::NamedBits(_, _) | Ty::Octets(_) => true,
+        Ty::Text(_, _) | Ty::Time(_, _) => true,
         Ty::SequenceOf(_, _) | Ty::SetOf(_, _) | Ty::Choice(_) | Ty::Explicit(_, _) => true,
     }
 }
@@ -38,7 +39,9 @@ fn is_good_default(ty: &Ty, presence: &Presence) -> bool
     match presence {
         Presence::Required => true,
         Presence::Optional => true,
-        Presence::Default(value) => takes_default(ty) && conforms(ty, value),
+        Presence::Default(value) => {
+            takes_default(ty) && conforms(ty, value) && is_no_wide_integer(value)
+        }
     }
 }
 
@@ -48,11 +51,18 @@ fn takes_default(ty: &Ty) -> bool
 {
     match ty {
         Ty::Boolean(_) | Ty::Integer(_) | Ty::Enumerated(_, _) => true,
-        Ty::Bits(_) | Ty::Octets(_) => true,
+        Ty::Bits(_) | Ty::NamedBits(_, _) | Ty::Octets(_) => true,
         Ty::Text(_, kind) => *kind != TextKind::Bmp,
         Ty::Explicit(_, inner) => takes_default(inner),
         Ty::Null(_) | Ty::Oid(_) | Ty::RelativeOid(_) | Ty::Time(_, _) => false,
         Ty::Sequence(_, _) | Ty::Set(_, _) | Ty::Choice(_) => false,
         Ty::SequenceOf(_, _) | Ty::SetOf(_, _) => false,
     }
+}
+
+// Whether the value is no INTEGER past 128 bits.
+fn is_no_wide_integer(value: &Value) -> bool
+    ensures { IsTrue result ↔ IsNoWideInteger (value_view value.now) }
+{
+    !matches!(value, Value::WideInteger(_))
 }

@@ -23,7 +23,8 @@ pub fn tells_parts_apart(ty: &Ty) -> bool
         Ty::Choice(alternatives) => alternatives_are_apart(alternatives),
         Ty::Boolean(tag) | Ty::Integer(tag) | Ty::Enumerated(tag, _) => is_usable(tag),
         Ty::Null(tag) | Ty::Oid(tag) | Ty::RelativeOid(tag) => is_usable(tag),
-        Ty::Bits(tag) | Ty::Octets(tag) | Ty::Text(tag, _) | Ty::Time(tag, _) => is_usable(tag),
+        Ty::Bits(tag) | Ty::NamedBits(tag, _) | Ty::Octets(tag) => is_usable(tag),
+        Ty::Text(tag, _) | Ty::Time(tag, _) => is_usable(tag),
         Ty::SequenceOf(tag, _) | Ty::SetOf(tag, _) | Ty::Explicit(tag, _) => is_usable(tag),
     }
 }

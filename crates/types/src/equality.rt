@@ -13,6 +13,7 @@ pub fn are_equal(a: &Value, b: &Value) -> bool
     match (a, b) {
         (Value::Boolean(a), Value::Boolean(b)) => a == b,
         (Value::Integer(a), Value::Integer(b)) => a == b,
+        (Value::WideInteger(a), Value::WideInteger(b)) => a == b,
         (Value::Enumerated(a), Value::Enumerated(b)) => a == b,
         (Value::Null, Value::Null) => true,
         (Value::Oid(a), Value::Oid(b)) => a == b,

@@ -1,19 +1,20 @@
-//! The items of an ENUMERATED (X.680 clause 20).
+//! The numbers of an ENUMERATED's items (X.680 clause 20) and of named bits (22.4).
 
 ghost use Rattle.std.specs.Prelude.{◌≢◌, ◌↔◌, AllPairs, ◌≤◌, Contains, map, length, IsTrue};
 ghost use Rattle.types.specs.Judging.{HasFewItems};
 ghost use Rattle.types.specs.View.{ty_view};
 ghost use Rattle.types.specs.WellFormed.{NumbersDiffer};
 
-use crate::{Item, MAX_LIST, Ty};
+use crate::{Item, MAX_LIST, NamedBit, Ty};
 
-// Whether the items of an ENUMERATED have a number each of their own. Of more items than the limit
-// allows nothing is asked here.
+// Whether the items of an ENUMERATED, or named bits, have a number each of their own. Of more than the
+// limit allows nothing is asked here.
 pub fn numbers_differ(ty: &Ty) -> bool
     ensures { IsTrue result ↔ (HasFewItems (ty_view ty.now) → NumbersDiffer (ty_view ty.now)) }
 {
     match ty {
         Ty::Enumerated(_, items) => items.len() > MAX_LIST || all_differ(items),
+        Ty::NamedBits(_, bits) => bits.len() > MAX_LIST || all_bits_differ(bits),
         Ty::Boolean(_) | Ty::Integer(_) | Ty::Null(_) => true,
         Ty::Oid(_) | Ty::RelativeOid(_) => true,
         Ty::Bits(_) | Ty::Octets(_) | Ty::Text(_, _) | Ty::Time(_, _) => true,
@@ -31,6 +32,17 @@ fn all_differ(items: &[Item]) -> bool
         numbers[i] = item.number;
     }
     differ(&mut numbers[..items.len()])
+}
+
+fn all_bits_differ(bits: &[NamedBit]) -> bool
+    requires { length bits.now ≤ MAX_LIST }
+    ensures { IsTrue result ↔ AllPairs (λ a b. a ≢ b) (map (λ bit. bit.number) bits.now) }
+{
+    let mut numbers = [0; MAX_LIST];
+    for (i, bit) in bits.iter().enumerate() {
+        numbers[i] = i128::from(bit.number);
+    }
+    differ(&mut numbers[..bits.len()])
 }
 
 // Whether the numbers differ. Once they are in order, equal ones are neighbours.

@@ -24,7 +24,7 @@ pub use laws::{
 };
 pub use names::Name;
 pub use refusal::{Refusal, TypeFault};
-pub use ty::{Alternative, Field, Item, Presence, Ty};
+pub use ty::{Alternative, Field, Item, NamedBit, Presence, Ty};
 pub use value::Value;
 pub use well_typed::WellTyped;
 
@@ -34,5 +34,9 @@ pub const MAX_NODES: usize = 4_096;
 /// The most levels of a type: constructed encodings that nest, those of strings not counted.
 pub const MAX_LEVELS: usize = 60;
 
-/// The most components of one SEQUENCE or SET, alternatives of one CHOICE and items of one ENUMERATED.
+/// The most components of one SEQUENCE or SET, alternatives of one CHOICE, items of one ENUMERATED and
+/// named bits of one BIT STRING.
 pub const MAX_LIST: usize = 256;
+
+/// The greatest number of a named bit.
+pub const MAX_NAMED_BIT: u32 = 65_535;

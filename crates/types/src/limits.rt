@@ -1,11 +1,11 @@
 //! The limits on types: how many nodes and levels, how long lists, how great tag numbers.
 
-ghost use Rattle.std.specs.Prelude.{◌↔◌, IsTrue, length};
+ghost use Rattle.std.specs.Prelude.{◌↔◌, ◌≤◌, All, IsTrue, length, map};
 ghost use Rattle.types.specs.Judging.{IsLeft};
-ghost use Rattle.types.specs.View.{ty_view, components_view, alternatives_view};
-ghost use Rattle.types.specs.WellFormed.{nodes_of, nodes_of_components, nodes_of_alternatives, levels_of, levels_of_components, levels_of_alternatives, IsNodeWithin, IsTagWithin};
+ghost use Rattle.types.specs.View.{ty_view, named_bit_view, components_view, alternatives_view};
+ghost use Rattle.types.specs.WellFormed.{nodes_of, nodes_of_components, nodes_of_alternatives, levels_of, levels_of_components, levels_of_alternatives, IsNodeWithin, IsTagWithin, AreNamedBitsWithin};
 
-use crate::{Alternative, Field, MAX_LIST, Ty};
+use crate::{Alternative, Field, MAX_LIST, MAX_NAMED_BIT, NamedBit, Ty};
 use octets::{MAX_TAG_NUMBER, Tag};
 
 // What is left of room for so many nodes, once the type has taken its own. None where it has more
@@ -24,7 +24,8 @@ pub fn nodes_left(ty: &Ty, nodes: usize, levels: usize) -> Option<usize>
         Ty::Choice(alternatives) => left_by_alternatives(alternatives, others, levels),
         Ty::Boolean(_) | Ty::Integer(_) | Ty::Enumerated(_, _) | Ty::Null(_) => Some(others),
         Ty::Oid(_) | Ty::RelativeOid(_) => Some(others),
-        Ty::Bits(_) | Ty::Octets(_) | Ty::Text(_, _) | Ty::Time(_, _) => Some(others),
+        Ty::Bits(_) | Ty::NamedBits(_, _) | Ty::Octets(_) => Some(others),
+        Ty::Text(_, _) | Ty::Time(_, _) => Some(others),
     }
 }
 
@@ -61,11 +62,30 @@ pub fn is_node_within(ty: &Ty) -> bool
         Ty::Sequence(tag, fields) => is_within(tag) && fields.len() <= MAX_LIST,
         Ty::Set(tag, fields) => is_within(tag) && fields.len() <= MAX_LIST,
         Ty::Choice(alternatives) => !alternatives.is_empty() && alternatives.len() <= MAX_LIST,
+        Ty::NamedBits(tag, bits) => is_within(tag) && are_named_bits_within(bits),
         Ty::Boolean(tag) | Ty::Integer(tag) | Ty::Null(tag) => is_within(tag),
         Ty::Oid(tag) | Ty::RelativeOid(tag) => is_within(tag),
         Ty::Bits(tag) | Ty::Octets(tag) | Ty::Text(tag, _) | Ty::Time(tag, _) => is_within(tag),
         Ty::SequenceOf(tag, _) | Ty::SetOf(tag, _) | Ty::Explicit(tag, _) => is_within(tag),
     }
+}
+
+// Whether there are so many named bits as there may be, each with a number within its limit.
+fn are_named_bits_within(bits: &[NamedBit]) -> bool
+    ensures { IsTrue result ↔ AreNamedBitsWithin (map named_bit_view bits.now) }
+{
+    !bits.is_empty() && bits.len() <= MAX_LIST && are_numbers_within(bits)
+}
+
+fn are_numbers_within(bits: &[NamedBit]) -> bool
+    ensures { IsTrue result ↔ All (λ bit. bit.number ≤ 65_535) (map named_bit_view bits.now) }
+{
+    for bit in bits {
+        if bit.number > MAX_NAMED_BIT {
+            return false;
+        }
+    }
+    true
 }
 
 fn is_within(tag: &Tag) -> bool

@@ -25,6 +25,8 @@ pub enum Ty {
     RelativeOid(Tag),
     /// BIT STRING.
     Bits(Tag),
+    /// BIT STRING with named bits: its values have no bit 0 behind their last bit 1.
+    NamedBits(Tag, Vec<NamedBit>),
     /// OCTET STRING.
     Octets(Tag),
     /// A character string type.
@@ -52,6 +54,15 @@ pub struct Item {
     pub name: Name,
     /// Its number, which encodes it.
     pub number: i128,
+}
+
+/// A bit of a BIT STRING that has a name.
+#[derive(Debug, PartialEq, Eq, Drop)]
+pub struct NamedBit {
+    /// Its name.
+    pub name: Name,
+    /// Its place, counted from 0.
+    pub number: u32,
 }
 
 /// A component of a SEQUENCE or SET.
@@ -109,6 +120,7 @@ impl Ty {
             | Ty::Oid(tag)
             | Ty::RelativeOid(tag)
             | Ty::Bits(tag)
+            | Ty::NamedBits(tag, _)
             | Ty::Octets(tag)
             | Ty::Text(tag, _)
             | Ty::Time(tag, _)
@@ -133,6 +145,7 @@ impl Ty {
             | Ty::Oid(_)
             | Ty::RelativeOid(_)
             | Ty::Bits(_)
+            | Ty::NamedBits(_, _)
             | Ty::Octets(_)
             | Ty::Text(_, _)
             | Ty::Time(_, _) => true,

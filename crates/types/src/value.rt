@@ -7,8 +7,10 @@ use primitives::Bits;
 pub enum Value {
     /// A value of BOOLEAN.
     Boolean(bool),
-    /// A value of INTEGER.
+    /// A value of INTEGER, from -2^127 to 2^127 - 1.
     Integer(i128),
+    /// Any other value of INTEGER: its contents octets, 17 to 1,024.
+    WideInteger(Vec<u8>),
     /// A value of ENUMERATED: the number of an item.
     Enumerated(i128),
     /// The value of NULL.
@@ -17,7 +19,7 @@ pub enum Value {
     Oid(Vec<u128>),
     /// The arcs of a RELATIVE-OID.
     RelativeOid(Vec<u128>),
-    /// The bits of a BIT STRING.
+    /// The bits of a BIT STRING. Of one with named bits there is none, or the last is 1.
     Bits(Bits),
     /// The octets of an OCTET STRING.
     Octets(Vec<u8>),

@@ -10,7 +10,7 @@ pub conforms-returns-in-Enumerated-Enumerated : goal.conforms-returns-in-Enumera
 conforms-returns-in-Enumerated-Enumerated t c =
     let arm = c.in-Enumerated-Enumerated in
     conforms_along (IsTrue c.has_number.result) _ _ _ _ (ap ty_view arm.is-0 ∙ ty-Enumerated arm.field-0-0 arm.items) (ap value_view arm.is-1 ∙ value-Enumerated arm.number)
-    (enumerated_along (IsTrue c.has_number.result) arm.items.items c.as_slice.result.now arm.number c.as_slice.ensures.value (search rules) c.has_number.ensures)
+    (enumerated_along (IsTrue c.has_number.result) arm.items.items c.as_slice-in-Enumerated-Enumerated.result.now arm.number c.as_slice-in-Enumerated-Enumerated.ensures.value (search rules) c.has_number.ensures)
 
 pub conforms-returns-in-Sequence-Fields : goal.conforms-returns-in-Sequence-Fields
 conforms-returns-in-Sequence-Fields t c =
