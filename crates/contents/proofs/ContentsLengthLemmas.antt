@@ -45,9 +45,15 @@ subidentifiers_length numbers c some few below h =
 
 pub simple_length : (type : SimpleType) (v : SimpleValue) (c : List ℕ) → SimpleConforms type v → IsSimpleContents ber type v c → SimpleLength type (length c)
 simple_length SimpleType.boolean (SimpleValue.boolean v) c conforms h = boolean_length h.truth c h.spelt
-simple_length SimpleType.integer (SimpleValue.integer v) c conforms h =
+simple_length SimpleType.integer (SimpleValue.integer v) c conforms (inl h) =
     let same : v ≡ h.number = cc h.is in
-    (h.spelt.at_least_one, at_most_sixteen_octets h.number c (subst (FitsSigned w128) same conforms) h.spelt)
+    let few : length c ≤ 16 = at_most_sixteen_octets h.number c (subst (FitsSigned w128) same conforms) h.spelt in
+    (h.spelt.at_least_one, omega (arith, few))
+simple_length SimpleType.integer (SimpleValue.integer v) c conforms (inr is) = absurd (cc is)
+simple_length SimpleType.integer (SimpleValue.wide_integer v) c conforms (inl h) = absurd (cc h.is)
+simple_length SimpleType.integer (SimpleValue.wide_integer v) c conforms (inr is) =
+    let same : v ≡ c = cc is in
+    subst (λ x. (1 ≤ length x) × (length x ≤ 1_024)) same (conforms.spelt.at_least_one, conforms.within)
 simple_length (SimpleType.enumerated numbers) (SimpleValue.enumerated v) c conforms h =
     let same : v ≡ h.number = cc h.is in
     (h.spelt.at_least_one, at_most_sixteen_octets h.number c (subst (FitsSigned w128) same conforms.1) h.spelt)
@@ -125,6 +131,7 @@ time_length Generalized c h =
 
 pub string_length : (type : StringType) (v : StringValue) (c : List ℕ) → StringConforms type v → IsStringContents ber type v c → StringLength type (length c)
 string_length StringType.bit_string (StringValue.bits v) c conforms h = omega (arith, ap length h.spelt.contents_are)
+string_length (StringType.named_bits names) (StringValue.bits v) c conforms h = omega (arith, ap length h.spelt.contents_are)
 string_length StringType.octet_string (StringValue.octets v) c conforms h = tt
 string_length (StringType.text kind) (StringValue.text v) c conforms h = let same : v ≡ c = cc h in subst (λ x. TextLength kind (length x)) same (text_length kind v conforms.1)
 string_length (StringType.time kind) (StringValue.text v) c conforms h = let same : v ≡ c = cc h in subst (λ x. TimeLength kind (length x)) same (time_length kind v conforms.1)

@@ -1,3 +1,4 @@
+pub mod TrimLemmas
 pub mod LeafLemmas
 pub mod ContentsLengthLemmas
 pub mod HeadLemmas

@@ -1,13 +1,14 @@
 -- Lemmas on the values of string types: the constructed encodings of a text or a time are those of an
 -- OCTET STRING.
-use Rattle.std.proofs.Common.{◌≡◌, ◌⊎◌, inl, inr, ℕ, List, ◌++◌, take, drop, refl, sym, ◌∙◌, subst, ap}
+use Rattle.std.proofs.Common.{◌≡◌, ◌⊎◌, inl, inr, ℕ, Bool, false, List, ◌++◌, replicate, take, drop, refl, sym, ◌∙◌, subst, ap}
 use Rattle.octets.specs.Front.{HasFront}
 use Rattle.octets.specs.declared.tag.Tag.{Tag}
 use Rattle.octets.specs.Rule.{ber}
 use Rattle.types.specs.Conforms.{Conforms}
 use Rattle.types.specs.Encoding.{IsEncoding}
 use Rattle.types.specs.Same.{IsSame}
-use Rattle.types.specs.Strings.{IsStringEncoding, octet_segment, AreOctets, AlwaysWhole}
+use Rattle.primitives.specs.Bits.{IsBits}
+use Rattle.types.specs.Strings.{IsStringEncoding, bit_segment, octet_segment, IsWholeOctets, AreOctets, AlwaysWhole}
 use Rattle.types.specs.Shape.{StringType, StringValue, Shape, Val}
 use Rattle.types.specs.Leaf.{tag_of}
 use Rattle.types.specs.View.{ty_view}
@@ -24,9 +25,10 @@ use Rattle.contents.specs.declared.joined.Joined.{Joined}
 use Rattle.contents.specs.declared.joined.Kind.{Kind}
 use Rattle.contents.specs.declared.joined.Kind.TheVariants.{Bits, Octets}
 use Rattle.contents.specs.Contents.{text_view}
-use Rattle.contents.specs.Joined.{Element, IsHeldFor, IsString, IsStringOf, segments_kind, string_of, string_shape, string_value, typed, value_of}
+use Rattle.contents.specs.Joined.{Element, IsHeldFor, IsString, IsStringOf, segments_kind, string_of, string_shape, string_value, trimmed_bits, typed, value_of}
 use Rattle.contents.specs.Parts.{IsPartOf, IsPartWithin}
 use Rattle.octets.proofs.FrontLemmas.{front_of_more, whole_front}
+use Rattle.contents.proofs.TrimLemmas.{trimmed_is, trimmed_bits_of}
 
 -- a value of a string type, and the string that makes it
 pub record IsTyped (levels : ℕ) (shape : Shape) (v : Val) (octets : List ℕ) : Type 0 where
@@ -40,6 +42,11 @@ string_of_part levels (Shape.string tag StringType.bit_string) v octets string h
   string = h.encoding.bits;
   is = h.encoding.is;
   part = subst (λ w. IsPartOf levels (Shape.string tag StringType.bit_string) w octets) h.encoding.is h;
+}
+string_of_part levels (Shape.string tag (StringType.named_bits names)) v octets string h = record {
+  string = h.encoding.bits ++ replicate h.encoding.zeros false;
+  is = h.encoding.is ∙ ap (λ b. Val.string (StringValue.bits b)) (sym (trimmed_bits_of h.encoding.bits h.encoding.zeros h.encoding.trimmed));
+  part = record { encoding = record { bits = h.encoding.bits ++ replicate h.encoding.zeros false; is = refl; string = h.encoding.string }; depth = h.depth };
 }
 string_of_part levels (Shape.string tag StringType.octet_string) v octets string h = record {
   string = h.encoding.string_octets;
@@ -68,6 +75,21 @@ pub part_of_string_value : (levels : ℕ) (shape : Shape) (string : List (Elemen
     → IsPartOf levels (string_shape (tag_of shape) (segments_kind shape)) (string_value (segments_kind shape) string) octets → IsPartOf levels shape (typed shape (segments_kind shape) string) octets
 part_of_string_value levels (Shape.simple tag type) string octets is conforms h = absurd is
 part_of_string_value levels (Shape.string tag StringType.bit_string) string octets is conforms h = h
+part_of_string_value levels (Shape.string tag (StringType.named_bits names)) string octets is conforms h =
+    let values : StringValue.bits string ≡ StringValue.bits h.encoding.bits = string-injective (StringValue.bits string) (StringValue.bits h.encoding.bits) h.encoding.is in
+    let same : string ≡ h.encoding.bits = cc values in
+    let front = trimmed_is string in
+    record {
+      encoding = record {
+        bits = trimmed_bits string;
+        is = refl;
+        trimmed = front.0;
+        zeros = front.1.0;
+        canonical = λ canonical. absurd (canonical refl);
+        string = subst (λ x. IsStringEncoding ber tag bit_segment (IsBits ber) IsWholeOctets x octets) (sym same ∙ front.1.1) h.encoding.string;
+      };
+      depth = h.depth;
+    }
 part_of_string_value levels (Shape.string tag StringType.octet_string) string octets is conforms h = h
 part_of_string_value levels (Shape.string tag (StringType.text kind)) string octets is conforms h =
     let values : StringValue.octets string ≡ StringValue.octets h.encoding.string_octets = string-injective (StringValue.octets string) (StringValue.octets h.encoding.string_octets) h.encoding.is in

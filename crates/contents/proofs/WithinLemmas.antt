@@ -1,5 +1,5 @@
 -- Lemmas on encodings of types without parts within what holds them, primitive and constructed.
-use Rattle.std.proofs.Common.{◌≡◌, ◌⊎◌, inl, inr, ◌+◌, ◌-◌, ◌≤◌, ℕ, suc, Bool, true, false, List, [], ◌∷◌, ◌++◌, length, take, drop, refl, sym, ap, ◌∙◌, subst, arith, append_assoc, length-append, length-take, length-drop, slice_range}
+use Rattle.std.proofs.Common.{◌≡◌, ◌⊎◌, inl, inr, ◌+◌, ◌-◌, ◌≤◌, ℕ, suc, Bool, true, false, replicate, List, [], ◌∷◌, ◌++◌, length, take, drop, refl, sym, ap, ◌∙◌, subst, arith, append_assoc, length-append, length-take, length-drop, slice_range}
 use Rattle.std.specs.List.{concat}
 use Rattle.std.proofs.lemmas.List.{take-append-le}
 use Rattle.octets.specs.declared.tag.Tag.{Tag}
@@ -8,8 +8,8 @@ use Rattle.octets.specs.Identifier.{IsIdentifier}
 use Rattle.octets.specs.Length.{IsLength}
 use Rattle.octets.specs.Rule.{ber}
 use Rattle.octets.proofs.IdentifierLemmas.{identifier_unique}
-use Rattle.primitives.specs.Bits.{IsBits}
-use Rattle.types.specs.Shape.{StringType, StringValue, Shape, Val}
+use Rattle.primitives.specs.Bits.{IsBits, IsTrimmed}
+use Rattle.types.specs.Shape.{NamedBitView, StringType, StringValue, Shape, Val}
 use Rattle.types.specs.Leaf.{tag_of, IsLeaf}
 use Rattle.types.specs.FirstTags.{IsUsable}
 use Rattle.types.specs.Conforms.{Conforms}
@@ -32,6 +32,7 @@ use Rattle.strings.specs.declared.text.TextKind.{TextKind}
 use Rattle.strings.specs.declared.time.TimeKind.{TimeKind}
 use Rattle.contents.specs.Joined.{Element, segment_of, HoldsPiece, IsWholePiece, string_shape, string_value, typed, IsNoString}
 use Rattle.octets.proofs.FrontLemmas.{front_of_more, whole_front}
+use Rattle.contents.proofs.TrimLemmas.{trimmed_bits_of}
 use Rattle.contents.proofs.LeafLemmas.{simple_contents, contents_of_simple, conforms_of_encoding}
 use Rattle.contents.proofs.DepthLemmas.{nested_primitive, nested_constructed, deeper, match_parts, constructed_part}
 use Rattle.contents.proofs.CompletingLemmas.{framed, constructed_of_frame, completes_segments, unwind}
@@ -52,12 +53,24 @@ pub record IsOfSegments (kind : Kind) (tag : Tag) (shape : Shape) (v : Val) (oct
 abbrev pub HasForm : Shape → Val → List ℕ → Type 0
 HasForm (Shape.simple tag type) v octets = IsOfContents (Shape.simple tag type) v octets
 HasForm (Shape.string tag StringType.bit_string) v octets = IsOfContents (Shape.string tag StringType.bit_string) v octets ⊎ IsOfSegments Bits tag (Shape.string tag StringType.bit_string) v octets
+HasForm (Shape.string tag (StringType.named_bits names)) v octets = IsOfContents (Shape.string tag (StringType.named_bits names)) v octets ⊎ IsOfSegments Bits tag (Shape.string tag (StringType.named_bits names)) v octets
 HasForm (Shape.string tag type) v octets = IsOfContents (Shape.string tag type) v octets ⊎ IsOfSegments Octets tag (Shape.string tag type) v octets
 HasForm _ _ _ = ⊥
 
 bits_form : (tag : Tag) (v : Val) (octets : List ℕ) (bits : List Bool) → v ≡ Val.string (StringValue.bits bits) → IsStringEncoding ber tag bit_segment (IsBits ber) IsWholeOctets bits octets → HasForm (Shape.string tag StringType.bit_string) v octets
 bits_form tag v octets bits is (inl f) = inl (record { contents = f.contents; holds = record { value = StringValue.bits bits; is = is; spelt = record { bits = bits; is = refl; spelt = f.holds } }; primitive = f.primitive })
 bits_form tag v octets bits is (inr f) = inr (record { string = bits; is = is; segments = f })
+
+named_form : (tag : Tag) (names : List NamedBitView) (v : Val) (octets : List ℕ) (bits : List Bool) (zeros : ℕ) → v ≡ Val.string (StringValue.bits bits) → IsTrimmed bits
+    → IsStringEncoding ber tag bit_segment (IsBits ber) IsWholeOctets (bits ++ replicate zeros false) octets → HasForm (Shape.string tag (StringType.named_bits names)) v octets
+named_form tag names v octets bits zeros is trimmed (inl f) = inl (
+    record {
+      contents = f.contents;
+      holds = record { value = StringValue.bits bits; is = is; spelt = record { bits = bits; is = refl; trimmed = trimmed; zeros = zeros; canonical = λ canonical. absurd (canonical refl); spelt = f.holds } };
+      primitive = f.primitive;
+    })
+named_form tag names v octets bits zeros is trimmed (inr f) =
+    inr (record { string = bits ++ replicate zeros false; is = is ∙ ap (λ b. Val.string (StringValue.bits b)) (sym (trimmed_bits_of bits zeros trimmed)); segments = f })
 
 octets_form : (tag : Tag) (v : Val) (octets string : List ℕ) → v ≡ Val.string (StringValue.octets string) → IsStringEncoding ber tag octet_segment AreOctets AlwaysWhole string octets → HasForm (Shape.string tag StringType.octet_string) v octets
 octets_form tag v octets string is (inl f) = inl (record { contents = f.contents; holds = record { value = StringValue.octets string; is = is; spelt = ap StringValue.octets (sym f.holds) }; primitive = f.primitive })
@@ -78,6 +91,7 @@ form_of_encoding (Shape.simple tag type) v octets leaf h = record {
   primitive = h.primitive;
 }
 form_of_encoding (Shape.string tag StringType.bit_string) v octets leaf h = bits_form tag v octets h.bits h.is h.string
+form_of_encoding (Shape.string tag (StringType.named_bits names)) v octets leaf h = named_form tag names v octets h.bits h.zeros h.is h.trimmed h.string
 form_of_encoding (Shape.string tag StringType.octet_string) v octets leaf h = octets_form tag v octets h.string_octets h.is h.string
 form_of_encoding (Shape.string tag (StringType.text kind)) v octets leaf h = text_form tag kind v octets h.string_octets h.is h.string
 form_of_encoding (Shape.string tag (StringType.time kind)) v octets leaf h = time_form tag kind v octets h.string_octets h.is h.string
@@ -101,6 +115,14 @@ encoding_of_contents (Shape.simple tag type) v contents octets conforms h p = re
 encoding_of_contents (Shape.string tag StringType.bit_string) v contents octets conforms h p = record {
   bits = h.spelt.bits;
   is = h.is ∙ ap Val.string h.spelt.is;
+  string = inl (record { contents = contents; holds = h.spelt.spelt; primitive = p });
+}
+encoding_of_contents (Shape.string tag (StringType.named_bits names)) v contents octets conforms h p = record {
+  bits = h.spelt.bits;
+  is = h.is ∙ ap Val.string h.spelt.is;
+  trimmed = h.spelt.trimmed;
+  zeros = h.spelt.zeros;
+  canonical = h.spelt.canonical;
   string = inl (record { contents = contents; holds = h.spelt.spelt; primitive = p });
 }
 encoding_of_contents (Shape.string tag StringType.octet_string) v contents octets conforms h p =
@@ -159,6 +181,8 @@ primitive_form : (shape : Shape) (v : Val) (i : ℕ) (octets front rest : List �
 primitive_form (Shape.simple tag type) v i octets front rest id is f = f
 primitive_form (Shape.string tag StringType.bit_string) v i octets front rest id is (inl f) = f
 primitive_form (Shape.string tag StringType.bit_string) v i octets front rest id is (inr f) = absurd (not_constructed tag i f.segments.contents octets front rest id is f.segments.constructed)
+primitive_form (Shape.string tag (StringType.named_bits names)) v i octets front rest id is (inl f) = f
+primitive_form (Shape.string tag (StringType.named_bits names)) v i octets front rest id is (inr f) = absurd (not_constructed tag i f.segments.contents octets front rest id is f.segments.constructed)
 primitive_form (Shape.string tag StringType.octet_string) v i octets front rest id is (inl f) = f
 primitive_form (Shape.string tag StringType.octet_string) v i octets front rest id is (inr f) = absurd (not_constructed tag i f.segments.contents octets front rest id is f.segments.constructed)
 primitive_form (Shape.string tag (StringType.text kind)) v i octets front rest id is (inl f) = f

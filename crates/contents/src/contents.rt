@@ -1,16 +1,18 @@
 //! Values of the contents octets of primitive encodings.
 
-ghost use Rattle.std.specs.Prelude.{◌≡◌, IfOk, IfErr, IsErr};
+ghost use Rattle.std.specs.Prelude.{◌≡◌, ◌⊎◌, IfOk, IfErr, IsErr};
 ghost use Rattle.octets.specs.Rule.{ber};
+ghost use Rattle.primitives.specs.Integer.{IsWideInteger};
 ghost use Rattle.types.specs.Conforms.{Conforms};
 ghost use Rattle.types.specs.Leaf.{IsLeaf};
 ghost use Rattle.types.specs.Refusal.{IsFinal};
 ghost use Rattle.types.specs.Shape.{Val};
 ghost use Rattle.types.specs.View.{ty_view, value_view};
-ghost use Rattle.contents.specs.Contents.{HoldsContents, IsEnumerated, IsOfContents, IsTextual, refusal_of_fault, text_view};
+ghost use Rattle.contents.specs.Contents.{HoldsContents, IsEnumerated, IsOfContents, IsTextual, refusal_of_fault, text_view, wide_view};
 
 use primitives::{
-    Fault, read_bits, read_boolean, read_integer, read_null, read_oid, read_relative_oid,
+    Fault, is_wide_integer, read_bits, read_boolean, read_integer, read_null, read_oid,
+    read_relative_oid,
 };
 use std::alloc::Global;
 use types::{Refusal, Ty, Value, conforms};
@@ -18,7 +20,8 @@ use types::{Refusal, Ty, Value, conforms};
 /// The value of a type without parts that the contents octets of a primitive encoding are.
 ///
 /// Refused with `Contents`, or `Alphabet` of a text, where they are those of no value, and with `NoMemory`: all values
-/// but those of BOOLEAN, INTEGER, ENUMERATED and NULL take memory.
+/// but those of BOOLEAN, INTEGER within 128 bits, ENUMERATED and NULL take memory. Named bits are without the bits 0 at
+/// their end (X.690 11.2.2).
 pub fn read_contents(alloc: Global, ty: &Ty, contents: &[u8]) -> Result<Value, Refusal>
     requires { IsLeaf (ty_view ty.now) }
     ensures value { IfOk result (λ value. Conforms (ty_view ty.now) (value_view value)
@@ -34,7 +37,7 @@ pub fn read_contents(alloc: Global, ty: &Ty, contents: &[u8]) -> Result<Value, R
         },
         Ty::Integer(_) => match read_integer(contents) {
             Some(number) => Ok(Value::Integer(number)),
-            None => Err(Refusal::Contents),
+            None => read_wide_integer(alloc, contents),
         },
         Ty::Enumerated(_, _) => read_item(ty, contents),
         Ty::Null(_) => match read_null(contents) {
@@ -53,6 +56,10 @@ pub fn read_contents(alloc: Global, ty: &Ty, contents: &[u8]) -> Result<Value, R
             Ok(bits) => Ok(Value::Bits(bits)),
             Err(fault) => Err(refusal_of(fault)),
         },
+        Ty::NamedBits(_, _) => match read_bits(alloc, contents) {
+            Ok(bits) => Ok(Value::Bits(bits.trimmed())),
+            Err(fault) => Err(refusal_of(fault)),
+        },
         Ty::Octets(_) => match Vec::from_slice(alloc, contents) {
             Ok(octets) => Ok(Value::Octets(octets)),
             Err(_) => Err(Refusal::NoMemory),
@@ -65,6 +72,22 @@ pub fn read_contents(alloc: Global, ty: &Ty, contents: &[u8]) -> Result<Value, R
         Ty::SetOf(_, _) => Err(Refusal::Form),
         Ty::Choice(_) => Err(Refusal::Form),
         Ty::Explicit(_, _) => Err(Refusal::Form),
+    }
+}
+
+// The INTEGER past 128 bits that the contents octets are.
+fn read_wide_integer(alloc: Global, contents: &[u8]) -> Result<Value, Refusal>
+    ensures value { IfOk result (λ value. (value_view value ≡ wide_view contents.now) × IsWideInteger contents.now) }
+    ensures none { result ≡ Err Refusal.Contents → ¬ IsWideInteger contents.now }
+    ensures numbers { IfErr result (λ refusal.
+        (refusal ≡ Refusal.Contents) ⊎ (refusal ≡ Refusal.NoMemory)) }
+{
+    if !is_wide_integer(contents) {
+        return Err(Refusal::Contents);
+    }
+    match Vec::from_slice(alloc, contents) {
+        Ok(octets) => Ok(Value::WideInteger(octets)),
+        Err(_) => Err(Refusal::NoMemory),
     }
 }
 

@@ -61,6 +61,7 @@ pub fn holding_of<'a>(alloc: Global, node: &'a Ty) -> Result<Option<Holding<'a>>
         | Ty::Oid(_)
         | Ty::RelativeOid(_)
         | Ty::Bits(_)
+        | Ty::NamedBits(_, _)
         | Ty::Octets(_)
         | Ty::Text(_, _)
         | Ty::Time(_, _)

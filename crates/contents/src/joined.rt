@@ -17,7 +17,7 @@ use types::{Refusal, Ty, Value};
 /// Which strings may be cut into segments.
 #[derive(Clone, Copy, Debug, PartialEq, Eq)]
 pub enum Kind {
-    /// BIT STRING.
+    /// BIT STRING, with named bits or without.
     Bits,
     /// OCTET STRING, and character strings and times, whose segments are those of an OCTET STRING.
     Octets,
@@ -37,7 +37,7 @@ pub fn kind_of(ty: &Ty) -> Option<Kind>
     ensures { MatchOption result (IsNoString (ty_view ty.now)) (λ kind. IsStringOf kind (ty_view ty.now)) }
 {
     match ty {
-        Ty::Bits(_) => Some(Kind::Bits),
+        Ty::Bits(_) | Ty::NamedBits(_, _) => Some(Kind::Bits),
         Ty::Octets(_) | Ty::Text(_, _) | Ty::Time(_, _) => Some(Kind::Octets),
         Ty::Boolean(_) => None,
         Ty::Integer(_) => None,
@@ -134,7 +134,7 @@ impl Joined {
     }
 
     /// The value of the type whose segments these are. A text or a time has their octets, if the type allows
-    /// them.
+    /// them, and named bits are without the bits 0 at the end of the string (X.690 11.2.2).
     ///
     /// Refused with `Alphabet` where it does not. Asks for a string of the type's kind. Takes no memory.
     pub fn into_value(self, ty: &Ty) -> Result<Value, Refusal>
@@ -148,6 +148,10 @@ impl Joined {
         match ty {
             Ty::Bits(_) => match Bits::new(self.octets, self.unused) {
                 Some(bits) => Ok(Value::Bits(bits)),
+                None => Err(Refusal::Contents),
+            },
+            Ty::NamedBits(_, _) => match Bits::new(self.octets, self.unused) {
+                Some(bits) => Ok(Value::Bits(bits.trimmed())),
                 None => Err(Refusal::Contents),
             },
             Ty::Text(_, _) | Ty::Time(_, _) => text_of(ty, self.octets),

@@ -38,8 +38,8 @@ use types::{Refusal, Ty, Value};
 /// cannot have the length either.
 ///
 /// Refused with `Truncated` where octets are missing, with another of the refusals 2 to 11 where no octets after
-/// these make it an encoding that ends there, and with `NoMemory`: all values but those of BOOLEAN, INTEGER,
-/// ENUMERATED and NULL take memory.
+/// these make it an encoding that ends there, and with `NoMemory`: all values but those of BOOLEAN, INTEGER within
+/// 128 bits, ENUMERATED and NULL take memory.
 pub fn read_leaf(
     alloc: Global,
     node: &Ty,

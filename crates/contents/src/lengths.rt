@@ -4,11 +4,12 @@ ghost use Rattle.std.specs.Prelude.{◌↔◌, IsTrue};
 ghost use Rattle.contents.specs.Lengths.{CanHaveLength, TextLength, TimeLength};
 ghost use Rattle.types.specs.View.{ty_view};
 
+use primitives::MAX_INTEGER_OCTETS;
 use strings::{TextKind, TimeKind};
 use types::Ty;
 
 // 128 bits.
-const MOST_OF_A_NUMBER: usize = 16;
+const MOST_OF_AN_ITEM: usize = 16;
 
 // 128 subidentifiers of 128 bits, seven bits an octet.
 const MOST_OF_ARCS: usize = 2432;
@@ -21,10 +22,11 @@ pub fn can_have_length(ty: &Ty, octets: usize) -> bool
 {
     match ty {
         Ty::Boolean(_) => octets == 1,
-        Ty::Integer(_) | Ty::Enumerated(_, _) => 1 <= octets && octets <= MOST_OF_A_NUMBER,
+        Ty::Integer(_) => 1 <= octets && octets <= MAX_INTEGER_OCTETS,
+        Ty::Enumerated(_, _) => 1 <= octets && octets <= MOST_OF_AN_ITEM,
         Ty::Null(_) => octets == 0,
         Ty::Oid(_) | Ty::RelativeOid(_) => 1 <= octets && octets <= MOST_OF_ARCS,
-        Ty::Bits(_) => 1 <= octets,
+        Ty::Bits(_) | Ty::NamedBits(_, _) => 1 <= octets,
         Ty::Octets(_) => true,
         Ty::Text(_, kind) => text_can_have_length(*kind, octets),
         Ty::Time(_, kind) => time_can_have_length(*kind, octets),

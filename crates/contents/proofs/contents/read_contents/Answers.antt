@@ -1,11 +1,11 @@
-use Rattle.std.proofs.Common.{◌≡◌, ◌<◌, ℕ, All, vec_items, Err, refl, sym, ap, ◌∙◌, subst, subst₂, arith}
+use Rattle.std.proofs.Common.{◌≡◌, ◌<◌, ℕ, false, ◌++◌, replicate, All, vec_items, Err, refl, sym, ap, ◌∙◌, subst, subst₂, arith}
 use Rattle.std.proofs.lemmas.List.Elements.{All-from_get_or}
 use Rattle.octets.specs.Rule.{ber}
 use Rattle.primitives.specs.declared.fault.Fault as fault
 use Rattle.types.specs.Refusal.{IsFinal}
 use Rattle.types.specs.Conforms.{Conforms}
 use Rattle.types.specs.Shape.{StringValue, Shape, Val}
-use Rattle.types.proofs.ViewLemmas.{ty-Bits, ty-Octets, value-Octets}
+use Rattle.types.proofs.ViewLemmas.{ty-Bits, ty-NamedBits, ty-Octets, value-Octets}
 use Rattle.types.specs.View.{ty_view, value_view}
 use Rattle.types.specs.declared.value.Value.TheVariants.{Octets as OctetsValue}
 use Rattle.contents.specs.Contents.{HoldsContents, refusal_of_fault}
@@ -21,6 +21,14 @@ returns-in-Err-read_bits-clause-none c = λ final v conforms holds.
     let known = contents_fault c.in-Err-read_bits.fault (subst IsFinal c.refusal_of-in-Err-read_bits.ensures final) in
     let bits = subst (λ (shape : Shape). HoldsContents ber shape v contents) (ap ty_view c.in-Bits.is ∙ ty-Bits c.in-Bits.field-0) holds in
     c.in-Err-read_bits.ensures.none (ap Err known) bits.spelt.bits bits.spelt.spelt
+
+pub returns-in-Err-read_bits-2-clause-none : goal.returns-in-Err-read_bits-2-clause-none
+returns-in-Err-read_bits-2-clause-none c = λ final v conforms holds.
+    let contents = c.args.contents.now in
+    let arm = c.in-NamedBits in
+    let known = contents_fault c.in-Err-read_bits-2.fault (subst IsFinal c.refusal_of-in-Err-read_bits-2.ensures final) in
+    let bits = subst (λ (shape : Shape). HoldsContents ber shape v contents) (ap ty_view arm.is ∙ ty-NamedBits arm.field-0 arm.field-1) holds in
+    c.in-Err-read_bits-2.ensures.none (ap Err known) (bits.spelt.bits ++ replicate bits.spelt.zeros false) bits.spelt.spelt
 
 pub returns-in-Ok-from_slice-clause-value : goal.returns-in-Ok-from_slice-clause-value
 returns-in-Ok-from_slice-clause-value c =

@@ -3,13 +3,14 @@ use Rattle.primitives.proofs.BitsLemmas.{bits_before-parts}
 use Rattle.types.specs.Conforms.{Conforms}
 use Rattle.types.specs.Refusal.{IsFinal}
 use Rattle.types.specs.Shape.{StringValue, Shape, Val}
-use Rattle.types.proofs.ViewLemmas.{ty-Bits, value-Bits, value-Octets}
+use Rattle.types.proofs.ViewLemmas.{ty-Bits, ty-NamedBits, value-Bits, value-Octets}
 use Rattle.types.specs.View.{ty_view, value_view}
 use Rattle.types.specs.declared.refusal.Refusal.{Refusal}
 use Rattle.types.specs.declared.value.Value.{Value}
 use Rattle.contents.specs.Contents.{text_view}
-use Rattle.contents.specs.Joined.{value_of, IsHeldFor}
+use Rattle.contents.specs.Joined.{trimmed_bits, value_of, IsHeldFor}
 use Rattle.octets.proofs.ResultLemmas.{IfOk-map, IfErr-all}
+use Rattle.contents.proofs.TrimLemmas.{trimmed_bits_of}
 use Rattle.contents.proofs.TypedLemmas.{octets_value, text_value}
 use Rattle.contents.proofs.joined.Joined.into_value.Goals as goal
 
@@ -20,6 +21,16 @@ returns-in-Some-clause-value c =
     let v = Val.string (StringValue.bits bits) in
     subst₂ (λ (shape : Shape) (w : Val). (w ≡ value_of shape c.args.self) × Conforms shape w) (sym (ap ty_view c.in-Bits.is ∙ ty-Bits c.in-Bits.field-0)) (sym (value-Bits bits))
     (ap (λ x. Val.string (StringValue.bits x)) (sym (bits_before-parts c.args.self.octets.items c.args.self.unused bits f.tail f.bits_are f.tail_is)), tt)
+
+pub returns-in-Some-new-clause-value : goal.returns-in-Some-new-clause-value
+returns-in-Some-new-clause-value c =
+    let f = c.in-Some-new.ensures.value in
+    let bits : List Bool = c.in-Some-new.bits in
+    let front : List Bool = c.trimmed.result in
+    let is : front ≡ trimmed_bits bits = sym (ap trimmed_bits c.trimmed.ensures.front.1 ∙ trimmed_bits_of front c.trimmed.ensures.front.0 c.trimmed.ensures.trimmed) in
+    let joined = bits_before-parts c.args.self.octets.items c.args.self.unused bits f.tail f.bits_are f.tail_is in
+    subst₂ (λ (shape : Shape) (w : Val). (w ≡ value_of shape c.args.self) × Conforms shape w) (sym (ap ty_view c.in-NamedBits.is ∙ ty-NamedBits c.in-NamedBits.field-0 c.in-NamedBits.field-1)) (sym (value-Bits front))
+    (ap (λ x. Val.string (StringValue.bits x)) (is ∙ ap trimmed_bits (sym joined)), c.trimmed.ensures.trimmed)
 
 pub returns-in-Text-clause-value : goal.returns-in-Text-clause-value
 returns-in-Text-clause-value c =
