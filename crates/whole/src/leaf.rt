@@ -13,7 +13,7 @@ ghost use Rattle.whole.specs.Reading.{IsRead, IsHeld};
 use crate::heads::primitive;
 use contents::read_contents;
 use octets::Tag;
-use primitives::{read_bits, read_boolean, read_integer, read_oid};
+use primitives::{is_wide_integer, read_bits, read_boolean, read_integer, read_oid};
 use std::alloc::Global;
 use strings::{TextKind, TimeKind, allowed, is_time};
 use types::{Ty, Value, conforms};
@@ -54,12 +54,12 @@ fn fill(alloc: Global, ty: &Ty, contents: &[u8], slot: &mut Option<Value>) -> bo
             }
             None => false,
         },
-        Ty::Integer(_) => match read_integer(contents) {
+        Ty::Integer(tag) => match read_integer(contents) {
             Some(number) => {
                 *slot = Some(Value::Integer(number));
                 true
             }
-            None => false,
+            None => fill_wide_integer(alloc, *tag, contents, slot),
         },
         Ty::Octets(tag) => fill_octets(alloc, *tag, contents, slot),
         Ty::Text(tag, kind) => fill_text(alloc, *tag, *kind, contents, slot),
@@ -69,12 +69,30 @@ fn fill(alloc: Global, ty: &Ty, contents: &[u8], slot: &mut Option<Value>) -> bo
         Ty::Enumerated(_, _) => fill_item(ty, contents, slot),
         Ty::Null(_)
         | Ty::RelativeOid(_)
+        | Ty::NamedBits(_, _)
         | Ty::Sequence(_, _)
         | Ty::Set(_, _)
         | Ty::SequenceOf(_, _)
         | Ty::SetOf(_, _)
         | Ty::Choice(_)
         | Ty::Explicit(_, _) => fill_any(alloc, ty, contents, slot),
+    }
+}
+
+// The same of an INTEGER past 128 bits.
+#[inline(never)]
+fn fill_wide_integer(alloc: Global, tag: Tag, contents: &[u8], slot: &mut Option<Value>) -> bool
+    ensures { IsTrue result → IsHeld (Shape.simple tag SimpleType.integer) contents.now slot.new }
+{
+    if !is_wide_integer(contents) {
+        return false;
+    }
+    match Vec::from_slice(alloc, contents) {
+        Ok(octets) => {
+            *slot = Some(Value::WideInteger(octets));
+            true
+        }
+        Err(_) => false,
     }
 }
 

@@ -63,6 +63,7 @@ fn read_one(
         | Ty::Oid(tag)
         | Ty::RelativeOid(tag)
         | Ty::Bits(tag)
+        | Ty::NamedBits(tag, _)
         | Ty::Octets(tag)
         | Ty::Text(tag, _)
         | Ty::Time(tag, _) => read_leaf(alloc, ty, *tag, octets, slot),
