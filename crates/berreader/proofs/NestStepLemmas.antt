@@ -45,7 +45,7 @@ node_is_node tag (Shape.explicit own type) h = tt
 
 own_within : (tag : Tag) (node : Shape) → HasOwnTag tag node → AllByRecursion IsNodeWithin (nodes_of node) → tag.number ≤ MAX_TAG_NUMBER
 own_within tag (Shape.simple own type) h g = subst (λ (t : Tag). t.number ≤ MAX_TAG_NUMBER) h g.0.0
-own_within tag (Shape.string own type) h g = subst (λ (t : Tag). t.number ≤ MAX_TAG_NUMBER) h g.0
+own_within tag (Shape.string own type) h g = subst (λ (t : Tag). t.number ≤ MAX_TAG_NUMBER) h g.0.0
 own_within tag (Shape.sequence own components) h g = subst (λ (t : Tag). t.number ≤ MAX_TAG_NUMBER) h g.0.0
 own_within tag (Shape.set own components) h g = subst (λ (t : Tag). t.number ≤ MAX_TAG_NUMBER) h g.0.0
 own_within tag (Shape.sequence_of own type) h g = subst (λ (t : Tag). t.number ≤ MAX_TAG_NUMBER) h g.0

@@ -1,6 +1,6 @@
 -- Lemmas on how much a value weighs: no more than the octets of its encoding, times the nodes of its type.
 use Rattle.std.specs.List.{AllZip, concat}
-use Rattle.std.proofs.Common.{◌≡◌, ◌+◌, ◌*◌, ◌-◌, ◌/◌, ◌≤◌, inl, inr, ℕ, zero, suc, Bool, true, false, List, [], ◌∷◌, ◌++◌, Option, Some, None, length, sym, ap, ◌∙◌, arith, length-append, IsPermutation, sum_by}
+use Rattle.std.proofs.Common.{◌≡◌, ◌+◌, ◌*◌, ◌-◌, ◌/◌, ◌≤◌, inl, inr, ℕ, zero, suc, Bool, true, false, List, [], ◌∷◌, ◌++◌, replicate, Option, Some, None, length, sym, ap, ◌∙◌, arith, length-append, IsPermutation, sum_by}
 use Rattle.std.proofs.Math.Nat.{mul-add, add-mul}
 use Rattle.std.proofs.lemmas.List.Concat.{concat_is, length-flat_map}
 use Rattle.std.proofs.lemmas.List.Sorted.{sum_by-IsPermutation}
@@ -69,6 +69,7 @@ few_numbers (n ∷ numbers) [] h = absurd h
 simple_light : (value : SimpleValue) (contents : List ℕ) → IsContents ber value contents → weight_of_simple value ≤ 2 + length contents
 simple_light (SimpleValue.boolean truth) contents h = omega arith
 simple_light (SimpleValue.integer number) contents h = omega arith
+simple_light (SimpleValue.wide_integer octets) contents h = omega (arith, ap length h)
 simple_light (SimpleValue.enumerated number) contents h = omega arith
 simple_light SimpleValue.null contents h = omega arith
 simple_light (SimpleValue.oid arcs) contents h =
@@ -105,6 +106,8 @@ bits_light tag bits octets (inr h) = omega (arith, few_bits bits h.contents h.se
 
 string_light : (tag : Tag) (type : StringType) (v : Val) (octets : List ℕ) → IsEncodingOfString ber tag type v octets → weight_of v ≤ length octets
 string_light tag StringType.bit_string v octets h = omega (arith, ap weight_of h.is, bits_light tag h.bits octets h.string)
+string_light tag (StringType.named_bits names) v octets h =
+    omega (arith, ap weight_of h.is, bits_light tag (h.bits ++ replicate h.zeros false) octets h.string, length-append h.bits (replicate h.zeros false))
 string_light tag StringType.octet_string v octets h = omega (arith, ap weight_of h.is, octets_light tag h.string_octets octets h.string)
 string_light tag (StringType.text kind) v octets h = omega (arith, ap weight_of h.is, octets_light tag h.string_octets octets h.string)
 string_light tag (StringType.time kind) v octets h = omega (arith, ap weight_of h.is, octets_light tag h.string_octets octets h.string)

@@ -23,8 +23,8 @@ use types::{Refusal, Value, WellTyped};
 ///
 /// Refused with `Truncated` where octets are missing, with another of the refusals 2 to 11 where no
 /// octets after these could make it an encoding within the limits, and with `NoMemory`: all values but
-/// those of BOOLEAN, INTEGER, ENUMERATED and NULL take memory, and so do more than eight open encodings, and
-/// octets that end inside an encoding.
+/// those of BOOLEAN, INTEGER within 128 bits, ENUMERATED and NULL take memory, and so do more than eight
+/// open encodings, and octets that end inside an encoding.
 pub fn read(alloc: Global, ty: &WellTyped, octets: &[u8]) -> Result<(Value, usize), Refusal>
     ensures value { IfOk result (λ p. (p.1 ≤ length octets.now)
         × IsAccepted ber (ty_view ty.now) (value_view p.0) (take p.1 octets.now)) }
