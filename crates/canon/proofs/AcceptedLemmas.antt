@@ -24,7 +24,7 @@ accepted rule shape v octets well h size =
 pub simple_accepted : (rule : CanonicalRule) (tag : Tag) (shape : Shape) (v : Val) (octets : List ℕ) → IsSimpleOf tag shape → IsWellFormed shape → Conforms shape v → AreShort (IsSimplyEncoded (rule_of rule) tag v) → IsSimplyEncoded (rule_of rule) tag v octets → IsAccepted (rule_of rule) shape v octets
 simple_accepted rule tag shape v octets is well c short h =
     let simply = simply_alike (rule_of rule) tag v (simple_conforms tag shape v is c) in
-    let alike = leaf_alike (rule_of rule) tag shape v (inl is) c in
+    let alike = leaf_alike (rule_of rule) (rule_is_canonical rule) tag shape v (inl is) c in
     accepted rule shape v octets well (alike.to octets (simply.to octets h)) (short.each octets h)
 
 pub simple_is_accepted : (rule : CanonicalRule) (tag : Tag) (shape : Shape) (v : Val) → IsSimpleOf tag shape → IsWellFormed shape → Conforms shape v → AreShort (IsSimplyEncoded (rule_of rule) tag v) → (octets : List ℕ) × IsAccepted (rule_of rule) shape v octets

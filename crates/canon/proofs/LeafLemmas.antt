@@ -4,7 +4,7 @@ use Rattle.std.proofs.lemmas.List.{take-append-drop, length-take-le, length-repl
 use Rattle.std.proofs.lemmas.List.Elements.{All-cons, All-tail}
 use Rattle.octets.specs.declared.TheConstants.{MAX_TAG_NUMBER}
 use Rattle.octets.specs.declared.tag.Tag.{Tag}
-use Rattle.octets.specs.Rule.{Rule, cer, der}
+use Rattle.octets.specs.Rule.{Rule, cer, der, IsCanonical}
 use Rattle.octets.proofs.RuleLemmas.{cer_is_canonical}
 use Rattle.primitives.specs.Bits.{bits_of, IsBits, IsPadded}
 use Rattle.primitives.proofs.BitsLemmas.{length-bits_of, bits_of-append, IsBits-from_padded}
@@ -161,6 +161,7 @@ octets_put rule tag value octets (inr is) kept leaf b h =
 simple_within : (type : SimpleType) (value : SimpleValue) → SimpleConforms type value → IsWithin value
 simple_within SimpleType.boolean (SimpleValue.boolean truth) c = tt
 simple_within SimpleType.integer (SimpleValue.integer number) c = c
+simple_within SimpleType.integer (SimpleValue.wide_integer octets) c = c
 simple_within (SimpleType.enumerated items) (SimpleValue.enumerated number) c = c.1
 simple_within SimpleType.null SimpleValue.null c = tt
 simple_within SimpleType.oid (SimpleValue.oid arcs) c = c
@@ -177,6 +178,7 @@ conforms_simply tag type v c = elim c [ ]
 
 string_is_leaf : (tag : Tag) (type : StringType) (v : Val) → Conforms (Shape.string tag type) v → IsLeaf v
 string_is_leaf tag StringType.bit_string (Val.string (StringValue.bits bits)) c = tt
+string_is_leaf tag (StringType.named_bits names) (Val.string (StringValue.bits bits)) c = tt
 string_is_leaf tag StringType.octet_string (Val.string (StringValue.octets string)) c = c
 string_is_leaf tag (StringType.text kind) (Val.string (StringValue.text string)) c = c.0
 string_is_leaf tag (StringType.time kind) (Val.string (StringValue.text string)) c = c.0
@@ -194,40 +196,48 @@ simple_alike rule tag type (Val.simple value) c = record {
 }
 simple_alike rule tag type v c = elim c [ ]
 
-string_alike : (rule : Rule) (tag : Tag) (type : StringType) (v : Val) → Conforms (Shape.string tag type) v → HoldAlike (IsLeafEncoding rule tag v) (IsEncoding rule (Shape.string tag type) v)
-string_alike rule tag StringType.bit_string (Val.string (StringValue.bits bits)) c = record {
+string_alike : (rule : Rule) (tag : Tag) (type : StringType) (v : Val) → IsCanonical rule → Conforms (Shape.string tag type) v → HoldAlike (IsLeafEncoding rule tag v) (IsEncoding rule (Shape.string tag type) v)
+string_alike rule tag StringType.bit_string (Val.string (StringValue.bits bits)) canonical c = record {
   to = λ b h. record { bits = bits; is = refl; string = h };
   from = λ b h.
       let is : Val.string (StringValue.bits bits) ≡ Val.string (StringValue.bits h.bits) = h.is in
       let same : h.bits ≡ bits = cc is in
       subst (λ x. IsStringEncoding rule tag bit_segment (IsBits rule) IsWholeOctets x b) same h.string;
 }
-string_alike rule tag StringType.octet_string (Val.string (StringValue.octets string)) c = record {
+string_alike rule tag (StringType.named_bits names) (Val.string (StringValue.bits bits)) canonical c = record {
+  to = λ b h. record { bits = bits; is = refl; trimmed = c; zeros = 0; canonical = λ any. refl; string = subst (λ x. IsStringEncoding rule tag bit_segment (IsBits rule) IsWholeOctets x b) (sym (append-nil bits)) h };
+  from = λ b h.
+      let is : Val.string (StringValue.bits bits) ≡ Val.string (StringValue.bits h.bits) = h.is in
+      let same : h.bits ≡ bits = cc is in
+      let none : h.bits ++ replicate h.zeros false ≡ bits = ap (λ n. h.bits ++ replicate n false) (h.canonical canonical) ∙ (append-nil h.bits ∙ same) in
+      subst (λ x. IsStringEncoding rule tag bit_segment (IsBits rule) IsWholeOctets x b) none h.string;
+}
+string_alike rule tag StringType.octet_string (Val.string (StringValue.octets string)) canonical c = record {
   to = λ b h. record { string_octets = string; is = refl; conforms = c; string = h };
   from = λ b h.
       let is : Val.string (StringValue.octets string) ≡ Val.string (StringValue.octets h.string_octets) = h.is in
       let same : h.string_octets ≡ string = cc is in
       subst (λ x. IsStringEncoding rule tag octet_segment AreOctets AlwaysWhole x b) same h.string;
 }
-string_alike rule tag (StringType.text kind) (Val.string (StringValue.text string)) c = record {
+string_alike rule tag (StringType.text kind) (Val.string (StringValue.text string)) canonical c = record {
   to = λ b h. record { string_octets = string; is = refl; conforms = c; string = h };
   from = λ b h.
       let is : Val.string (StringValue.text string) ≡ Val.string (StringValue.text h.string_octets) = h.is in
       let same : h.string_octets ≡ string = cc is in
       subst (λ x. IsStringEncoding rule tag octet_segment AreOctets AlwaysWhole x b) same h.string;
 }
-string_alike rule tag (StringType.time kind) (Val.string (StringValue.text string)) c = record {
+string_alike rule tag (StringType.time kind) (Val.string (StringValue.text string)) canonical c = record {
   to = λ b h. record { string_octets = string; is = refl; conforms = c; string = h };
   from = λ b h.
       let is : Val.string (StringValue.text string) ≡ Val.string (StringValue.text h.string_octets) = h.is in
       let same : h.string_octets ≡ string = cc is in
       subst (λ x. IsStringEncoding rule tag octet_segment AreOctets AlwaysWhole x b) same h.string;
 }
-string_alike rule tag type v c = elim c [ ]
+string_alike rule tag type v canonical c = elim c [ ]
 
-pub leaf_alike : (rule : Rule) (tag : Tag) (shape : Shape) (v : Val) → IsLeafOf tag shape → Conforms shape v → HoldAlike (IsLeafEncoding rule tag v) (IsEncoding rule shape v)
-leaf_alike rule tag shape v (inl h) c = subst (λ s. HoldAlike (IsLeafEncoding rule tag v) (IsEncoding rule s v)) (sym h.1) (simple_alike rule tag h.0 v (subst (λ s. Conforms s v) h.1 c))
-leaf_alike rule tag shape v (inr h) c = subst (λ s. HoldAlike (IsLeafEncoding rule tag v) (IsEncoding rule s v)) (sym h.1) (string_alike rule tag h.0 v (subst (λ s. Conforms s v) h.1 c))
+pub leaf_alike : (rule : Rule) → IsCanonical rule → (tag : Tag) (shape : Shape) (v : Val) → IsLeafOf tag shape → Conforms shape v → HoldAlike (IsLeafEncoding rule tag v) (IsEncoding rule shape v)
+leaf_alike rule canonical tag shape v (inl h) c = subst (λ s. HoldAlike (IsLeafEncoding rule tag v) (IsEncoding rule s v)) (sym h.1) (simple_alike rule tag h.0 v (subst (λ s. Conforms s v) h.1 c))
+leaf_alike rule canonical tag shape v (inr h) c = subst (λ s. HoldAlike (IsLeafEncoding rule tag v) (IsEncoding rule s v)) (sym h.1) (string_alike rule tag h.0 v canonical (subst (λ s. Conforms s v) h.1 c))
 
 pub simply_leaf : (rule : Rule) (tag : Tag) (v : Val) (octets : List ℕ) → IsSimplyEncoded rule tag v octets → IsLeafEncoding rule tag v octets
 simply_leaf rule tag (Val.simple value) octets h = h

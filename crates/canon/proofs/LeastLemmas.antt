@@ -127,7 +127,7 @@ only tag t h c = elim (contains_cases tag t [] c) [ inl same ↦ subst (λ (x : 
 mutual
   tags_within : (shape : Shape) (t : Tag) → AllByRecursion IsNodeWithin (nodes_of shape) → Contains (first_tags shape) t → t.number ≤ 268_435_455
   tags_within (Shape.simple tag type) t h c = only tag t h.0.0 c
-  tags_within (Shape.string tag type) t h c = only tag t h.0 c
+  tags_within (Shape.string tag type) t h c = only tag t h.0.0 c
   tags_within (Shape.sequence tag components) t h c = only tag t h.0.0 c
   tags_within (Shape.set tag components) t h c = only tag t h.0.0 c
   tags_within (Shape.sequence_of tag type) t h c = only tag t h.0 c

@@ -5,7 +5,7 @@ use Rattle.std.specs.Prelude.{reverse}
 use Rattle.std.proofs.lemmas.List.{reverse-reverse}
 use Rattle.octets.specs.declared.tag.Tag.{Tag}
 use Rattle.octets.specs.Front.{Appends}
-use Rattle.octets.specs.Rule.{Rule}
+use Rattle.octets.specs.Rule.{Rule, IsCanonical}
 use Rattle.types.specs.declared.value.Value.{Value}
 use Rattle.types.specs.Shape.{Val, Shape}
 use Rattle.types.specs.View.{value_view}
@@ -29,22 +29,22 @@ module _ (tag : Tag) (shape : Shape) (is : IsLeafOf tag shape) where
   leaves_conform [] c = tt
   leaves_conform (v ∷ vs) c = (leaf_conforms tag shape v is c.0, leaves_conform vs c.1)
 
-  to_each : (rule : Rule) (vs : List Val) (es : List (List ℕ)) → AllByRecursion (Conforms shape) vs → AllZip (IsLeafEncoding rule tag) vs es → AllZip (IsEncoding rule shape) vs es
-  to_each rule [] [] c h = tt
-  to_each rule [] (e ∷ es) c h = elim h [ ]
-  to_each rule (v ∷ vs) [] c h = elim h [ ]
-  to_each rule (v ∷ vs) (e ∷ es) c h = ((leaf_alike rule tag shape v is c.0).to e h.0, to_each rule vs es c.1 h.1)
+  to_each : (rule : Rule) → IsCanonical rule → (vs : List Val) (es : List (List ℕ)) → AllByRecursion (Conforms shape) vs → AllZip (IsLeafEncoding rule tag) vs es → AllZip (IsEncoding rule shape) vs es
+  to_each rule canonical [] [] c h = tt
+  to_each rule canonical [] (e ∷ es) c h = elim h [ ]
+  to_each rule canonical (v ∷ vs) [] c h = elim h [ ]
+  to_each rule canonical (v ∷ vs) (e ∷ es) c h = ((leaf_alike rule canonical tag shape v is c.0).to e h.0, to_each rule canonical vs es c.1 h.1)
 
-  from_each : (rule : Rule) (vs : List Val) (es : List (List ℕ)) → AllByRecursion (Conforms shape) vs → AllZip (IsEncoding rule shape) vs es → AllZip (IsLeafEncoding rule tag) vs es
-  from_each rule [] [] c h = tt
-  from_each rule [] (e ∷ es) c h = elim h [ ]
-  from_each rule (v ∷ vs) [] c h = elim h [ ]
-  from_each rule (v ∷ vs) (e ∷ es) c h = ((leaf_alike rule tag shape v is c.0).from e h.0, from_each rule vs es c.1 h.1)
+  from_each : (rule : Rule) → IsCanonical rule → (vs : List Val) (es : List (List ℕ)) → AllByRecursion (Conforms shape) vs → AllZip (IsEncoding rule shape) vs es → AllZip (IsLeafEncoding rule tag) vs es
+  from_each rule canonical [] [] c h = tt
+  from_each rule canonical [] (e ∷ es) c h = elim h [ ]
+  from_each rule canonical (v ∷ vs) [] c h = elim h [ ]
+  from_each rule canonical (v ∷ vs) (e ∷ es) c h = ((leaf_alike rule canonical tag shape v is c.0).from e h.0, from_each rule canonical vs es c.1 h.1)
 
-  pub leaves_alike : (rule : Rule) (vs : List Val) → AllByRecursion (Conforms shape) vs → HoldAlike (AreItems (IsLeafEncoding rule tag) vs) (AreItems (IsEncoding rule shape) vs)
-  leaves_alike rule vs c = record {
-    to = λ b h. record { encodings = h.encodings; each = to_each rule vs h.encodings c h.each; joined = h.joined };
-    from = λ b h. record { encodings = h.encodings; each = from_each rule vs h.encodings c h.each; joined = h.joined };
+  pub leaves_alike : (rule : Rule) → IsCanonical rule → (vs : List Val) → AllByRecursion (Conforms shape) vs → HoldAlike (AreItems (IsLeafEncoding rule tag) vs) (AreItems (IsEncoding rule shape) vs)
+  leaves_alike rule canonical vs c = record {
+    to = λ b h. record { encodings = h.encodings; each = to_each rule canonical vs h.encodings c h.each; joined = h.joined };
+    from = λ b h. record { encodings = h.encodings; each = from_each rule canonical vs h.encodings c h.each; joined = h.joined };
   }
 
 -- one more behind

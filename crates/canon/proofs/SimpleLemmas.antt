@@ -66,6 +66,7 @@ primitive_short tag contents octets kept few h =
 within_contents : (rule : Rule) (value : SimpleValue) → IsCanonical rule → IsWithin value → (contents : List ℕ) × IsContents rule value contents
 within_contents rule (SimpleValue.boolean truth) canonical h = let made = simple_contents rule SimpleType.boolean (SimpleValue.boolean truth) canonical h in (made.0, made.1)
 within_contents rule (SimpleValue.integer number) canonical h = let made = simple_contents rule SimpleType.integer (SimpleValue.integer number) canonical h in (made.0, made.1)
+within_contents rule (SimpleValue.wide_integer octets) canonical h = (octets, refl)
 within_contents rule (SimpleValue.enumerated number) canonical h = let made = simple_contents rule SimpleType.integer (SimpleValue.integer number) canonical h in (made.0, made.1)
 within_contents rule SimpleValue.null canonical h = let made = simple_contents rule SimpleType.null SimpleValue.null canonical h in (made.0, made.1)
 within_contents rule (SimpleValue.oid arcs) canonical h = let made = simple_contents rule SimpleType.oid (SimpleValue.oid arcs) canonical h in (made.0, made.1)

@@ -6,12 +6,13 @@ use Rattle.strings.specs.declared.text.TextKind.{TextKind}
 use Rattle.strings.specs.declared.time.TimeKind.{TimeKind}
 use Rattle.types.specs.declared.ty.Field.{Field}
 use Rattle.types.specs.declared.ty.Item.{Item}
+use Rattle.types.specs.declared.ty.NamedBit.{NamedBit}
 use Rattle.types.specs.declared.ty.Ty.{Ty}
 use Rattle.types.specs.declared.ty.Ty as node
 use Rattle.types.specs.Shape.{SimpleType, StringType, Val, listed, Shape, Components}
-use Rattle.types.specs.View.{item_view, ty_view, components_view}
+use Rattle.types.specs.View.{item_view, named_bit_view, ty_view, components_view}
 use Rattle.types.specs.Encoding.{IsEncoding}
-use Rattle.types.proofs.ViewLemmas.{ty-Boolean, ty-Integer, ty-Enumerated, ty-Null, ty-Oid, ty-RelativeOid, ty-Bits, ty-Octets, ty-Text, ty-Time, ty-Sequence, ty-Set, ty-SequenceOf, ty-SetOf}
+use Rattle.types.proofs.ViewLemmas.{ty-Boolean, ty-Integer, ty-Enumerated, ty-Null, ty-Oid, ty-RelativeOid, ty-Bits, ty-NamedBits, ty-Octets, ty-Text, ty-Time, ty-Sequence, ty-Set, ty-SequenceOf, ty-SetOf}
 use Rattle.canon.specs.Node.{HasGoodNodes, AreItems, AreComponents}
 use Rattle.canon.specs.Leaf.{IsLeafOf, IsSimpleOf}
 use Rattle.canon.specs.Size.{HasSize}
@@ -32,7 +33,7 @@ record_view ty tag fields (inr is) = inr (ap ty_view is ∙ ty-Set tag fields)
 
 pub leaf_view : (ty : Ty) (tag : Tag)
     → (ty ≡ node.Boolean tag) ⊎ ((ty ≡ node.Integer tag) ⊎ (((items : Vec Item Global) × (ty ≡ node.Enumerated tag items)) ⊎ ((ty ≡ node.Null tag) ⊎ ((ty ≡ node.Oid tag) ⊎ ((ty ≡ node.RelativeOid tag)
-    ⊎ ((ty ≡ node.Bits tag) ⊎ ((ty ≡ node.Octets tag) ⊎ (((kind : TextKind) × (ty ≡ node.Text tag kind)) ⊎ ((kind : TimeKind) × (ty ≡ node.Time tag kind))))))))))
+    ⊎ ((ty ≡ node.Bits tag) ⊎ (((bits : Vec NamedBit Global) × (ty ≡ node.NamedBits tag bits)) ⊎ ((ty ≡ node.Octets tag) ⊎ (((kind : TextKind) × (ty ≡ node.Text tag kind)) ⊎ ((kind : TimeKind) × (ty ≡ node.Time tag kind)))))))))))
     → IsLeafOf tag (ty_view ty)
 leaf_view ty tag (inl is) = inl (SimpleType.boolean, ap ty_view is ∙ ty-Boolean tag)
 leaf_view ty tag (inr (inl is)) = inl (SimpleType.integer, ap ty_view is ∙ ty-Integer tag)
@@ -41,9 +42,10 @@ leaf_view ty tag (inr (inr (inr (inl is)))) = inl (SimpleType.null, ap ty_view i
 leaf_view ty tag (inr (inr (inr (inr (inl is))))) = inl (SimpleType.oid, ap ty_view is ∙ ty-Oid tag)
 leaf_view ty tag (inr (inr (inr (inr (inr (inl is)))))) = inl (SimpleType.relative_oid, ap ty_view is ∙ ty-RelativeOid tag)
 leaf_view ty tag (inr (inr (inr (inr (inr (inr (inl is))))))) = inr (StringType.bit_string, ap ty_view is ∙ ty-Bits tag)
-leaf_view ty tag (inr (inr (inr (inr (inr (inr (inr (inl is)))))))) = inr (StringType.octet_string, ap ty_view is ∙ ty-Octets tag)
-leaf_view ty tag (inr (inr (inr (inr (inr (inr (inr (inr (inl h))))))))) = inr (StringType.text h.0, ap ty_view h.1 ∙ ty-Text tag h.0)
-leaf_view ty tag (inr (inr (inr (inr (inr (inr (inr (inr (inr h))))))))) = inr (StringType.time h.0, ap ty_view h.1 ∙ ty-Time tag h.0)
+leaf_view ty tag (inr (inr (inr (inr (inr (inr (inr (inl h)))))))) = inr (StringType.named_bits (map named_bit_view h.0.items), ap ty_view h.1 ∙ ty-NamedBits tag h.0)
+leaf_view ty tag (inr (inr (inr (inr (inr (inr (inr (inr (inl is))))))))) = inr (StringType.octet_string, ap ty_view is ∙ ty-Octets tag)
+leaf_view ty tag (inr (inr (inr (inr (inr (inr (inr (inr (inr (inl h)))))))))) = inr (StringType.text h.0, ap ty_view h.1 ∙ ty-Text tag h.0)
+leaf_view ty tag (inr (inr (inr (inr (inr (inr (inr (inr (inr (inr h)))))))))) = inr (StringType.time h.0, ap ty_view h.1 ∙ ty-Time tag h.0)
 
 pub simple_view : (ty : Ty) (tag : Tag)
     → (ty ≡ node.Boolean tag) ⊎ ((ty ≡ node.Integer tag) ⊎ (((items : Vec Item Global) × (ty ≡ node.Enumerated tag items)) ⊎ ((ty ≡ node.Null tag) ⊎ ((ty ≡ node.Oid tag) ⊎ (ty ≡ node.RelativeOid tag)))))
@@ -57,7 +59,7 @@ simple_view ty tag (inr (inr (inr (inr (inr is))))) = (SimpleType.relative_oid, 
 
 pub leaf_kept : (tag : Tag) (shape : Shape) → IsLeafOf tag shape → HasGoodNodes shape → tag.number ≤ 268_435_455
 leaf_kept tag shape (inl h) good = let whole : HasGoodNodes (Shape.simple tag h.0) = subst HasGoodNodes h.1 good in whole.within.0.0
-leaf_kept tag shape (inr h) good = let whole : HasGoodNodes (Shape.string tag h.0) = subst HasGoodNodes h.1 good in whole.within.0
+leaf_kept tag shape (inr h) good = let whole : HasGoodNodes (Shape.string tag h.0) = subst HasGoodNodes h.1 good in whole.within.0.0
 
 -- a SEQUENCE OF or SET OF, by its items
 pub list_size : (rule : Rule) (tag : Tag) (type shape : Shape) (v : Val) (n size : ℕ) → IsCanonical rule → IsListOf tag type shape → (parts : HasItems tag type v) → HasSize (AreItems (IsEncoding rule type) (listed parts.items)) n → n ≤ size → SizesConstructed rule tag n size

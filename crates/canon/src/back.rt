@@ -49,6 +49,7 @@ pub(crate) fn put_back(
         | Ty::Oid(tag)
         | Ty::RelativeOid(tag)
         | Ty::Bits(tag)
+        | Ty::NamedBits(tag, _)
         | Ty::Octets(tag)
         | Ty::Text(tag, _)
         | Ty::Time(tag, _) => put_leaf(rule, *tag, value, out),

@@ -29,6 +29,10 @@ pub(crate) fn put_contents(
     match value {
         Value::Boolean(truth) => put_boolean(out, *truth),
         Value::Integer(number) | Value::Enumerated(number) => put_integer(out, *number),
+        Value::WideInteger(octets) => {
+            out.extend_from_slice(octets)?;
+            Ok(())
+        }
         Value::Null => put_null(out),
         Value::Oid(arcs) => put_oid(out, arcs.as_slice()),
         Value::RelativeOid(arcs) => put_relative_oid(out, arcs.as_slice()),
@@ -52,6 +56,7 @@ pub(crate) fn size_of_contents(rule: CanonicalRule, value: &Value) -> usize
     match value {
         Value::Boolean(_) => 1,
         Value::Integer(number) | Value::Enumerated(number) => size_of_integer(*number),
+        Value::WideInteger(octets) => octets.len(),
         Value::Null => 0,
         Value::Oid(arcs) => size_of_oid(arcs.as_slice()),
         Value::RelativeOid(arcs) => size_of_relative_oid(arcs.as_slice()),
@@ -64,7 +69,7 @@ pub(crate) fn size_of_contents(rule: CanonicalRule, value: &Value) -> usize
     }
 }
 
-// The same of an INTEGER.
+// The same of a number of 128 bits.
 pub(crate) fn size_of_integer(number: i128) -> usize
     ensures size { (contents : List ℕ) → IsInteger number contents → length contents ≡ result }
     ensures at_most { result ≤ 16 }

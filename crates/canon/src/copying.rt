@@ -17,6 +17,7 @@ pub(crate) fn copy_leaf(alloc: Global, value: &Value) -> Result<Value, NoMemory>
     match value {
         Value::Boolean(truth) => Ok(Value::Boolean(*truth)),
         Value::Integer(number) => Ok(Value::Integer(*number)),
+        Value::WideInteger(octets) => Ok(Value::WideInteger(Vec::from_slice(alloc, octets)?)),
         Value::Enumerated(number) => Ok(Value::Enumerated(*number)),
         Value::Null => Ok(Value::Null),
         Value::Oid(arcs) => Ok(Value::Oid(Vec::from_slice(alloc, arcs)?)),

@@ -43,6 +43,7 @@ pub(crate) fn size_of_leaf(rule: CanonicalRule, tag: Tag, value: &Value) -> usiz
         Value::Octets(octets) | Value::Text(octets) => size_of_string(rule, tag, 0, octets.len()),
         Value::Boolean(_)
         | Value::Integer(_)
+        | Value::WideInteger(_)
         | Value::Enumerated(_)
         | Value::Null
         | Value::Oid(_)
@@ -111,6 +112,7 @@ pub(crate) fn put_forwards(
         }
         Value::Boolean(_)
         | Value::Integer(_)
+        | Value::WideInteger(_)
         | Value::Enumerated(_)
         | Value::Null
         | Value::Oid(_)
@@ -143,7 +145,8 @@ pub(crate) fn put_simple(
             put_primitive_head(tag, size_of_integer(*number), out)?;
             put_integer(out, *number)
         }
-        Value::Null
+        Value::WideInteger(_)
+        | Value::Null
         | Value::Oid(_)
         | Value::RelativeOid(_)
         | Value::Bits(_)

@@ -30,6 +30,7 @@ pub(crate) fn leaf_tag(ty: &Ty) -> Option<Tag>
         | Ty::Oid(tag)
         | Ty::RelativeOid(tag)
         | Ty::Bits(tag)
+        | Ty::NamedBits(tag, _)
         | Ty::Octets(tag)
         | Ty::Text(tag, _)
         | Ty::Time(tag, _) => Some(*tag),

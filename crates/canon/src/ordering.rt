@@ -61,6 +61,7 @@ fn order_value(alloc: Global, ty: &Ty, value: &Value) -> Result<Value, NoMemory>
         | Ty::Oid(_)
         | Ty::RelativeOid(_)
         | Ty::Bits(_)
+        | Ty::NamedBits(_, _)
         | Ty::Octets(_)
         | Ty::Text(_, _)
         | Ty::Time(_, _) => copy_leaf(alloc, value),

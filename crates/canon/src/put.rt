@@ -84,6 +84,7 @@ fn simple_tag(ty: &Ty) -> Option<Tag>
         | Ty::Oid(tag)
         | Ty::RelativeOid(tag) => Some(*tag),
         Ty::Bits(_)
+        | Ty::NamedBits(..)
         | Ty::Octets(_)
         | Ty::Text(..)
         | Ty::Time(..)

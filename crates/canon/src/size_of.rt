@@ -34,6 +34,7 @@ pub(crate) fn size_of(rule: CanonicalRule, ty: &Ty, value: &Value) -> usize
         | Ty::Oid(tag)
         | Ty::RelativeOid(tag)
         | Ty::Bits(tag)
+        | Ty::NamedBits(tag, _)
         | Ty::Octets(tag)
         | Ty::Text(tag, _)
         | Ty::Time(tag, _) => size_of_leaf(rule, *tag, value),

@@ -44,6 +44,7 @@ pub(crate) fn put_straight(
         | Ty::Oid(tag)
         | Ty::RelativeOid(tag)
         | Ty::Bits(tag)
+        | Ty::NamedBits(tag, _)
         | Ty::Octets(tag)
         | Ty::Text(tag, _)
         | Ty::Time(tag, _) => put_forwards(rule, *tag, value, out),

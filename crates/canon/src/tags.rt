@@ -52,6 +52,7 @@ fn least_tag(ty: &Ty) -> Tag
         | Ty::Oid(tag)
         | Ty::RelativeOid(tag)
         | Ty::Bits(tag)
+        | Ty::NamedBits(tag, _)
         | Ty::Octets(tag)
         | Ty::Text(tag, _)
         | Ty::Time(tag, _) => *tag,

@@ -51,7 +51,7 @@ put_back-returns-in-Boolean-clause-appended t c =
     let rule = rule_of c.args.rule in
     let shape = ty_view c.args.ty.now in
     let v = value_view c.args.value.now in
-    let alike = leaf_alike rule tag shape v (leaf_view c.args.ty.now tag c.in-Boolean.is) c.requires.conforms in
+    let alike = leaf_alike rule (rule_is_canonical c.args.rule) tag shape v (leaf_view c.args.ty.now tag c.in-Boolean.is) c.requires.conforms in
     appended_by c.put_leaf.result (Turned (IsLeafEncoding rule tag v)) (Turned (IsEncoding rule shape v)) c.args.out.now.items c.put_leaf.new.out.items (λ b h. alike.to (reverse b) h) c.put_leaf.ensures.appended
 
 pub put_back-index-requires : goal.put_back-index-requires
@@ -183,7 +183,7 @@ put_items-returns-in-Some-clause-appended t c =
     let tag = c.in-Some.tag in
     let type = ty_view c.args.ty.now in
     let values = map value_view c.args.items.now in
-    let alike = leaves_alike tag type c.in-Some.ensures rule values c.requires.conform in
+    let alike = leaves_alike tag type c.in-Some.ensures rule (rule_is_canonical c.args.rule) values c.requires.conform in
     appended_by c.put_leaves.result (Turned (AreItems (IsLeafEncoding rule tag) values)) (Turned (AreItems (IsEncoding rule type) values)) c.args.out.now.items c.put_leaves.new.out.items (λ b h. alike.to (reverse b) h) c.put_leaves.ensures.appended
 
 pub put_items-put_back-requires : goal.put_items-put_back-requires

@@ -82,27 +82,27 @@ returns-in_err-put_primitive_head-in-Integer-clause-short c =
     simple_short c.args.rule c.args.tag v c.size_of_integer.result c.requires.tag c.requires.simple (omega (arith, c.size_of_integer.ensures.at_most))
     (number_counts c.args.rule v number c.size_of_integer.result is (subst (λ n. (contents : List ℕ) → IsInteger n contents → length contents ≡ c.size_of_integer.result) same c.size_of_integer.ensures.size))
 
-pub returns-in_ok-put_primitive_head-in-Null-clause-appended : goal.returns-in_ok-put_primitive_head-in-Null-clause-appended
-returns-in_ok-put_primitive_head-in-Null-clause-appended c =
+pub returns-in_ok-put_primitive_head-in-WideInteger-clause-appended : goal.returns-in_ok-put_primitive_head-in-WideInteger-clause-appended
+returns-in_ok-put_primitive_head-in-WideInteger-clause-appended c =
     let v = value_view c.args.value.now in
-    let mid = c.put_primitive_head-in-Null.new.out.items in
+    let mid = c.put_primitive_head-in-WideInteger.new.out.items in
     let new = c.put_contents.new.out.items in
     OnOk-map c.put_contents.result (Appends (IsContentsOf (rule_of c.args.rule) v) mid new) (Appends (IsSimplyEncoded (rule_of c.args.rule) c.args.tag v) c.args.out.now.items new)
-    (λ h. simple_made c.args.rule c.args.tag v c.size_of_contents.result c.args.out.now.items mid new c.in_ok-put_primitive_head-in-Null.ensures.appended h c.size_of_contents.ensures.size)
+    (λ h. simple_made c.args.rule c.args.tag v c.size_of_contents.result c.args.out.now.items mid new c.in_ok-put_primitive_head-in-WideInteger.ensures.appended h c.size_of_contents.ensures.size)
     c.put_contents.ensures.appended
 
-pub returns-in_ok-put_primitive_head-in-Null-clause-kept : goal.returns-in_ok-put_primitive_head-in-Null-clause-kept
-returns-in_ok-put_primitive_head-in-Null-clause-kept c =
+pub returns-in_ok-put_primitive_head-in-WideInteger-clause-kept : goal.returns-in_ok-put_primitive_head-in-WideInteger-clause-kept
+returns-in_ok-put_primitive_head-in-WideInteger-clause-kept c =
     let old = c.args.out.now.items in
-    let mid = c.put_primitive_head-in-Null.new.out.items in
+    let mid = c.put_primitive_head-in-WideInteger.new.out.items in
     let new = c.put_contents.new.out.items in
-    let head = c.in_ok-put_primitive_head-in-Null.ensures.appended in
+    let head = c.in_ok-put_primitive_head-in-WideInteger.ensures.appended in
     kept c.put_contents.result (new ≡ mid) (Keeps old new) (λ same. (head.0, same ∙ head.1, tt)) c.put_contents.ensures.unchanged
 
-pub returns-in_ok-put_primitive_head-in-Null-clause-short : goal.returns-in_ok-put_primitive_head-in-Null-clause-short
-returns-in_ok-put_primitive_head-in-Null-clause-short c =
+pub returns-in_ok-put_primitive_head-in-WideInteger-clause-short : goal.returns-in_ok-put_primitive_head-in-WideInteger-clause-short
+returns-in_ok-put_primitive_head-in-WideInteger-clause-short c =
     simple_short c.args.rule c.args.tag (value_view c.args.value.now) c.size_of_contents.result c.requires.tag c.requires.simple c.size_of_contents.ensures.at_most c.size_of_contents.ensures.size
 
-pub returns-in_err-put_primitive_head-in-Null-clause-short : goal.returns-in_err-put_primitive_head-in-Null-clause-short
-returns-in_err-put_primitive_head-in-Null-clause-short c =
+pub returns-in_err-put_primitive_head-in-WideInteger-clause-short : goal.returns-in_err-put_primitive_head-in-WideInteger-clause-short
+returns-in_err-put_primitive_head-in-WideInteger-clause-short c =
     simple_short c.args.rule c.args.tag (value_view c.args.value.now) c.size_of_contents.result c.requires.tag c.requires.simple c.size_of_contents.ensures.at_most c.size_of_contents.ensures.size

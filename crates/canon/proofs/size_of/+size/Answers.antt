@@ -134,7 +134,7 @@ size_of-returns-in-Boolean-clause-size t c =
     let tag = c.in-Boolean.tag in
     let shape = ty_view c.args.ty.now in
     let v = value_view c.args.value.now in
-    size_alike _ _ c.size_of_leaf.result (leaf_alike (rule_of c.args.rule) tag shape v (leaf_view c.args.ty.now tag c.in-Boolean.is) c.requires.conforms) c.size_of_leaf.ensures.size
+    size_alike _ _ c.size_of_leaf.result (leaf_alike (rule_of c.args.rule) (rule_is_canonical c.args.rule) tag shape v (leaf_view c.args.ty.now tag c.in-Boolean.is) c.requires.conforms) c.size_of_leaf.ensures.size
 
 pub size_of_items-size_of-requires : goal.size_of_items-size_of-requires
 size_of_items-size_of-requires t c =

@@ -35,7 +35,7 @@ put_straight-returns-in-Boolean-clause-appended t c =
     let rule = rule_of c.args.rule in
     let shape = ty_view c.args.ty.now in
     let v = value_view c.args.value.now in
-    let alike = leaf_alike rule tag shape v (leaf_view c.args.ty.now tag c.in-Boolean.is) c.requires.conforms in
+    let alike = leaf_alike rule (rule_is_canonical c.args.rule) tag shape v (leaf_view c.args.ty.now tag c.in-Boolean.is) c.requires.conforms in
     appended_by c.put_forwards.result (IsLeafEncoding rule tag v) (IsEncoding rule shape v) c.args.out.now.items c.put_forwards.new.out.items alike.to c.put_forwards.ensures.appended
 
 pub put_straight-returns-in_ok-join_components-in-Sequence-clause-appended : goal.put_straight-returns-in_ok-join_components-in-Sequence-clause-appended
@@ -168,7 +168,7 @@ join_items-returns-in-Some-clause-appended t c =
     let tag = c.in-Some.tag in
     let type = ty_view c.args.ty.now in
     let values = map value_view c.args.items.now in
-    let alike = leaves_alike tag type c.in-Some.ensures rule values c.requires.conform in
+    let alike = leaves_alike tag type c.in-Some.ensures rule (rule_is_canonical c.args.rule) values c.requires.conform in
     appended_by c.join_leaves.result (AreItems (IsLeafEncoding rule tag) values) (AreItems (IsEncoding rule type) values) c.args.out.now.items c.join_leaves.new.out.items alike.to c.join_leaves.ensures.appended
 
 pub join_items-put_straight-requires : goal.join_items-put_straight-requires
@@ -245,5 +245,5 @@ put_part-returns-in-Some-clause-appended t c =
     let tag = c.in-Some.tag in
     let shape = ty_view c.args.ty.now in
     let v = value_view c.args.value.now in
-    let alike = leaf_alike rule tag shape v c.in-Some.ensures c.requires.conforms in
+    let alike = leaf_alike rule (rule_is_canonical c.args.rule) tag shape v c.in-Some.ensures c.requires.conforms in
     appended_by c.put_forwards.result (IsLeafEncoding rule tag v) (IsEncoding rule shape v) c.args.out.now.items c.put_forwards.new.out.items alike.to c.put_forwards.ensures.appended
