@@ -16,7 +16,7 @@ pub(crate) fn is_plain(ty: &Ty, value: &Value) -> bool
     match (ty, value) {
         (Ty::Boolean(_), _) | (Ty::Integer(_), _) | (Ty::Enumerated(_, _), _) => true,
         (Ty::Null(_), _) | (Ty::Oid(_), _) | (Ty::RelativeOid(_), _) => true,
-        (Ty::Bits(_), _) | (Ty::Octets(_), _) => true,
+        (Ty::Bits(_), _) | (Ty::NamedBits(_, _), _) | (Ty::Octets(_), _) => true,
         (Ty::Text(_, _), _) | (Ty::Time(_, _), _) => true,
         (Ty::Sequence(_, fields), Value::Fields(slots)) => are_plain(fields, slots),
         (Ty::Set(_, fields), Value::Fields(slots)) => are_plain(fields, slots),

@@ -18,6 +18,7 @@ pub(crate) fn put_value(ty: &Ty, value: &Value, out: &mut String) -> Result<(), 
     match (ty, value) {
         (Ty::Boolean(_), Value::Boolean(truth)) => put_boolean(*truth, out),
         (Ty::Integer(_), Value::Integer(number)) => put_integer(*number, out),
+        (Ty::Integer(_), Value::WideInteger(octets)) => put_octets(octets, out),
         (Ty::Enumerated(_, items), Value::Enumerated(number)) => {
             out.push_str(name_of(items, *number))?;
             Ok(())
@@ -29,6 +30,7 @@ pub(crate) fn put_value(ty: &Ty, value: &Value, out: &mut String) -> Result<(), 
         (Ty::Oid(_), Value::Oid(arcs)) => put_arcs(arcs, out),
         (Ty::RelativeOid(_), Value::RelativeOid(arcs)) => put_arcs(arcs, out),
         (Ty::Bits(_), Value::Bits(bits)) => put_bits(bits, out),
+        (Ty::NamedBits(_, _), Value::Bits(bits)) => put_bits(bits, out),
         (Ty::Octets(_), Value::Octets(octets)) => put_octets(octets, out),
         (Ty::Text(_, kind), Value::Text(octets)) => put_text(*kind, octets, out),
         (Ty::Time(_, _), Value::Text(octets)) => put_readable(octets, out),
