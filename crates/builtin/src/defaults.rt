@@ -40,6 +40,8 @@ fn taken(alloc: Global, ty: &Ty, written: &DefaultValue) -> Result<Option<Value>
         Ty::Integer(_) => Ok(integer(written)),
         Ty::Enumerated(_, items) => Ok(item(items, written)),
         Ty::Bits(_) => bits(alloc, written),
+        // No module has a list of named bits.
+        Ty::NamedBits(_, _) => Ok(None),
         Ty::Octets(_) => octets(alloc, written),
         Ty::Text(_, kind) => text(alloc, *kind, written),
         Ty::Explicit(_, inner) => taken(alloc, inner, written),

@@ -104,7 +104,7 @@ HasTag tag (Shape.explicit own type) = own ≡ tag
 
 pub tag_within : (tag : Tag) (type : Shape) → HasTag tag type → IsWellFormed type → IsTagWithin tag
 tag_within tag (Shape.simple own type) t h = subst IsTagWithin t h.limits.each.0.0
-tag_within tag (Shape.string own type) t h = subst IsTagWithin t h.limits.each.0
+tag_within tag (Shape.string own type) t h = subst IsTagWithin t h.limits.each.0.0
 tag_within tag (Shape.sequence own components) t h = subst IsTagWithin t h.limits.each.0.0
 tag_within tag (Shape.set own components) t h = subst IsTagWithin t h.limits.each.0.0
 tag_within tag (Shape.sequence_of own type) t h = subst IsTagWithin t h.limits.each.0
