@@ -1,10 +1,12 @@
-use Rattle.std.proofs.Common.{◌≡◌, IfErr, sym, subst}
+use Rattle.std.proofs.Common.{◌≡◌, IfOk, IfErr, sym, subst}
 use Rattle.types.specs.declared.refusal.Refusal.TheVariants.{SourceFault}
 use Rattle.types.specs.View.{ty_view}
 use Rattle.engine.specs.declared.rule.Rule.{Rule}
 use Rattle.engine.specs.Given.{HasGiven}
 use Rattle.engine.specs.Refusal.{IsOfConverting}
-use Rattle.engine.specs.Rule.{rule_of}
+use Rattle.engine.specs.Rule.{rule_of, canonical_rule_of}
+use Rattle.engine.specs.Stream.{OfStream, IsConverted, IsStopped}
+use Rattle.types.specs.Encoding.{IsAccepted}
 use Rattle.engine.proofs.ReaderLemmas.{stands_fresh}
 use Rattle.engine.proofs.streams.convert.Goals as goal
 
@@ -25,3 +27,18 @@ pub returns-in-Der-clause-numbers : goal.returns-in-Der-clause-numbers
 returns-in-Der-clause-numbers g c =
     let call = c.convert_by-in-Der in
     subst (λ (rule : Rule). IfErr call.result (λ stopped. IsOfConverting (rule_of rule) stopped.refusal)) (sym c.in-Der.is) call.ensures.numbers
+
+pub returns-in-Cer-clause-numbers : goal.returns-in-Cer-clause-numbers
+returns-in-Cer-clause-numbers g c =
+    let call = c.convert_by-in-Cer in
+    subst (λ (rule : Rule). IfErr call.result (λ stopped. IsOfConverting (rule_of rule) stopped.refusal)) (sym c.in-Cer.is) call.ensures.numbers
+
+pub returns-in-Der-clause-converted : goal.returns-in-Der-clause-converted
+returns-in-Der-clause-converted g c =
+    let call = c.convert_by-in-Der in
+    subst (λ (rule : Rule). IfOk call.result (λ done. OfStream (g.S.Source.left c.args.source.now) (g.K.Sink.taken c.args.sink.now) (g.K.Sink.taken call.new.sink) (IsConverted (rule_of rule) (canonical_rule_of c.args.to) (ty_view c.args.ty.now) done))) (sym c.in-Der.is) call.ensures.converted
+
+pub returns-in-Der-clause-stopped : goal.returns-in-Der-clause-stopped
+returns-in-Der-clause-stopped g c =
+    let call = c.convert_by-in-Der in
+    subst (λ (rule : Rule). IfErr call.result (λ stopped. OfStream (g.S.Source.left c.args.source.now) (g.K.Sink.taken c.args.sink.now) (g.K.Sink.taken call.new.sink) (IsStopped (IsAccepted (canonical_rule_of c.args.to) (ty_view c.args.ty.now)) (rule_of rule) (ty_view c.args.ty.now) stopped.done stopped.refusal))) (sym c.in-Der.is) call.ensures.stopped
