@@ -30,7 +30,8 @@ pub use running::{cannot_open, run};
 pub use strings::{TextKind, TimeKind};
 pub use texts::{same_values_have_one_text, show};
 pub use types::{
-    Alternative, Field, Item, Name, Presence, Refusal, Ty, TypeFault, Value, WellTyped, conforms,
+    Alternative, Field, Item, Name, NamedBit, Presence, Refusal, Ty, TypeFault, Value, WellTyped,
+    conforms,
 };
 pub use words::line;
 

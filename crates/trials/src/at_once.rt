@@ -66,7 +66,7 @@ fn flatten(value: &Value, numbers: &mut Vec<i128>) -> Result<(), Fail> {
                 numbers.push(i128::from(*octet))?;
             }
         }
-        Value::Octets(octets) | Value::Text(octets) => {
+        Value::Octets(octets) | Value::Text(octets) | Value::WideInteger(octets) => {
             for octet in octets {
                 numbers.push(i128::from(*octet))?;
             }

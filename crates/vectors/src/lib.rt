@@ -21,6 +21,8 @@ mod library_use;
 #[cfg(test)]
 mod many_parts;
 #[cfg(test)]
+mod named_bits;
+#[cfg(test)]
 mod nesting;
 #[cfg(test)]
 mod pieces;
@@ -50,3 +52,5 @@ mod tags;
 mod told;
 #[cfg(test)]
 mod types_by_name;
+#[cfg(test)]
+mod wide_integers;

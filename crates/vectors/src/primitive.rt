@@ -34,13 +34,13 @@ INTEGER:
 02 01 80                 | kept     | kept     | -128
 02 02 FF 7F              | kept     | kept     | -129
 02 81 01 FF              | 02 01 FF | 02 01 FF | -1
-# the least number, the greatest, and the first beyond it
+# the least number of 128 bits, and the greatest
 02 10 80, 00 x15         | kept | kept | -170141183460469231731687303715884105728
 02 10 7F, FF x15         | kept | kept | 170141183460469231731687303715884105727
-02 11 00 80, 00 x15      | refused 6
 # cut, before anything whole shows a fault and behind it
 02 03 00 00              | refused 1
-02 11                    | refused 6
+02 11                    | refused 1
+02 82 04 01              | refused 6
 01 01 FF                 | refused 2
 22 03 02 01 05           | refused 3
 00 00                    | refused 5

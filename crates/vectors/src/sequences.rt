@@ -103,8 +103,11 @@ SEQUENCE OF INTEGER:
 30 02 02 11                    | refused 4
 30 03 02 11 00                 | refused 4
 30 12 02 11 00                 | refused 4
-30 13 02 11 00                 | refused 6
-30 80 02 11 00                 | refused 6
+30 13 02 11 00                 | refused 1
+30 04 02 82 04 01              | refused 4
+30 82 04 04 02 82 04 01 00     | refused 4
+30 82 04 05 02 82 04 01 00     | refused 6
+30 80 02 82 04 01 00           | refused 6
 30 80 02 83 0F FF FF           | refused 6
 30 80 02 83 10 00 01           | refused 4
 30 00                          | kept                       | 30 80 00 00 | { }
@@ -117,7 +120,7 @@ SEQUENCE OF SEQUENCE OF INTEGER:
 30 04 30 80 02 01              | refused 4
 30 02 30 80                    | refused 4
 30 07 30 80 02 11 00 00 00     | refused 4
-30 80 30 03 02 11 00           | refused 4
+30 80 30 05 02 82 04 01 00     | refused 4
 SEQUENCE OF OCTET STRING:
 30 80 04 83 0F FF FF           | refused 11
 30 80 24 80 04 01 41 00 00 04 00 00 00 | 30 05 04 01 41 04 00 | 30 80 04 01 41 04 00 00 00 | { '41'H, ''H }

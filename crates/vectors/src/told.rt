@@ -29,7 +29,7 @@ SEQUENCE OF INTEGER:
 30 80; 02; 01; 05 00; 00 30    | More; More; More; More; Done 1 { 5 }; Ok
 30 03 02; 01 05    | More; Done 2 { 5 }; Ok
 30; 02 02 11       | More; 4; 4
-30; 80 02 11       | More; 6; 6
+30; 80 02 82 04 01 | More; 6; 6
 30 80 02 01 05; 00; 01; 00 | More; More; 5; 5; 5
 SET { a [0] INTEGER, b [1] BOOLEAN }:
 31; 06 81; 01 01 80; 01 07 02 | More; More; More; Done 2 { a 7, b TRUE }; Ok

@@ -20,6 +20,7 @@ fn put_type(text: &mut String, ty: &Ty) -> Result<(), AllocError> {
         Ty::Oid(tag) => put_name(text, tag, "OID"),
         Ty::RelativeOid(tag) => put_name(text, tag, "RELATIVE-OID"),
         Ty::Bits(tag) => put_name(text, tag, "BITS"),
+        Ty::NamedBits(tag, _) => put_name(text, tag, "NAMED BITS"),
         Ty::Octets(tag) => put_name(text, tag, "OCTETS"),
         Ty::Text(tag, kind) => {
             put_tag(text, tag)?;

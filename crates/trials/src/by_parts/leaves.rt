@@ -32,6 +32,7 @@ fn leaf_tag(ty: &Ty) -> Tag
         Ty::Oid(tag) => *tag,
         Ty::RelativeOid(tag) => *tag,
         Ty::Bits(tag) => *tag,
+        Ty::NamedBits(tag, _) => *tag,
         Ty::Octets(tag) => *tag,
         Ty::Text(tag, _) => *tag,
         Ty::Time(tag, _) => *tag,
