@@ -2,18 +2,22 @@ PREFIX ?= $(HOME)/.local
 
 .PHONY: demo test growths install clean rt
 
-# Converts 01 01 2a, a BOOLEAN under BER, to DER, then checks, shows and converts the records of a module, by a
-# program that is compiled once, without a proof. examples/demo/ has the words of each run.
+# Converts 01 01 2a, a BOOLEAN under BER, to DER, then checks, shows and converts the values of examples/, by a
+# program that is compiled once, without a proof. examples/demo/ has the words of each run. Of the text of a
+# certificate the first 240 characters are printed.
 demo: rt
 	@for file in crates/asn1x/data/in.hex examples/calls.asn examples/calls.hex; do \
 	    echo "$$ cat $${file##*/}" && cat $$file && echo; \
 	done
 	@printed=$$( $(call quietly,$(in_program) rt try --cases ../../examples/demo --data in.hex=data/in.hex \
-	    --data calls.asn=../../examples/calls.asn --data calls.hex=../../examples/calls.hex) ) && \
+	    $(foreach file,$(shown),--data $(file)=../../examples/$(file))) ) && \
 	echo "$$printed" | while read -r line; do \
 	    case $$line in \
-	    '== '*) echo "$$ asn1x $$(paste -sd ' ' examples/demo/$${line#== }.args)" ;; \
-	    *) echo "$$line" ;; \
+	    '== '*) \
+	        words=$$(paste -sd ' ' examples/demo/$${line#== }.args); \
+	        case $$words in *' Certificate '*) cut='cut -c 1-240' ;; *) cut= ;; esac; \
+	        echo "$$ asn1x $$words$${cut:+ | $$cut}" ;; \
+	    *) echo "$$line" | $${cut:-cat} ;; \
 	    esac; \
 	done
 	@echo '(compiled with run-time checks, and not yet proved: "make install" proves it)'
@@ -49,6 +53,7 @@ rt:
 	@command -v rt >/dev/null || { echo "rt is missing: put the kit's bin folder on the path" >&2; exit 1; }
 
 in_program = cd crates/asn1x &&
+shown = calls.asn calls.hex certificates.asn certificates.hex revoked.hex
 stored_run = convert @builtin BOOLEAN data/in.hex --hex --to der
 
 # A command whose standard error is shown only where it fails.
