@@ -2,16 +2,19 @@
  * What asn1x is measured against: a converter from BER to DER for some types, each written by hand for its type
  * alone. It makes its own inputs, and measures programs.
  *
- *     floor make WORK              writes about 16 MB of values under BER
+ *     floor make WORK              writes about 16 MB of values under BER; certificates are those on its standard
+ *                                  input, in DER as hexadecimal text, over and over
  *     floor convert WORK FILE      writes the values of the file under DER
- *     floor module WORK            writes the module that has the type, whose name is Value
+ *     floor module WORK            writes the module that has the type, whose name is Value; certificates have
+ *                                  examples/certificates.asn, and the type Certificate
  *     floor measure RUNS WORD..    runs the command of these words so many times, its standard output unread, and
  *                                  prints the median of its processor time in microseconds, and the most memory
  *                                  that was resident, in KiB
  *
  * It reads and writes by buffers. It takes the definite and the indefinite form, lengths in
  * more octets than needed, and at most 1,048,576 octets a value, checks all that BER asks of these types, and
- * ends with status 1 at the first octet that is wrong.
+ * ends with status 1 at the first octet that is wrong. An INTEGER has at most 16 contents octets, and of a
+ * certificate 1,024.
  */
 #include <fcntl.h>
 #include <stdint.h>
@@ -25,11 +28,16 @@
 
 typedef uint8_t octet;
 
+/* What records and certificates both use is to cost neither a call. */
+#define INLINE static inline __attribute__((always_inline))
+
 #define MOST 1048576
 #define INDEFINITE SIZE_MAX
 #define INPUT 16000000
 #define LEVELS 60
 #define ITEMS 1000
+#define NARROW 16
+#define WIDE 1024
 
 static void die(const char *why)
 {
@@ -236,20 +244,21 @@ static inline void boolean(octet tag, const octet *end)
     put_octets(&truth, 1);
 }
 
-static inline size_t integer_length(const octet *end)
+/* The length of an INTEGER of at most so many contents octets. */
+static inline size_t integer_length(size_t most, const octet *end)
 {
     size_t length = take_definite(end);
-    if (length == 0 || length > 16)
+    if (length == 0 || length > most)
         die("bad INTEGER");
     if (length > 1 && ((at[0] == 0 && at[1] < 0x80) || (at[0] == 0xff && at[1] >= 0x80)))
         die("bad INTEGER");
     return length;
 }
 
-static inline void integer(octet tag, const octet *end)
+INLINE void integer(octet tag, size_t most, const octet *end)
 {
     take_tag(tag, end);
-    size_t length = integer_length(end);
+    size_t length = integer_length(most, end);
     put_head(tag, length);
     put_octets(at, length);
     at += length;
@@ -264,7 +273,15 @@ static inline void enumerated(const octet *end)
     put_octets(at++, 1);
 }
 
-static inline void object_identifier(const octet *end)
+static inline void null(octet tag, const octet *end)
+{
+    take_tag(tag, end);
+    if (take_definite(end) != 0)
+        die("bad NULL");
+    put_head(tag, 0);
+}
+
+INLINE void object_identifier(const octet *end)
 {
     take_tag(0x06, end);
     size_t length = take_definite(end);
@@ -283,19 +300,19 @@ static inline void object_identifier(const octet *end)
     at += length;
 }
 
-static inline void bit_string(const octet *end)
+INLINE void bit_string(octet tag, const octet *end)
 {
-    take_tag(0x03, end);
+    take_tag(tag, end);
     size_t length = take_definite(end);
     if (length == 0 || at[0] > 7 || (length == 1 && at[0] != 0))
         die("bad BIT STRING");
-    put_head(0x03, length);
+    put_head(tag, length);
     put_octets(at, length);
     put[-1] &= (octet)(0xff << at[0]);
     at += length;
 }
 
-enum { OF_OCTETS, OF_UTF8, OF_PRINTABLE, OF_ASCII, OF_VISIBLE };
+enum { OF_OCTETS, OF_UTF8, OF_PRINTABLE, OF_ASCII, OF_VISIBLE, OF_PAIRS };
 static octet alphabets[256];
 
 static void make_alphabets(void)
@@ -328,12 +345,23 @@ static void check_utf8(const octet *s, size_t length)
     }
 }
 
+static void check_pairs(const octet *s, size_t length)
+{
+    if (length % 2 != 0)
+        die("half a character");
+    for (size_t i = 0; i < length; i += 2)
+        if (s[i] >> 3 == 0x1b)
+            die("a surrogate");
+}
+
 static inline void string(octet tag, int kind, const octet *end)
 {
     take_tag(tag, end);
     size_t length = take_definite(end);
     if (kind == OF_UTF8) {
         check_utf8(at, length);
+    } else if (kind == OF_PAIRS) {
+        check_pairs(at, length);
     } else if (kind != OF_OCTETS) {
         for (size_t i = 0; i < length; i++)
             if (!(alphabets[at[i]] >> kind & 1))
@@ -349,25 +377,88 @@ static inline unsigned two(const octet *digits)
     return (unsigned)(digits[0] - '0') * 10 + (unsigned)(digits[1] - '0');
 }
 
-static inline void generalized_time(const octet *end)
+/* Takes a time of so many octets, whose year has the first of them: 2 or 4. */
+INLINE void time_of(octet tag, size_t most, size_t of_year, const octet *end)
 {
     static const octet days[] = {31, 28, 31, 30, 31, 30, 31, 31, 30, 31, 30, 31};
-    take_tag(0x18, end);
+    take_tag(tag, end);
     size_t length = take_definite(end);
-    if (length != 15 || at[14] != 'Z')
-        die("bad GeneralizedTime");
-    for (int i = 0; i < 14; i++)
+    if (length != most || at[most - 1] != 'Z')
+        die("bad time");
+    for (size_t i = 0; i < most - 1; i++)
         if (at[i] < '0' || at[i] > '9')
-            die("bad GeneralizedTime");
-    unsigned year = two(at) * 100 + two(at + 2), month = two(at + 4), day = two(at + 6);
-    if (month < 1 || month > 12 || day < 1 || two(at + 8) > 23 || two(at + 10) > 59 || two(at + 12) > 59)
-        die("bad GeneralizedTime");
-    unsigned leap = month == 2 && year % 4 == 0 && (year % 100 != 0 || year % 400 == 0);
+            die("bad time");
+    const octet *rest = at + of_year;
+    unsigned year = of_year == 2 ? two(at) : two(at) * 100 + two(at + 2), month = two(rest), day = two(rest + 2);
+    if (month < 1 || month > 12 || day < 1 || two(rest + 4) > 23 || two(rest + 6) > 59 || two(rest + 8) > 59)
+        die("bad time");
+    unsigned leap = month == 2 && year % 4 == 0 && (of_year == 2 || year % 100 != 0 || year % 400 == 0);
     if (day > days[month - 1] + leap)
-        die("bad GeneralizedTime");
-    put_head(0x18, length);
+        die("bad time");
+    put_head(tag, length);
     put_octets(at, length);
     at += length;
+}
+
+static inline void utc_time(const octet *end)
+{
+    time_of(0x17, 13, 2, end);
+}
+
+static inline void generalized_time(const octet *end)
+{
+    time_of(0x18, 15, 4, end);
+}
+
+/* Parts with parts: what is read of one up to `end`, and where its contents octets are written, with room for so
+ * many length octets before them. */
+
+struct part {
+    size_t length;
+    const octet *end;
+    octet *contents;
+    size_t room;
+};
+
+/* Begins a part. The room is what the length of the definite form needs, or `usual`. */
+INLINE struct part open_part(octet tag, size_t usual, const octet *end)
+{
+    struct part part;
+    take_tag(tag, end);
+    part.end = take_opening(&part.length, end);
+    part.room = part.length == INDEFINITE ? usual : size_of_length(part.length);
+    if (part.room + 1 > (size_t)(value + sizeof value - put))
+        die("too long");
+    *put = tag;
+    put += 1 + part.room;
+    part.contents = put;
+    return part;
+}
+
+/* Writes the length octets of a part whose end has been read. */
+static inline void close_part(const struct part *part)
+{
+    size_t count = (size_t)(put - part->contents), size = size_of_length(count);
+    octet *length = part->contents - part->room;
+    if (size != part->room) {
+        if (size > (size_t)(value + sizeof value - put))
+            die("too long");
+        memmove(length + size, part->contents, count);
+        put = length + size + count;
+    }
+    put_length(length, count, size);
+}
+
+static inline void end_part(const struct part *part)
+{
+    must_end(part->length, part->end);
+    close_part(part);
+}
+
+/* Whether a part with this identifier octet stands next. */
+static inline int is_next(octet tag, const octet *end)
+{
+    return at < end && *at == tag;
 }
 
 /* Records. */
@@ -400,33 +491,19 @@ static void called(const octet *end)
         string(0x80, OF_ASCII, end);
         break;
     case 0x81:
-        integer(0x81, end);
+        integer(0x81, NARROW, end);
         break;
     default:
-        take_tag(0x82, end);
-        if (take_definite(end) != 0)
-            die("bad NULL");
-        put_head(0x82, 0);
+        null(0x82, end);
     }
 }
 
 static void marks(const octet *end)
 {
-    size_t length;
-    take_tag(0x30, end);
-    const octet *last = take_opening(&length, end);
-    put_head(0x30, 0);
-    octet *start = put;
-    while (!ends(length, last))
-        integer(0x02, last);
-    size_t count = (size_t)(put - start), size = size_of_length(count);
-    if (size > 1) {
-        if (size > (size_t)(value + sizeof value - put))
-            die("too long");
-        memmove(start - 1 + size, start, count);
-        put += size - 1;
-    }
-    put_length(start - 1, count, size);
+    struct part part = open_part(0x30, 1, end);
+    while (!ends(part.length, part.end))
+        integer(0x02, NARROW, part.end);
+    close_part(&part);
 }
 
 static void record(void)
@@ -435,7 +512,7 @@ static void record(void)
     begin();
     take_tag(0x30, file_end);
     const octet *end = take_opening(&length, file_end);
-    integer(0x02, end);
+    integer(0x02, NARROW, end);
     boolean(0x01, end);
     enumerated(end);
     string(0x0c, OF_UTF8, end);
@@ -443,14 +520,14 @@ static void record(void)
     generalized_time(end);
     object_identifier(end);
     string(0x04, OF_OCTETS, end);
-    bit_string(end);
+    bit_string(0x03, end);
     called(end);
     marks(end);
-    if (at < end && *at == 0x83)
+    if (is_next(0x83, end))
         string(0x83, OF_VISIBLE, end);
-    if (at < end && *at == 0x84) {
+    if (is_next(0x84, end)) {
         octet *before = put;
-        integer(0x84, end);
+        integer(0x84, NARROW, end);
         if (put - before == 3 && before[2] == 0)
             put = before;
     }
@@ -465,7 +542,7 @@ static void segments(int nested, size_t length, const octet *end)
     if (nested == 64)
         die("too many open encodings");
     while (!ends(length, end)) {
-        if (at < end && *at == 0x24) {
+        if (is_next(0x24, end)) {
             size_t inside;
             at++;
             const octet *last = take_opening(&inside, end);
@@ -482,7 +559,7 @@ static void segments(int nested, size_t length, const octet *end)
 static void octet_string(void)
 {
     begin();
-    if (at < file_end && *at == 0x24) {
+    if (is_next(0x24, file_end)) {
         size_t length;
         at++;
         const octet *end = take_opening(&length, file_end);
@@ -551,7 +628,7 @@ static void set_of_integer(void)
         }
         take_tag(0x02, end);
         struct item *item = &items[count++];
-        item->length = integer_length(end);
+        item->length = integer_length(NARROW, end);
         item->contents = at;
         item->front = (uint64_t)item->length << 56;
         for (size_t i = 0; i < item->length && i < 7; i++)
@@ -582,7 +659,7 @@ static void chain(void)
         end = last[level] = take_opening(&lengths[level], end);
     }
     take_tag(0x02, end);
-    size_t length = integer_length(end);
+    size_t length = integer_length(NARROW, end);
     const octet *contents = at;
     at += length;
     for (size_t level = LEVELS; level-- > 0;)
@@ -618,12 +695,221 @@ static void sequence_of_null(void)
     begin();
     take_tag(0x30, file_end);
     const octet *end = take_opening(&length, file_end);
-    while (!ends(length, end)) {
-        take_tag(0x05, end);
-        if (take_definite(end) != 0)
-            die("bad NULL");
-        put_head(0x05, 0);
+    while (!ends(length, end))
+        null(0x05, end);
+    send_value(0x30);
+}
+
+/* Certificates. Those of the parts below that have parts are often of so many octets as `open_part` is told. */
+
+/* An INTEGER under an explicit tag, left out where it is the default, a number of one octet. */
+static void defaulted_integer(octet tag, octet otherwise, const octet *end)
+{
+    octet *before = put;
+    struct part part = open_part(tag, 1, end);
+    integer(0x02, WIDE, part.end);
+    end_part(&part);
+    if (put - before == 5 && before[4] == otherwise)
+        put = before;
+}
+
+static void hash_algorithm(const octet *end)
+{
+    struct part part = open_part(0x30, 1, end);
+    object_identifier(part.end);
+    if (is_next(0x05, part.end))
+        null(0x05, part.end);
+    end_part(&part);
+}
+
+static void mask_algorithm(const octet *end)
+{
+    struct part part = open_part(0x30, 1, end);
+    object_identifier(part.end);
+    if (is_next(0x30, part.end))
+        hash_algorithm(part.end);
+    end_part(&part);
+}
+
+static void pss(const octet *end)
+{
+    struct part part = open_part(0x30, 1, end);
+    if (is_next(0xa0, part.end)) {
+        struct part tagged = open_part(0xa0, 1, part.end);
+        hash_algorithm(tagged.end);
+        end_part(&tagged);
     }
+    if (is_next(0xa1, part.end)) {
+        struct part tagged = open_part(0xa1, 1, part.end);
+        mask_algorithm(tagged.end);
+        end_part(&tagged);
+    }
+    if (is_next(0xa2, part.end))
+        defaulted_integer(0xa2, 20, part.end);
+    if (is_next(0xa3, part.end))
+        defaulted_integer(0xa3, 1, part.end);
+    end_part(&part);
+}
+
+static void algorithm(const octet *end)
+{
+    struct part part = open_part(0x30, 1, end);
+    object_identifier(part.end);
+    if (is_next(0x05, part.end))
+        null(0x05, part.end);
+    else if (is_next(0x06, part.end))
+        object_identifier(part.end);
+    else if (is_next(0x30, part.end))
+        pss(part.end);
+    end_part(&part);
+}
+
+static void attribute(const octet *end)
+{
+    struct part part = open_part(0x30, 1, end);
+    object_identifier(part.end);
+    if (is_next(0x13, part.end))
+        string(0x13, OF_PRINTABLE, part.end);
+    else if (is_next(0x0c, part.end))
+        string(0x0c, OF_UTF8, part.end);
+    else if (is_next(0x16, part.end))
+        string(0x16, OF_ASCII, part.end);
+    else
+        string(0x1e, OF_PAIRS, part.end);
+    end_part(&part);
+}
+
+/* The attributes of one SET OF, as they are written. */
+struct span {
+    const octet *octets;
+    size_t length;
+};
+
+static struct span *spans;
+static size_t room_of_spans;
+
+static int by_octets(const void *a, const void *b)
+{
+    const struct span *x = a, *y = b;
+    return memcmp(x->octets, y->octets, x->length < y->length ? x->length : y->length);
+}
+
+static void order_spans(octet *to, size_t count)
+{
+    static octet copy[MOST + 64];
+    memcpy(copy, to, (size_t)(put - to));
+    for (size_t i = 0; i < count; i++)
+        spans[i].octets = copy + (spans[i].octets - to);
+    qsort(spans, count, sizeof *spans, by_octets);
+    for (size_t i = 0; i < count; to += spans[i++].length)
+        memcpy(to, spans[i].octets, spans[i].length);
+}
+
+static void relative_name(const octet *end)
+{
+    size_t count = 0;
+    struct part part = open_part(0x31, 1, end);
+    while (!ends(part.length, part.end)) {
+        if (count == room_of_spans) {
+            room_of_spans = room_of_spans ? 2 * room_of_spans : 16;
+            spans = realloc(spans, room_of_spans * sizeof *spans);
+            if (spans == NULL)
+                die("out of memory");
+        }
+        octet *start = put;
+        attribute(part.end);
+        spans[count++] = (struct span){start, (size_t)(put - start)};
+    }
+    if (count > 1)
+        order_spans(part.contents, count);
+    close_part(&part);
+}
+
+static void name(const octet *end)
+{
+    struct part part = open_part(0x30, 1, end);
+    while (!ends(part.length, part.end))
+        relative_name(part.end);
+    close_part(&part);
+}
+
+static void moment(const octet *end)
+{
+    if (is_next(0x17, end))
+        utc_time(end);
+    else
+        generalized_time(end);
+}
+
+static void validity(const octet *end)
+{
+    struct part part = open_part(0x30, 1, end);
+    moment(part.end);
+    moment(part.end);
+    end_part(&part);
+}
+
+static void public_key(const octet *end)
+{
+    struct part part = open_part(0x30, 3, end);
+    algorithm(part.end);
+    bit_string(0x03, part.end);
+    end_part(&part);
+}
+
+static void extension(const octet *end)
+{
+    struct part part = open_part(0x30, 1, end);
+    object_identifier(part.end);
+    if (is_next(0x01, part.end)) {
+        octet *before = put;
+        boolean(0x01, part.end);
+        if (put[-1] == 0)
+            put = before;
+    }
+    string(0x04, OF_OCTETS, part.end);
+    end_part(&part);
+}
+
+static void extensions(const octet *end)
+{
+    struct part tagged = open_part(0xa3, 2, end), part = open_part(0x30, 2, tagged.end);
+    while (!ends(part.length, part.end))
+        extension(part.end);
+    close_part(&part);
+    end_part(&tagged);
+}
+
+static void to_be_signed(const octet *end)
+{
+    struct part part = open_part(0x30, 3, end);
+    if (is_next(0xa0, part.end))
+        defaulted_integer(0xa0, 0, part.end);
+    integer(0x02, WIDE, part.end);
+    algorithm(part.end);
+    name(part.end);
+    validity(part.end);
+    name(part.end);
+    public_key(part.end);
+    if (is_next(0x81, part.end))
+        bit_string(0x81, part.end);
+    if (is_next(0x82, part.end))
+        bit_string(0x82, part.end);
+    if (is_next(0xa3, part.end))
+        extensions(part.end);
+    end_part(&part);
+}
+
+static void certificate(void)
+{
+    size_t length;
+    begin();
+    take_tag(0x30, file_end);
+    const octet *end = take_opening(&length, file_end);
+    to_be_signed(end);
+    algorithm(end);
+    bit_string(0x03, end);
+    must_end(length, end);
     send_value(0x30);
 }
 
@@ -776,6 +1062,71 @@ static void give_boolean(void)
     GIVE(0x01, 0x01, (octet)(any() % 4));
 }
 
+/* The certificates on the standard input: their octets, and where the next one stands. */
+static octet examples[1 << 16];
+static size_t examples_length, next_example;
+
+static void read_examples(void)
+{
+    unsigned one;
+    while (scanf("%2x", &one) == 1) {
+        if (examples_length == sizeof examples)
+            die("too many certificates");
+        examples[examples_length++] = (octet)one;
+    }
+    if (examples_length == 0)
+        die("no certificates on the standard input");
+}
+
+/* The end of the encoding that begins here, in the definite form under a tag of one octet. */
+static const octet *end_of(const octet **contents, const octet *from, const octet *end)
+{
+    at = from + 1;
+    size_t length = take_definite(end);
+    *contents = at;
+    return at + length;
+}
+
+/* Gives encodings of the definite form with each constructed one in the indefinite form. */
+static void give_indefinite(const octet *from, const octet *end)
+{
+    while (from < end) {
+        const octet *contents, *last = end_of(&contents, from, end);
+        if (*from & 0x20) {
+            GIVE(*from, 0x80);
+            give_indefinite(contents, last);
+            GIVE(0x00, 0x00);
+        } else {
+            give(from, (size_t)(last - from));
+        }
+        from = last;
+    }
+}
+
+/* Takes the next certificate. */
+static const octet *example(const octet **from)
+{
+    const octet *contents;
+    if (examples_length == 0)
+        read_examples();
+    *from = examples + next_example;
+    const octet *end = end_of(&contents, *from, examples + examples_length);
+    next_example = (size_t)(end - examples) % examples_length;
+    return end;
+}
+
+static void give_certificate(void)
+{
+    const octet *from, *end = example(&from);
+    give(from, (size_t)(end - from));
+}
+
+static void give_indefinite_certificate(void)
+{
+    const octet *from, *end = example(&from);
+    give_indefinite(from, end);
+}
+
 static void give_long_segments(void)
 {
     give_segments(1000);
@@ -794,6 +1145,7 @@ struct work {
     void (*give)(void);
     /* How many values, or 0 for INPUT octets. */
     size_t values;
+    /* NULL where `chain_module` prints it, empty where it is a file. */
     const char *module;
 };
 
@@ -806,6 +1158,8 @@ static const struct work works[] = {
     {"sets", set_of_integer, give_set, 0, "Sets DEFINITIONS ::= BEGIN Value ::= SET OF INTEGER END\n"},
     {"chains", chain, give_chain, 0, NULL},
     {"nulls", sequence_of_null, give_nulls, 1, "Nulls DEFINITIONS ::= BEGIN Value ::= SEQUENCE OF NULL END\n"},
+    {"certificates", certificate, give_certificate, 0, ""},
+    {"indefinite_certificates", certificate, give_indefinite_certificate, 0, ""},
     {"booleans", one_boolean, give_boolean, 2000000, "Booleans DEFINITIONS ::= BEGIN Value ::= BOOLEAN END\n"},
 };
 

@@ -40,6 +40,7 @@ Kinds DEFINITIONS EXPLICIT TAGS ::= BEGIN
   Kinds ::= SEQUENCE {
     truth BOOLEAN,
     number INTEGER,
+    wide INTEGER,
     item ENUMERATED { low (1), high (2) },
     none NULL,
     name OBJECT IDENTIFIER,
@@ -59,7 +60,7 @@ MODULE
 
 # A value whose OCTET STRING has a segment of $1 octets.
 value() {
-    printf '%s' 3080 010101 020107 0a0102 0500 06032a0304 0d020304
+    printf '%s' 3080 010101 020107 02110080000000000000000000000000000000 0a0102 0500 06032a0304 0d020304
     printf '%s' 2380 030200a5 030204f0 0000
     printf '2480 24800402010200000482%04x' "$1"
     printf '41%.0s' $(seq "$1")

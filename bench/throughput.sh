@@ -12,6 +12,9 @@
 #     segments_of_1     the same in segments of one octet                                              3
 #     sets              SET OF INTEGER, a thousand items each in no order                              4
 #     chains            an INTEGER within sixty explicit tags                                          5
+#     certificates      those of examples/certificates.hex, over and over, in DER                      4.5
+#     indefinite_certificates
+#                       the same with indefinite lengths                                               5.5
 #     booleans          2,000,000 BOOLEANs                                                             3
 #
 # Of each, CER may take 1.5 times the time that DER takes, `check` no more than it, and `show` 3 times it.
@@ -61,19 +64,24 @@ measure() {
     read -r took resident < <("$floor" measure "$@")
 }
 
-# Makes the input of a work, and compares what the two programs write.
+# Makes the input of a work, sets `input` to it and its type, and compares what the two programs write.
 prepare() {
-    "$floor" make "$1" >"$work/$1.ber"
-    "$floor" module "$1" >"$work/$1.asn"
+    "$floor" make "$1" <"$top/examples/certificates.hex" >"$work/$1.ber"
+    if [[ $1 == *certificates ]]; then
+        input=("$top/examples/certificates.asn" Certificate "$work/$1.ber")
+    else
+        "$floor" module "$1" >"$work/$1.asn"
+        input=("$work/$1.asn" Value "$work/$1.ber")
+    fi
     "$floor" convert "$1" "$work/$1.ber" >"$work/want"
-    "$program" convert "$work/$1.asn" Value "$work/$1.ber" --to der >"$work/out"
+    "$program" convert "${input[@]}" --to der >"$work/out"
     cmp "$work/want" "$work/out" || fail "$1: other octets"
     rm "$work/want" "$work/out"
 }
 
 # Measures a work, which may take $2 hundredths of what floor takes.
 row() {
-    local input=("$work/$1.asn" Value "$work/$1.ber") theirs der
+    local theirs der
     prepare "$1"
     measure $runs "$floor" convert "$1" "$work/$1.ber"
     theirs=$took
@@ -89,6 +97,7 @@ row() {
     hold "  show over convert" 300 "$took" "$der"
 }
 
+declare -a input=()
 declare -A residents=()
 echo 'microseconds:'
 row records 500
@@ -96,6 +105,8 @@ row segments_of_1000 300
 row segments_of_1 300
 row sets 400
 row chains 500
+row certificates 450
+row indefinite_certificates 550
 row booleans 300
 
 printf '\5\0' >"$work/null"
@@ -106,10 +117,11 @@ echo 'KiB resident:'
 echo "one NULL                         $resident"
 hold 'records, over 1 MiB' 300 "${residents[records]}" 1024
 hold 'chains, over 1 MiB' 300 "${residents[chains]}" 1024
+hold 'certificates, over 1 MiB' 300 "${residents[certificates]}" 1024
 hold 'booleans, over 1 MiB' 300 "${residents[booleans]}" 1024
 hold 'segments_of_1000, over 1 MiB' 3000 "${residents[segments_of_1000]}" 1024
 hold 'segments_of_1, over 1 MiB' 3000 "${residents[segments_of_1]}" 1024
 prepare nulls
-measure 1 "$program" convert "$work/nulls.asn" Value "$work/nulls.ber" --to der
+measure 1 "$program" convert "${input[@]}" --to der
 hold 'SEQUENCE OF NULL, over 1 MiB' 3000 "$resident" 1024
 exit $held
