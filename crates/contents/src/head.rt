@@ -59,8 +59,12 @@ pub fn read_head_tag(end: usize, taken: usize, octets: &[u8]) -> Result<(Tag, bo
     }
 }
 
-// Whether the encoding at the front is constructed, and how many identifier octets it has, where they
-// are those of `tag`.
+/// Reads the identifier octets of the encoding at the front of `octets`, which are to be those of `tag`: whether it
+/// is constructed, and how many they are (X.690 8.1.2). Before it stand `taken` octets, and what holds it ends at
+/// `end`.
+///
+/// Refused as `read_head_tag` does, and where they are those of another tag with `Identifier`, or `EndOfContents`
+/// where they look like the end of contents. Takes no memory.
 pub fn read_tag(tag: Tag, end: usize, taken: usize, octets: &[u8]) -> Result<(bool, usize), Refusal>
     requires { tag.number ≤ MAX_TAG_NUMBER }
     ensures value { IfOk result (λ p. IsReadTag tag end taken octets.now p.0 p.1) }
@@ -77,7 +81,12 @@ pub fn read_tag(tag: Tag, end: usize, taken: usize, octets: &[u8]) -> Result<(bo
     Ok((constructed, used))
 }
 
-// How far the encoding goes whose length octets stand at the front.
+/// Reads the length octets at the front of `octets` (X.690 8.1.3): how far the encoding goes that they are of.
+/// Before them stand `taken` octets, and what holds the encoding ends at `end`.
+///
+/// Refused with `Truncated` where octets are missing, with `TooLong` where the encoding passes the end, with `Form`
+/// where a primitive one has the indefinite form, and with `Length` where no length within the limit begins so.
+/// Takes no memory.
 pub fn read_extent(
     constructed: bool,
     end: usize,

@@ -32,7 +32,8 @@ pub struct Joined {
     pub unused: u8,
 }
 
-// Which strings the segments of the type's constructed encodings are, if it has such.
+/// Which strings the segments of the type's constructed encodings are, if it has such (X.690 8.6.4, 8.7.3, 8.23
+/// and 8.25).
 pub fn kind_of(ty: &Ty) -> Option<Kind>
     ensures { MatchOption result (IsNoString (ty_view ty.now)) (λ kind. IsStringOf kind (ty_view ty.now)) }
 {
@@ -54,7 +55,7 @@ pub fn kind_of(ty: &Ty) -> Option<Kind>
     }
 }
 
-// The tag of the segments.
+/// The tag of the segments (X.690 8.6.4.1 and 8.7.3.2).
 pub fn segment_tag(kind: Kind) -> Tag
     ensures { result ≡ segment_of kind }
 {
@@ -69,7 +70,8 @@ pub fn segment_tag(kind: Kind) -> Tag
 }
 
 impl Joined {
-    pub(crate) fn new(alloc: Global) -> Joined
+    /// No segment.
+    pub fn new(alloc: Global) -> Joined
         ensures octets { result.octets.items ≡ [] }
         ensures unused { result.unused ≡ 0 }
     {
@@ -79,8 +81,11 @@ impl Joined {
         }
     }
 
-    // Appends the piece whose contents octets these are.
-    pub(crate) fn join(&mut self, kind: Kind, contents: &[u8]) -> Result<(), Refusal>
+    /// Appends the piece whose contents octets these are: of a string of bits the first one says how many bits of the
+    /// last one are unused. Asks for a string of the kind whose last octet has none so far.
+    ///
+    /// Refused with `Contents` where these are no contents octets of a piece. Takes memory.
+    pub fn join(&mut self, kind: Kind, contents: &[u8]) -> Result<(), Refusal>
         requires whole { self.old.unused ≡ 0 }
         requires held { IsHeld kind self.old }
         ensures joined { OnOk result (IsJoined kind self.old self.new contents.now) }

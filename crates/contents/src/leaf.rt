@@ -136,8 +136,9 @@ fn check_length(ty: &Ty, octets: &[u8]) -> Result<(), Refusal>
     }
 }
 
-// Why contents octets are refused that no value of the type has.
-fn unfit(ty: &Ty) -> Refusal
+/// Why contents octets are refused that no value of the type has: those of characters with `Alphabet`, others with
+/// `Contents`.
+pub fn unfit(ty: &Ty) -> Refusal
     ensures { IsOfContents result }
 {
     match ty {
