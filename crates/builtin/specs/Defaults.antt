@@ -1,8 +1,8 @@
 -- The values behind DEFAULT, each judged by the component's type (X.680 25.1, and each type's value notation).
-use Rattle.std.specs.Prelude.{◌≡◌, ◌≢◌, ◌+◌, ◌<◌, ◌/◌, ◌%◌, ℕ, Bool, true, false, List, [], ◌∷◌, ◌++◌, map, nat_lt, All, FitsSigned, Contains, if◌then◌else◌}
+use Rattle.std.specs.Prelude.{◌≡◌, ◌≢◌, ◌+◌, ◌<◌, ◌/◌, ◌%◌, ℕ, Bool, true, false, List, [], ◌∷◌, ◌++◌, map, replicate, nat_lt, All, FitsSigned, Contains, if◌then◌else◌}
 use Rattle.std.specs.List.{flat_map}
 use Rattle.std.specs.Int.{w128}
-use Rattle.primitives.specs.Bits.{bit_of}
+use Rattle.primitives.specs.Bits.{bit_of, IsTrimmed}
 use Rattle.strings.specs.declared.text.TextKind.TheVariants.{Bmp}
 use Rattle.strings.specs.Alphabet.{IsText}
 use Rattle.lexis.specs.Spelling.{doubled}
@@ -53,11 +53,19 @@ IsSimpleDefault (SimpleType.enumerated items) (item_name name) value =
     (item : EnumerationItem) × Contains items item × (item.name ≡ name) × (value ≡ SimpleValue.enumerated item.number)
 IsSimpleDefault _ _ _ = ⊥
 
--- on BIT STRING a binary string, or a hexadecimal one of four bits a digit; on OCTET STRING a hexadecimal string of two
--- digits an octet; on a character string type, BMPString left out, a character string whose octets its alphabet has
+-- the bits of a binary string, or of a hexadecimal one of four bits a digit
+abbrev pub AreWritten : Value → List Bool → Type 0
+AreWritten (binary_value spelling) bits = spelling ≡ binary_string bits
+AreWritten (hex_value spelling) bits = (values : List ℕ) × IsHexString spelling values × (bits ≡ flat_map four_bits values)
+AreWritten _ bits = ⊥
+
+-- on BIT STRING the bits that are written, where it has named bits without the bits 0 at their end (X.680 22.7); on OCTET
+-- STRING a hexadecimal string of two digits an octet; on a character string type, BMPString left out, a character string
+-- whose octets its alphabet has
 abbrev pub IsStringDefault : StringType → Value → StringValue → Type 0
-IsStringDefault StringType.bit_string (binary_value spelling) value = (bits : List Bool) × (spelling ≡ binary_string bits) × (value ≡ StringValue.bits bits)
-IsStringDefault StringType.bit_string (hex_value spelling) value = (values : List ℕ) × IsHexString spelling values × (value ≡ StringValue.bits (flat_map four_bits values))
+IsStringDefault StringType.bit_string written value = (bits : List Bool) × AreWritten written bits × (value ≡ StringValue.bits bits)
+IsStringDefault (StringType.named_bits names) written value =
+    (bits : List Bool) × IsTrimmed bits × ((zeros : ℕ) × AreWritten written (bits ++ replicate zeros false)) × (value ≡ StringValue.bits bits)
 IsStringDefault StringType.octet_string (hex_value spelling) value = (octets : List ℕ) × IsHexString spelling (flat_map two_digits octets) × (value ≡ StringValue.octets octets)
 IsStringDefault (StringType.text kind) (chars_value spelling) value =
     (octets : List ℕ) × (spelling ≡ character_string octets) × (kind ≢ Bmp) × IsText kind octets × (value ≡ StringValue.text octets)

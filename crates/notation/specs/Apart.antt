@@ -1,6 +1,7 @@
--- Lists whose names differ (X.680 clauses 20, 25, 27 and 29), also in what is known of the names that are referred to.
+-- Lists whose names differ (X.680 clauses 20, 22, 25, 27 and 29), also in what is known of the names that are referred
+-- to.
 use Rattle.std.specs.Prelude.{◌≡◌, ⊤, List, ℕ, Some, None, map}
-use Rattle.syntax.specs.Tree.{Entry, Form, tagged, list, of, choice, enumerated, simple, reference, Components, no_component, next_component, Alternatives, no_alternative, next_alternative}
+use Rattle.syntax.specs.Tree.{Entry, Form, tagged, list, of, choice, enumerated, named_bits, simple, reference, Components, no_component, next_component, Alternatives, no_alternative, next_alternative}
 use Rattle.syntax.specs.View.{form, tree}
 use Rattle.syntax.specs.declared.tree.Module.{Module}
 use Rattle.builtin.specs.Names.{NamesDiffer}
@@ -17,6 +18,7 @@ abbrev mutual
   HasNamesApart IsOne (of group form) = HasNamesApart IsOne form
   HasNamesApart IsOne (choice alternatives) = NamesDiffer (alternative_names alternatives) × AlternativesHaveNamesApart IsOne alternatives
   HasNamesApart IsOne (enumerated entries) = NamesDiffer (map (λ (entry : Entry). entry.0) entries)
+  HasNamesApart IsOne (named_bits bits) = NamesDiffer (map (λ (bit : List ℕ × ℕ). bit.0) bits)
   HasNamesApart IsOne (simple words) = ⊤
   HasNamesApart IsOne (reference name) = IsOne name
 

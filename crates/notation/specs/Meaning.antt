@@ -4,8 +4,8 @@ use Rattle.types.specs.Shape.{EnumerationItem, SimpleType, Requirement, Shape, C
 use Rattle.syntax.specs.declared.tree.Simple.{Simple}
 use Rattle.syntax.specs.declared.tree.Group.{Group}
 use Rattle.syntax.specs.declared.tree.TagPrefix.{TagPrefix}
-use Rattle.syntax.specs.Tree.{Ending, Entry, Form, tagged, list, of, choice, enumerated, simple, reference, Components as WrittenComponents, no_component as no_written_component, next_component, Alternatives as WrittenAlternatives, no_alternative as no_written_alternative, next_alternative, Tree}
-use Rattle.builtin.specs.Universal.{enumerated_tag, named_by_words, list_of, repeated}
+use Rattle.syntax.specs.Tree.{Ending, Entry, Form, tagged, list, of, choice, enumerated, named_bits, simple, reference, Components as WrittenComponents, no_component as no_written_component, next_component, Alternatives as WrittenAlternatives, no_alternative as no_written_alternative, next_alternative, Tree}
+use Rattle.builtin.specs.Universal.{enumerated_tag, named_by_words, with_named_bits, list_of, repeated}
 use Rattle.builtin.specs.Tagging.{tag_of, IsTagged, components_in, alternatives_in}
 use Rattle.builtin.specs.Names.{NamesDiffer}
 use Rattle.builtin.specs.Numbering.{AreItems}
@@ -33,6 +33,8 @@ mutual
     -- clause 20: the names of the items differ
     of_items : {entries : List Entry} {items : List EnumerationItem} {type : Shape} → NamesDiffer (map (λ entry. entry.0) entries) → AreItems entries items
         → type ≡ Shape.simple enumerated_tag (SimpleType.enumerated items) → IsMeaning m (enumerated entries) type
+    -- clause 22: the names of the bits differ
+    of_named_bits : {bits : List (List ℕ × ℕ)} {type : Shape} → NamesDiffer (map (λ bit. bit.0) bits) → type ≡ with_named_bits bits → IsMeaning m (named_bits bits) type
     -- clauses 25 and 27: the names of the components differ
     of_components : {group : Group} {written : WrittenComponents} {types : Components} {type : Shape} → NamesDiffer (component_names written) → AreMeanings m written types
         → type ≡ list_of group (components_in m.tagging written types) → IsMeaning m (list group written) type

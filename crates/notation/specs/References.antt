@@ -1,6 +1,6 @@
 -- The names that type expressions refer to, and sets of names that mean nothing.
 use Rattle.std.specs.Prelude.{ℕ, List, [], ◌∷◌, ◌++◌, Contains}
-use Rattle.syntax.specs.Tree.{Form, tagged, list, of, choice, enumerated, simple, reference, Components, no_component, next_component, Alternatives, no_alternative, next_alternative, Tree}
+use Rattle.syntax.specs.Tree.{Form, tagged, list, of, choice, enumerated, named_bits, simple, reference, Components, no_component, next_component, Alternatives, no_alternative, next_alternative, Tree}
 use Rattle.notation.specs.Meaning.{IsAssigned}
 
 abbrev mutual
@@ -11,6 +11,7 @@ abbrev mutual
   names_in (of group form) = names_in form
   names_in (choice alternatives) = names_in_alternatives alternatives
   names_in (enumerated entries) = []
+  names_in (named_bits bits) = []
   names_in (simple words) = []
   names_in (reference name) = name ∷ []
 

@@ -1,12 +1,12 @@
 -- How a module is spelled in terminals (X.680 clauses 13, 17 to 31, in this project's profile).
 use Rattle.std.specs.Prelude.{◌≡◌, ℕ, List, [], ◌∷◌, ◌++◌, Option, Some, None, Bool, true, false, ◌⊎◌}
-use Rattle.lexis.specs.declared.word.Word.TheVariants.{Automatic, Begin, Choice, Default, Definitions, End, Enumerated, Explicit, False, Implicit, Of, Optional, Tags, True}
+use Rattle.lexis.specs.declared.word.Word.TheVariants.{Automatic, Begin, Bit, Choice, Default, Definitions, End, Enumerated, Explicit, False, Implicit, Of, Optional, String, Tags, True}
 use Rattle.lexis.specs.declared.symbol.Symbol.TheVariants.{Assignment, OpenBrace, CloseBrace, OpenBracket, CloseBracket, OpenParenthesis, CloseParenthesis, Comma, Hyphen}
 use Rattle.lexis.specs.Signs.{Sign, word, symbol, number, type_name, identifier, binary, hex, chars}
 use Rattle.syntax.specs.declared.tree.Tagging.{Tagging}
 use Rattle.syntax.specs.declared.tree.Tagging.TheVariants.{Explicit as ExplicitTags, Implicit as ImplicitTags, Automatic as AutomaticTags}
 use Rattle.syntax.specs.declared.tree.SignedNumber.{SignedNumber}
-use Rattle.syntax.specs.Tree.{Value, truth, falsity, integer, item_name, binary_value, hex_value, chars_value, Ending, required, optional, default, Entry, Form, tagged, list, of, choice, enumerated, simple, reference, Components, no_component, next_component, Alternatives, no_alternative, next_alternative, Tree}
+use Rattle.syntax.specs.Tree.{Value, truth, falsity, integer, item_name, binary_value, hex_value, chars_value, Ending, required, optional, default, Entry, Form, tagged, list, of, choice, enumerated, named_bits, simple, reference, Components, no_component, next_component, Alternatives, no_alternative, next_alternative, Tree}
 use Rattle.syntax.specs.Words.{simple_type, group_word, class_word, mode_word}
 
 -- [ `-` ] number
@@ -39,6 +39,10 @@ item_number (Some n) = symbol OpenParenthesis ∷ (signed n.negative n.magnitude
 abbrev pub item : Entry → List Sign
 item e = identifier e.0 ∷ item_number e.1
 
+-- a named bit: identifier `(` number `)` (X.680 clause 22)
+abbrev pub named_bit : List ℕ × ℕ → List Sign
+named_bit b = identifier b.0 ∷ symbol OpenParenthesis ∷ number b.1 ∷ symbol CloseParenthesis ∷ []
+
 -- what follows one of a list: the rest of it, each behind `between`, and then `last`
 abbrev pub behind : {A : Type 0} → (A → List Sign) → List Sign → List Sign → List A → List Sign
 behind one between last [] = last
@@ -57,6 +61,7 @@ abbrev mutual
   spelling (of g f) = group_word g ∷ word Of ∷ spelling f
   spelling (choice parts) = word Choice ∷ symbol OpenBrace ∷ alternatives parts
   spelling (enumerated es) = word Enumerated ∷ symbol OpenBrace ∷ joined item (symbol Comma ∷ []) (symbol CloseBrace ∷ []) es
+  spelling (named_bits bits) = word Bit ∷ word String ∷ symbol OpenBrace ∷ joined named_bit (symbol Comma ∷ []) (symbol CloseBrace ∷ []) bits
   spelling (simple s) = simple_type s
   spelling (reference n) = type_name n ∷ []
 

@@ -6,6 +6,7 @@ pub mod Limits
 pub mod Reading
 pub mod TagReading
 pub mod ValueReading
+pub mod BitReading
 pub mod SimpleReading
 pub mod TypeReading
 pub mod ModuleReading

@@ -1,7 +1,7 @@
 -- The limits of a module, and what the grammar says of its numbers.
 use Rattle.std.specs.Prelude.{ℕ, zero, suc, ◌≤◌, ◌<◌, ◌^◌, length, Option, Some, None, Bool, true, false, All, ⊤}
 use Rattle.syntax.specs.declared.tree.SignedNumber.{SignedNumber}
-use Rattle.syntax.specs.Tree.{integer, Ending, default, Form, tagged, list, of, choice, enumerated, simple, reference, Components, no_component, next_component, Alternatives, no_alternative, next_alternative, Tree}
+use Rattle.syntax.specs.Tree.{integer, Ending, default, Form, tagged, list, of, choice, enumerated, named_bits, simple, reference, Components, no_component, next_component, Alternatives, no_alternative, next_alternative, Tree}
 
 -- `-` does not stand before 0
 abbrev pub IsSigned : Bool → ℕ → Type 0
@@ -30,7 +30,8 @@ alternative_count no_alternative = 0
 alternative_count (next_alternative n f others) = suc (alternative_count others)
 
 abbrev mutual
-  -- Types nest at most d deep below the form, tag numbers are at most 268,435,455, a list has at most 256 parts.
+  -- Types nest at most d deep below the form, tag numbers are at most 268,435,455, numbers of bits at most 65,535,
+  -- and a list has at most 256 parts.
   pub Fits : ℕ → Form → Type 0
   Fits zero (tagged p f) = ⊥
   Fits (suc d) (tagged p f) = (p.number ≤ 268435455) × Fits d f
@@ -39,6 +40,7 @@ abbrev mutual
   Fits d (list g cs) = (component_count cs ≤ 256) × FitComponents d cs
   Fits d (choice parts) = (1 ≤ alternative_count parts) × (alternative_count parts ≤ 256) × FitAlternatives d parts
   Fits d (enumerated es) = (1 ≤ length es) × (length es ≤ 256) × All (λ e. FitsEntry e.1) es
+  Fits d (named_bits bits) = (1 ≤ length bits) × (length bits ≤ 256) × All (λ b. b.1 ≤ 65535) bits
   Fits d (simple s) = ⊤
   Fits d (reference n) = ⊤
 

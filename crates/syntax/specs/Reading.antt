@@ -1,6 +1,6 @@
 -- What the parser reads at a place: what stands in front of the terminals, and the terminals behind it. None: no such
 -- thing stands there. The contracts of private functions alone cite this, and the files named for its parts.
-use Rattle.std.specs.Prelude.{◌≡◌, Bool, false, ℕ, zero, suc, List, [], ◌∷◌, ◌++◌, Option, Some, None, option_and_then, Result, Ok, Err, nat_eq, if◌then◌else◌, map, drop}
+use Rattle.std.specs.Prelude.{◌≡◌, Bool, false, ℕ, zero, suc, List, [], ◌∷◌, ◌++◌, Option, Some, None, option_and_then, Result, Ok, Err, nat_eq, nat_le, if◌then◌else◌, map, drop}
 use Rattle.lexis.specs.declared.word.Word.{Word}
 use Rattle.lexis.specs.declared.symbol.Symbol.{Symbol}
 use Rattle.syntax.specs.declared.stop.Stop.{Stop}
@@ -76,6 +76,12 @@ number_at ts = do
   s ← first_at ts
   n ← number_of s.0
   Some (n, s.1)
+
+-- a number that is at most this
+unfoldable pub limited_number_at : ℕ → Reads ℕ
+limited_number_at most ts = do
+  n ← number_at ts
+  if nat_le n.0 most then Some n else None
 
 unfoldable pub identifier_at : Reads (List ℕ)
 identifier_at ts = do

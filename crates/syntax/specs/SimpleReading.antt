@@ -1,7 +1,7 @@
 -- What the parser reads of types that are named.
 use Rattle.std.specs.Prelude.{List, Option, Some, None}
 use Rattle.lexis.specs.declared.word.Word.{Word}
-use Rattle.lexis.specs.declared.word.Word.TheVariants.{Bit, BmpString, Boolean, GeneralizedTime, Ia5String, Identifier, Integer, Null, NumericString, Object, Octet, PrintableString, RelativeOid, String, UtcTime, Utf8String, VisibleString}
+use Rattle.lexis.specs.declared.word.Word.TheVariants.{BmpString, Boolean, GeneralizedTime, Ia5String, Identifier, Integer, Null, NumericString, Object, Octet, PrintableString, RelativeOid, String, UtcTime, Utf8String, VisibleString}
 use Rattle.syntax.specs.declared.tree.Simple.{Simple}
 use Rattle.syntax.specs.declared.tree.Simple.TheVariants as t
 use Rattle.syntax.specs.Tree.{Form, simple, reference}
@@ -13,7 +13,6 @@ abbrev pub simple_of : Word → Option (Simple × Option Word)
 simple_of Boolean = Some (t.Boolean, None)
 simple_of Integer = Some (t.Integer, None)
 simple_of Null = Some (t.Null, None)
-simple_of Bit = Some (t.BitString, Some String)
 simple_of Octet = Some (t.OctetString, Some String)
 simple_of Object = Some (t.ObjectIdentifier, Some Identifier)
 simple_of RelativeOid = Some (t.RelativeOid, None)

@@ -1,5 +1,5 @@
 -- What the parser reads of tags.
-use Rattle.std.specs.Prelude.{ℕ, Some, None, nat_le, if◌then◌else◌}
+use Rattle.std.specs.Prelude.{Some, if◌then◌else◌}
 use Rattle.lexis.specs.declared.word.Word.TheVariants.{Application, Explicit, Implicit, Private}
 use Rattle.lexis.specs.declared.symbol.Symbol.TheVariants.{CloseBracket}
 use Rattle.syntax.specs.declared.tree.TagClass.{TagClass}
@@ -7,13 +7,7 @@ use Rattle.syntax.specs.declared.tree.TagClass.TheVariants.{ContextSpecific, App
 use Rattle.syntax.specs.declared.tree.TagMode.{TagMode}
 use Rattle.syntax.specs.declared.tree.TagMode.TheVariants.{Unmarked, Implicit as ModeImplicit, Explicit as ModeExplicit}
 use Rattle.syntax.specs.declared.tree.TagPrefix.{TagPrefix}
-use Rattle.syntax.specs.Reading.{◌>>=◌, Reads, first_at, is_word, symbol_at, number_at}
-
--- a number within the limit of tag numbers
-unfoldable pub tag_number_at : Reads ℕ
-tag_number_at ts = do
-  n ← number_at ts
-  if nat_le n.0 268435455 then Some n else None
+use Rattle.syntax.specs.Reading.{◌>>=◌, Reads, first_at, is_word, symbol_at, limited_number_at}
 
 unfoldable pub class_at : Reads TagClass
 class_at ts = do
@@ -28,7 +22,7 @@ mode_at ts = do
 unfoldable pub prefix_at : Reads TagPrefix
 prefix_at ts = do
   c ← class_at ts
-  n ← tag_number_at c.1
+  n ← limited_number_at 268435455 c.1
   r ← symbol_at CloseBracket n.1
   m ← mode_at r
   Some (record { class = c.0; number = n.0; mode = m.0 }, m.1)

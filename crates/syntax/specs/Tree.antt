@@ -34,6 +34,7 @@ mutual
     of : Group → Form → Form
     choice : Alternatives → Form
     enumerated : List Entry → Form
+    named_bits : List (List ℕ × ℕ) → Form
     simple : Simple → Form
     reference : List ℕ → Form
 

@@ -1,6 +1,6 @@
 -- What the parser reads of types.
 use Rattle.std.specs.Prelude.{Bool, ℕ, zero, suc, List, [], Some, None, if◌then◌else◌}
-use Rattle.lexis.specs.declared.word.Word.TheVariants.{Choice, Enumerated, Of, Sequence, Set}
+use Rattle.lexis.specs.declared.word.Word.TheVariants.{Bit, Choice, Enumerated, Of, Sequence, Set}
 use Rattle.lexis.specs.declared.symbol.Symbol.TheVariants.{OpenBrace, CloseBrace, OpenBracket}
 use Rattle.syntax.specs.declared.tree.Group.{Group}
 use Rattle.syntax.specs.declared.tree.Group.TheVariants.{Sequence as InOrder, Set as InAnyOrder}
@@ -10,6 +10,7 @@ use Rattle.lexis.specs.Signs.{Sign}
 use Rattle.syntax.specs.Reading.{◌>>=◌, Reads, first_at, is_word, is_symbol, symbol_at, identifier_at, more_at}
 use Rattle.syntax.specs.TagReading.{prefix_at}
 use Rattle.syntax.specs.ValueReading.{end_at, ending_at, item_at}
+use Rattle.syntax.specs.BitReading.{bit_string_at}
 use Rattle.syntax.specs.SimpleReading.{plain_at}
 
 unfoldable pub enumerated_at : Reads Form
@@ -85,7 +86,8 @@ shape_at p s ts =
     else (if is_word Set s then group_at p InAnyOrder ts
     else (if is_word Choice s then choice_at p ts
     else (if is_word Enumerated s then enumerated_at ts
-    else plain_at s ts))))
+    else (if is_word Bit s then bit_string_at ts
+    else plain_at s ts)))))
 
 -- a type of at most n levels, its own included
 unfoldable pub type_at : ℕ → Reads Form

@@ -1,18 +1,19 @@
 -- The tree that a module of the code stands for.
 use Rattle.std.specs.Prelude.{ℕ, List, [], ◌∷◌, string_bytes, map}
 use Rattle.syntax.specs.declared.tree.Expr.{Expr}
-use Rattle.syntax.specs.declared.tree.Expr.TheOpen.{Expr-F, Component-F, Alternative-F, Tagged, List as ListOf, Of, Choice, Enumerated, Simple as SimpleType, Reference}
+use Rattle.syntax.specs.declared.tree.Expr.TheOpen.{Expr-F, Component-F, Alternative-F, Tagged, List as ListOf, Of, Choice, Enumerated, NamedBits, Simple as SimpleType, Reference}
 use Rattle.syntax.specs.declared.tree.Expr.TheFolds.{fold-Expr}
 use Rattle.syntax.specs.declared.tree.Component.{Component}
 use Rattle.syntax.specs.declared.tree.Alternative.{Alternative}
 use Rattle.syntax.specs.declared.tree.Assignment.{Assignment}
 use Rattle.syntax.specs.declared.tree.Module.{Module}
 use Rattle.syntax.specs.declared.tree.Item.{Item}
+use Rattle.syntax.specs.declared.tree.NamedBit.{NamedBit}
 use Rattle.syntax.specs.declared.tree.Presence.{Presence}
 use Rattle.syntax.specs.declared.tree.Presence.TheVariants.{Required, Optional, Default}
 use Rattle.syntax.specs.declared.tree.DefaultValue.{DefaultValue}
 use Rattle.syntax.specs.declared.tree.DefaultValue.TheVariants.{True, False, Number, Name, Binary, Hex, Chars}
-use Rattle.syntax.specs.Tree.{Value, truth, falsity, integer, item_name, binary_value, hex_value, chars_value, Ending, required, optional, default, Entry, Form, tagged, list, of, choice, enumerated, simple, reference, Components, no_component, next_component, Alternatives, no_alternative, next_alternative, Tree}
+use Rattle.syntax.specs.Tree.{Value, truth, falsity, integer, item_name, binary_value, hex_value, chars_value, Ending, required, optional, default, Entry, Form, tagged, list, of, choice, enumerated, named_bits, simple, reference, Components, no_component, next_component, Alternatives, no_alternative, next_alternative, Tree}
 
 abbrev pub components_of : List (List ℕ × Form × Ending) → Components
 components_of [] = no_component
@@ -39,6 +40,9 @@ ending (Default v) = default (value_view v)
 abbrev pub entry : Item → Entry
 entry item = (item.name, item.number)
 
+abbrev pub bit : NamedBit → List ℕ × ℕ
+bit b = (b.name, b.number)
+
 abbrev pub component_step : Component-F Form (List ℕ × Form) (List ℕ × Form × Ending) → List ℕ × Form × Ending
 component_step c = (c.name, c.body, ending c.presence)
 
@@ -51,6 +55,7 @@ expr_step (ListOf group v) = list group (components_of v.items)
 expr_step (Of group b) = of group b.value
 expr_step (Choice v) = choice (alternatives_of v.items)
 expr_step (Enumerated v) = enumerated (map entry v.items)
+expr_step (NamedBits v) = named_bits (map bit v.items)
 expr_step (SimpleType s) = simple s
 expr_step (Reference s) = reference (string_bytes s)
 
