@@ -1,6 +1,7 @@
 -- The definitions held against texts that spell a module and texts that spell none.
 use Rattle.std.proofs.Common.{◌≡◌, ℕ, zero, suc, ◌≤◌, List, [], ◌∷◌, ◌++◌, length, refl, inl, inr, arith, None}
-use Rattle.lexis.specs.declared.word.Word.TheVariants.{Definitions, Begin, End, Explicit, Implicit, Tags, Sequence, Enumerated, Of, Null, Optional, Default, True, Universal}
+use Rattle.std.proofs.lemmas.List.Elements.{All-nil, All-cons, All-head}
+use Rattle.lexis.specs.declared.word.Word.TheVariants.{Bit, Definitions, Begin, End, Explicit, Implicit, Tags, Sequence, String, Enumerated, Of, Null, Optional, Default, True, Universal}
 use Rattle.lexis.specs.declared.symbol.Symbol.TheVariants.{Assignment, OpenBrace, CloseBrace, OpenBracket, CloseBracket, OpenParenthesis, CloseParenthesis, Comma, Hyphen}
 use Rattle.lexis.specs.Signs.{Sign, word, symbol, number, type_name, identifier}
 use Rattle.syntax.specs.declared.tree.Simple.TheVariants.{Null as NullType}
@@ -8,12 +9,13 @@ use Rattle.syntax.specs.declared.tree.Group.TheVariants.{Sequence as InOrder}
 use Rattle.syntax.specs.declared.tree.TagClass.TheVariants.{ContextSpecific}
 use Rattle.syntax.specs.declared.tree.TagMode.TheVariants.{Unmarked, Implicit as ModeImplicit}
 use Rattle.syntax.specs.declared.tree.Tagging.TheVariants.{Explicit as ExplicitTags, Implicit as ImplicitTags}
-use Rattle.syntax.specs.Tree.{required, optional, Form, tagged, list, choice, enumerated, simple, no_component, next_component, no_alternative, Tree}
+use Rattle.syntax.specs.Tree.{required, optional, Form, tagged, list, choice, enumerated, named_bits, simple, no_component, next_component, no_alternative, Tree}
 use Rattle.syntax.specs.Grammar.{spelling, IsSpelling}
 use Rattle.syntax.specs.Limits.{Fits, FitsTree}
-use Rattle.syntax.specs.Reading.{word_at, symbol_at, number_at, identifier_at, type_name_at, more_at}
-use Rattle.syntax.specs.TagReading.{tag_number_at, class_at, prefix_at}
+use Rattle.syntax.specs.Reading.{word_at, symbol_at, number_at, limited_number_at, identifier_at, type_name_at, more_at}
+use Rattle.syntax.specs.TagReading.{class_at, prefix_at}
 use Rattle.syntax.specs.ValueReading.{negative_at, signed_at, end_at, ending_at, numbered_at, item_number_at, item_at}
+use Rattle.syntax.specs.BitReading.{bit_number_at, named_bit_at, named_bits_at, behind_string_at, bit_string_at}
 use Rattle.syntax.specs.SimpleReading.{behind_at, simple_at, plain_at}
 use Rattle.syntax.specs.TypeReading.{enumerated_at, named_at, component_at, components_at, of_at, list_at, group_at, tagged_at, shape_at, type_at}
 use Rattle.syntax.specs.ModuleReading.{following_at, assignment_at, assignments_at, tags_at, tagging_at, module_at}
@@ -67,6 +69,21 @@ no_empty_choice d h = let low : 1 ≤ 0 = h.0 in absurd (omega arith)
 
 no_empty_enumerated : (d : ℕ) → Fits d (enumerated []) → ⊥
 no_empty_enumerated d h = let low : 1 ≤ 0 = h.0 in absurd (omega arith)
+
+two_named_bits : spelling (named_bits ((97 ∷ [], 0) ∷ (98 ∷ [], 7) ∷ []))
+    ≡ word Bit ∷ word String ∷ symbol OpenBrace ∷ identifier (97 ∷ []) ∷ symbol OpenParenthesis ∷ number 0 ∷ symbol CloseParenthesis
+    ∷ symbol Comma ∷ identifier (98 ∷ []) ∷ symbol OpenParenthesis ∷ number 7 ∷ symbol CloseParenthesis ∷ symbol CloseBrace ∷ []
+two_named_bits = refl
+
+-- a list of named bits has one at least, and the greatest number is 65,535
+no_empty_named_bits : (d : ℕ) → Fits d (named_bits []) → ⊥
+no_empty_named_bits d h = let low : 1 ≤ 0 = h.0 in absurd (omega arith)
+
+greatest_bit : (d : ℕ) → Fits d (named_bits ((97 ∷ [], 65535) ∷ []))
+greatest_bit d = (omega arith, omega arith, All-cons (λ (b : List ℕ × ℕ). b.1 ≤ 65535) (97 ∷ [], 65535) [] (omega arith) (All-nil (λ (b : List ℕ × ℕ). b.1 ≤ 65535)))
+
+no_bit_65536 : (d : ℕ) → Fits d (named_bits ((97 ∷ [], 65536) ∷ [])) → ⊥
+no_bit_65536 d h = let most : 65536 ≤ 65535 = All-head (λ (b : List ℕ × ℕ). b.1 ≤ 65535) (97 ∷ [], 65536) [] h.2 in absurd (omega arith)
 
 -- so many times `[0]`
 abbrev nested : ℕ → Form → Form
@@ -122,9 +139,19 @@ minus_zero : Nothing (assigned (word Enumerated ∷ symbol OpenBrace ∷ identif
 unfolding module_at assignments_at assignment_at following_at tagging_at tags_at word_at symbol_at type_name_at identifier_at type_at shape_at enumerated_at item_at item_number_at numbered_at signed_at negative_at number_at more_at
 minus_zero = unread _ (omega arith) refl
 
+-- `T ::= BIT STRING { a }`
+bit_without_number : Nothing (assigned (word Bit ∷ word String ∷ symbol OpenBrace ∷ identifier (97 ∷ []) ∷ symbol CloseBrace ∷ []))
+unfolding module_at assignments_at assignment_at following_at tagging_at tags_at word_at symbol_at type_name_at identifier_at type_at shape_at bit_string_at behind_string_at named_bits_at named_bit_at bit_number_at more_at
+bit_without_number = unread _ (omega arith) refl
+
+-- `T ::= BIT STRING { a(-1) }`
+negative_bit : Nothing (assigned (word Bit ∷ word String ∷ symbol OpenBrace ∷ identifier (97 ∷ []) ∷ symbol OpenParenthesis ∷ symbol Hyphen ∷ number 1 ∷ symbol CloseParenthesis ∷ symbol CloseBrace ∷ []))
+unfolding module_at assignments_at assignment_at following_at tagging_at tags_at word_at symbol_at type_name_at identifier_at type_at shape_at bit_string_at behind_string_at named_bits_at named_bit_at bit_number_at limited_number_at number_at more_at
+negative_bit = unread _ (omega arith) refl
+
 -- `T ::= [UNIVERSAL 1] NULL`
 universal_tag : Nothing (assigned (symbol OpenBracket ∷ word Universal ∷ number 1 ∷ symbol CloseBracket ∷ word Null ∷ []))
-unfolding module_at assignments_at assignment_at following_at tagging_at tags_at word_at symbol_at type_name_at type_at shape_at tagged_at prefix_at class_at tag_number_at number_at more_at
+unfolding module_at assignments_at assignment_at following_at tagging_at tags_at word_at symbol_at type_name_at type_at shape_at tagged_at prefix_at class_at limited_number_at number_at more_at
 universal_tag = unread _ (omega arith) refl
 
 -- an empty module and `x`

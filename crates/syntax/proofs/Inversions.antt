@@ -1,11 +1,12 @@
 -- What is known where something was read: single terminals.
-use Rattle.std.proofs.Common.{◌≡◌, ℕ, List, [], ◌∷◌, ◌++◌, refl, ◌∙◌, ap, subst, Option, Some, None, Bool, true, false, cond}
+use Rattle.std.proofs.Common.{◌≡◌, ℕ, ◌≤◌, List, [], ◌∷◌, ◌++◌, refl, ◌∙◌, ap, subst, arith, Option, Some, None, Bool, true, false, cond, nat_le}
 use Rattle.std.specs.Prelude.{option_and_then}
+use Rattle.std.proofs.lemmas.Bool.Decides.{nat_tests}
 use Rattle.std.proofs.lemmas.Option.{none-some, same_Some, cond_some}
 use Rattle.lexis.specs.declared.word.Word.{Word}
 use Rattle.lexis.specs.declared.symbol.Symbol.{Symbol}
 use Rattle.lexis.specs.Signs.{Sign, word, symbol, number, type_name, identifier}
-use Rattle.syntax.specs.Reading.{Reads, first_at, is_word, is_symbol, word_at, symbol_at, number_at, identifier_at, type_name_at}
+use Rattle.syntax.specs.Reading.{Reads, first_at, is_word, is_symbol, word_at, symbol_at, number_at, limited_number_at, identifier_at, type_name_at}
 use Rattle.syntax.proofs.WordPlaces.{word-found, symbol-found}
 
 pub bind : {A B : Type 0} (f : A → Option B) (o : Option A) (y : B) → option_and_then f o ≡ Some y → (x : A) × (o ≡ Some x) × (f x ≡ Some y)
@@ -53,6 +54,18 @@ unfolding number_at
 number-some [] y e = absurd (none-some y e)
 number-some (number m ∷ ts) y e = arrive (λ (z : ℕ × List Sign). number m ∷ ts ≡ number z.0 ∷ z.1) (m, ts) y e refl
 number-some (s ∷ ts) y e = absurd (none-some y e)
+
+pub limited_number-some : (most : ℕ) (ts : List Sign) (y : ℕ × List Sign) → limited_number_at most ts ≡ Some y → (ts ≡ number y.0 ∷ y.1) × (y.0 ≤ most)
+unfolding limited_number_at
+limited_number-some most ts y e =
+    let u = bind _ (number_at ts) y e in
+    let v = cond_some (nat_le u.0.0 most) u.0 y u.2 in
+    let test : nat_le y.0 most ≡ true = subst (λ (i : ℕ × List Sign). nat_le i.0 most ≡ true) v.1 v.0 in
+    (subst (λ (z : ℕ × List Sign). ts ≡ number z.0 ∷ z.1) v.1 (number-some ts u.0 u.1), grind (arith, nat_tests))
+
+pub limited_number-again : (most n : ℕ) (r : List Sign) → n ≤ most → limited_number_at most (number n ∷ r) ≡ Some (n, r)
+unfolding limited_number_at number_at
+limited_number-again most n r h = let test : nat_le n most ≡ true = grind (arith, nat_tests) in rw test refl
 
 pub identifier-some : (ts : List Sign) (y : List ℕ × List Sign) → identifier_at ts ≡ Some y → ts ≡ identifier y.0 ∷ y.1
 unfolding identifier_at

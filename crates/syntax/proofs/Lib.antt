@@ -5,6 +5,7 @@ pub mod Inversions
 pub mod PrefixReading
 pub mod ValueReading
 pub mod ListReading
+pub mod BitReading
 pub mod TypeLists
 pub mod TypeAgain
 pub mod TypeSound

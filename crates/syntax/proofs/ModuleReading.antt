@@ -33,11 +33,11 @@ FitsAssigned a = Fits 64 a.1
 
 last-again : (a : List ℕ × Form) (r : List Sign) → FitsAssigned a → assignment_at (assignment a ++ (end_word ++ r)) ≡ Some ((a, true), r)
 unfolding assignment_at following_at type_name_at symbol_at
-last-again a r h = rw (type-again a.1 64 h (word End ∷ r)) refl
+last-again a r h = rw (type-again a.1 64 h (word End ∷ r) refl) refl
 
 next-again : (a b : List ℕ × Form) (r : List Sign) → FitsAssigned a → assignment_at (assignment a ++ ([] ++ (assignment b ++ r))) ≡ Some ((a, false), assignment b ++ r)
 unfolding assignment_at following_at type_name_at symbol_at
-next-again a b r h = rw (type-again a.1 64 h (assignment b ++ r)) refl
+next-again a b r h = rw (type-again a.1 64 h (assignment b ++ r) refl) refl
 
 assignments-again : (parts : List (List ℕ × Form)) (limit : ℕ) (r : List Sign) → length parts ≤ limit → All FitsAssigned parts
     → assignments_at limit (joined assignment [] end_word parts ++ r) ≡ Some (parts, r)

@@ -1,7 +1,6 @@
 -- Tags: what is spelled is read again, and what is read is spelled so.
-use Rattle.std.proofs.Common.{◌≡◌, ℕ, ◌≤◌, List, [], ◌∷◌, ◌++◌, refl, ◌∙◌, ap, subst, arith, Some, true, nat_le, append_assoc}
-use Rattle.std.proofs.lemmas.Bool.Decides.{nat_tests}
-use Rattle.std.proofs.lemmas.Option.{none-some, cond_some}
+use Rattle.std.proofs.Common.{◌≡◌, ℕ, ◌≤◌, List, [], ◌∷◌, ◌++◌, refl, ◌∙◌, ap, Some, append_assoc}
+use Rattle.std.proofs.lemmas.Option.{none-some}
 use Rattle.lexis.specs.declared.word.Word.TheVariants.{Application, Private, Implicit, Explicit}
 use Rattle.lexis.specs.declared.symbol.Symbol.TheVariants.{OpenBracket, CloseBracket}
 use Rattle.syntax.specs.declared.tree.Group.TheVariants.{Sequence as InOrder, Set as InAnyOrder}
@@ -12,14 +11,14 @@ use Rattle.syntax.specs.declared.tree.TagMode.TheVariants.{Unmarked, Implicit as
 use Rattle.syntax.specs.declared.tree.TagPrefix.{TagPrefix}
 use Rattle.syntax.specs.declared.tree.Simple.{Simple}
 use Rattle.syntax.specs.declared.tree.Simple.TheVariants.{Boolean}
-use Rattle.syntax.specs.Tree.{Form, tagged, list, of, choice, enumerated, simple, reference}
+use Rattle.syntax.specs.Tree.{Form, tagged, list, of, choice, enumerated, named_bits, simple, reference}
 use Rattle.lexis.specs.Signs.{Sign, symbol, number}
 use Rattle.syntax.specs.Words.{class_word, mode_word, simple_type}
 use Rattle.syntax.specs.Grammar.{spelling}
-use Rattle.syntax.specs.Reading.{is_word, number_at, symbol_at}
-use Rattle.syntax.specs.TagReading.{class_at, mode_at, tag_number_at, prefix_at}
+use Rattle.syntax.specs.Reading.{is_word, symbol_at, limited_number_at}
+use Rattle.syntax.specs.TagReading.{class_at, mode_at, prefix_at}
 use Rattle.syntax.proofs.WordPlaces.{word-found}
-use Rattle.syntax.proofs.Inversions.{bind, arrive, split, symbol-some, number-some}
+use Rattle.syntax.proofs.Inversions.{bind, arrive, split, symbol-some, limited_number-some, limited_number-again}
 
 class-again : (c : TagClass) (n : ℕ) (r : List Sign) → class_at (class_word c ++ (number n ∷ r)) ≡ Some (c, number n ∷ r)
 unfolding class_at
@@ -41,6 +40,7 @@ unmarked-again (of InOrder f) r = refl
 unmarked-again (of InAnyOrder f) r = refl
 unmarked-again (choice parts) r = refl
 unmarked-again (enumerated es) r = refl
+unmarked-again (named_bits bits) r = refl
 unmarked-again (simple s) r = unmarked-simple s r
 unmarked-again (reference n) r = refl
 
@@ -49,9 +49,6 @@ unfolding mode_at
 mode-again Unmarked f r = unmarked-again f r
 mode-again ModeImplicit f r = refl
 mode-again ModeExplicit f r = refl
-
-small : (n : ℕ) → n ≤ 268435455 → nat_le n 268435455 ≡ true
-small n h = grind (arith, nat_tests)
 
 -- the terminals between `[` and the type
 pub prefix_word : TagPrefix → List Sign → List Sign
@@ -64,8 +61,8 @@ prefix-shape p f r =
     ∙ ap (λ i. symbol OpenBracket ∷ (class_word p.class ++ (number p.number ∷ symbol CloseBracket ∷ i))) (append_assoc (mode_word p.mode) (spelling f) r)
 
 pub prefix-again : (p : TagPrefix) (f : Form) (r : List Sign) → p.number ≤ 268435455 → prefix_at (prefix_word p (spelling f ++ r)) ≡ Some (p, spelling f ++ r)
-unfolding prefix_at tag_number_at number_at symbol_at prefix_word
-prefix-again p f r h = rw (class-again p.class p.number (symbol CloseBracket ∷ (mode_word p.mode ++ (spelling f ++ r)))) (rw (small p.number h) (rw (mode-again p.mode f r) refl))
+unfolding prefix_at symbol_at prefix_word
+prefix-again p f r h = rw (class-again p.class p.number (symbol CloseBracket ∷ (mode_word p.mode ++ (spelling f ++ r)))) (rw (limited_number-again 268435455 p.number (symbol CloseBracket ∷ (mode_word p.mode ++ (spelling f ++ r))) h) (rw (mode-again p.mode f r) refl))
 
 class-some : (ts : List Sign) (y : TagClass × List Sign) → class_at ts ≡ Some y → ts ≡ class_word y.0 ++ y.1
 unfolding class_at
@@ -87,21 +84,13 @@ mode-some (s ∷ ts) y e =
     (λ b i. arrive (λ (z : TagMode × List Sign). s ∷ ts ≡ mode_word z.0 ++ z.1) (ModeExplicit, ts) y i (ap (λ j. j ∷ ts) (word-found Explicit s b)))
     (λ _ i. arrive (λ (z : TagMode × List Sign). s ∷ ts ≡ mode_word z.0 ++ z.1) (Unmarked, s ∷ ts) y i refl) h) e
 
-tag_number-some : (ts : List Sign) (y : ℕ × List Sign) → tag_number_at ts ≡ Some y → (ts ≡ number y.0 ∷ y.1) × (y.0 ≤ 268435455)
-unfolding tag_number_at
-tag_number-some ts y e =
-    let u = bind _ (number_at ts) y e in
-    let v = cond_some (nat_le u.0.0 268435455) u.0 y u.2 in
-    let test : nat_le y.0 268435455 ≡ true = subst (λ (i : ℕ × List Sign). nat_le i.0 268435455 ≡ true) v.1 v.0 in
-    (subst (λ (z : ℕ × List Sign). ts ≡ number z.0 ∷ z.1) v.1 (number-some ts u.0 u.1), grind (arith, nat_tests))
-
 pub prefix-some : (ts : List Sign) (y : TagPrefix × List Sign) → prefix_at ts ≡ Some y → (ts ≡ prefix_word y.0 y.1) × (y.0.number ≤ 268435455)
 unfolding prefix_at prefix_word
 prefix-some ts y e =
     let c = bind _ (class_at ts) y e in
-    let n = bind _ (tag_number_at c.0.1) y c.2 in
+    let n = bind _ (limited_number_at 268435455 c.0.1) y c.2 in
     let r = bind _ (symbol_at CloseBracket n.0.1) y n.2 in
     let m = bind _ (mode_at r.0) y r.2 in
-    let k = tag_number-some c.0.1 n.0 n.1 in
+    let k = limited_number-some 268435455 c.0.1 n.0 n.1 in
     arrive (λ (z : TagPrefix × List Sign). (ts ≡ prefix_word z.0 z.1) × (z.0.number ≤ 268435455)) _ y m.2
     (class-some ts c.0 c.1 ∙ ap (λ i. class_word c.0.0 ++ i) (k.0 ∙ ap (λ i. number n.0.0 ∷ i) (symbol-some CloseBracket n.0.1 r.0 r.1 ∙ ap (λ i. symbol CloseBracket ∷ i) (mode-some r.0 m.0 m.1))), k.1)

@@ -27,6 +27,7 @@ use Rattle.syntax.proofs.Inversions.{bind, arrive, split, Spelled, symbol-some, 
 use Rattle.syntax.proofs.ValueReading.{mark, ending-some, end-some, item-some}
 use Rattle.syntax.proofs.PrefixReading.{prefix_word, prefix-shape, prefix-some}
 use Rattle.syntax.proofs.ListReading.{more-some}
+use Rattle.syntax.proofs.BitReading.{bit_string-some}
 use Rattle.syntax.proofs.TypeLists.{Part, comma, brace, part, option, components-joined, alternatives-joined, component-count, alternative-count, FitsIn, FitsPart, fit-components, fit-alternatives}
 
 -- what is read at a place where this stands before it
@@ -183,7 +184,6 @@ simple-found : (w : Word) (x : Simple × Option Word) → simple_of w ≡ Some x
 simple-found Boolean x e = arrive (λ (z : Simple × Option Word). simple_type z.0 ≡ word Boolean ∷ second z.1) (t.Boolean, None) x e refl
 simple-found Integer x e = arrive (λ (z : Simple × Option Word). simple_type z.0 ≡ word Integer ∷ second z.1) (t.Integer, None) x e refl
 simple-found Null x e = arrive (λ (z : Simple × Option Word). simple_type z.0 ≡ word Null ∷ second z.1) (t.Null, None) x e refl
-simple-found Bit x e = arrive (λ (z : Simple × Option Word). simple_type z.0 ≡ word Bit ∷ second z.1) (t.BitString, Some String) x e refl
 simple-found Octet x e = arrive (λ (z : Simple × Option Word). simple_type z.0 ≡ word Octet ∷ second z.1) (t.OctetString, Some String) x e refl
 simple-found Object x e = arrive (λ (z : Simple × Option Word). simple_type z.0 ≡ word Object ∷ second z.1) (t.ObjectIdentifier, Some Identifier) x e refl
 simple-found RelativeOid x e = arrive (λ (z : Simple × Option Word). simple_type z.0 ≡ word RelativeOid ∷ second z.1) (t.RelativeOid, None) x e refl
@@ -229,7 +229,9 @@ shape-some p n sound s ts y e =
     (λ b k. subst (λ l. Reading n (l ∷ ts) y) (sym (word-found Choice s b)) (choice-some p n sound ts y k))
     (λ _ k. split (is_word Enumerated s) _ _ y
     (λ b l. subst (λ m. Reading n (m ∷ ts) y) (sym (word-found Enumerated s b)) (enumerated-some n ts y l))
-    (λ _ l. plain-some n s ts y l) k) j) i) h) e
+    (λ _ l. split (is_word Bit s) _ _ y
+    (λ b m. subst (λ q. Reading n (q ∷ ts) y) (sym (word-found Bit s b)) (bit_string-some n ts y m))
+    (λ _ m. plain-some n s ts y m) l) k) j) i) h) e
 
 pub type-some : (n : ℕ) → SoundType n (type_at n)
 unfolding type_at

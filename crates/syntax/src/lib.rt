@@ -1,6 +1,7 @@
 //! Module texts as trees (X.680, in this project's profile).
 #![tactic(auto)]
 
+mod bits;
 mod modules;
 mod parsing;
 mod prefixes;
@@ -16,6 +17,6 @@ mod values;
 
 pub use parsing::parse;
 pub use tree::{
-    Alternative, Assignment, Component, DefaultValue, Expr, Group, Item, Module, Presence,
-    SignedNumber, Simple, TagClass, TagMode, TagPrefix, Tagging,
+    Alternative, Assignment, Component, DefaultValue, Expr, Group, Item, Module, NamedBit,
+    Presence, SignedNumber, Simple, TagClass, TagMode, TagPrefix, Tagging,
 };

@@ -4,11 +4,14 @@ ghost use Rattle.std.specs.Prelude.{◌≡◌};
 ghost use Rattle.syntax.specs.Reading.{Gives, signs_from};
 ghost use Rattle.syntax.specs.TagReading.{class_at, mode_at, prefix_at};
 
-use crate::reading::{first_at, is_word, symbol_at, tag_number_at};
+use crate::reading::{first_at, is_word, limited_number_at, symbol_at};
 use crate::stop::Stop;
 use crate::terminal::Terminal;
 use crate::tree::{TagClass, TagMode, TagPrefix};
 use lexis::{Symbol, Word};
+
+/// The greatest tag number.
+const MAX_TAG_NUMBER: u32 = 268_435_455;
 
 /// What stands behind `[`, to the type that it tags.
 #[tactic(auto, unfolding(crate::specs::TagReading::prefix_at))]
@@ -16,7 +19,7 @@ pub fn prefix_at(terminals: &[Terminal], at: usize) -> Result<(TagPrefix, usize)
     ensures { Gives (λ r. (r.0, signs_from r.1 terminals.now)) result (prefix_at (signs_from at terminals.now)) }
 {
     let (class, next) = class_at(terminals, at)?;
-    let (number, next) = tag_number_at(terminals, next)?;
+    let (number, next) = limited_number_at(terminals, next, MAX_TAG_NUMBER)?;
     let next = symbol_at(terminals, next, Symbol::CloseBracket)?;
     let (mode, next) = mode_at(terminals, next)?;
     let prefix = TagPrefix {

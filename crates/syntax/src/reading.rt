@@ -2,8 +2,7 @@
 
 ghost use Rattle.std.specs.Prelude.{◌≡◌};
 ghost use Rattle.lexis.specs.Lexemes.{sign};
-ghost use Rattle.syntax.specs.Reading.{Gives, signs_from, first_at, is_word, is_symbol, word_at, symbol_at, number_at, identifier_at, type_name_at};
-ghost use Rattle.syntax.specs.TagReading.{tag_number_at};
+ghost use Rattle.syntax.specs.Reading.{Gives, signs_from, first_at, is_word, is_symbol, word_at, symbol_at, number_at, limited_number_at, identifier_at, type_name_at};
 ghost use Rattle.syntax.specs.ValueReading.{negative_at, positive_at, signed_at, end_at};
 
 use crate::refusing::{Wanted, refuse, refuse_behind_type};
@@ -11,9 +10,6 @@ use crate::stop::{Cause, Stop};
 use crate::terminal::Terminal;
 use crate::tree::SignedNumber;
 use lexis::{Lexeme, Symbol, Word};
-
-/// The greatest tag number.
-pub const MAX_TAG_NUMBER: u128 = 268_435_455;
 
 /// The terminal at this place, and the place behind it.
 #[tactic(auto, using(crate::proofs::Steps::places))]
@@ -109,13 +105,13 @@ pub fn type_name_at<'a>(terminals: &[Terminal<'a>], at: usize) -> Result<(&'a st
     }
 }
 
-/// A tag number.
-#[tactic(auto, unfolding(crate::specs::TagReading::tag_number_at))]
-pub fn tag_number_at(terminals: &[Terminal], at: usize) -> Result<(u32, usize), Stop>
-    ensures { Gives (λ r. (r.0, signs_from r.1 terminals.now)) result (tag_number_at (signs_from at terminals.now)) }
+/// A number that is at most so great.
+#[tactic(auto, unfolding(crate::specs::Reading::limited_number_at))]
+pub fn limited_number_at(terminals: &[Terminal], at: usize, most: u32) -> Result<(u32, usize), Stop>
+    ensures { Gives (λ r. (r.0, signs_from r.1 terminals.now)) result (limited_number_at most (signs_from at terminals.now)) }
 {
     let (number, next) = number_at(terminals, at)?;
-    if number <= MAX_TAG_NUMBER {
+    if number <= u128::from(most) {
         Ok((number as u32, next))
     } else {
         Err(Stop::Refused(Cause::TooLarge, at))

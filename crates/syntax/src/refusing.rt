@@ -19,7 +19,7 @@ pub fn refuse(terminals: &[Terminal], at: usize, wanted: Wanted) -> Stop {
 }
 
 /// The parser stops where a type may end. What may follow one under X.680 and is left out of the profile,
-/// a constraint or a list of named numbers or bits, is told apart.
+/// a constraint or a list of named numbers, is told apart.
 pub fn refuse_behind_type(terminals: &[Terminal], at: usize, wanted: Wanted) -> Stop {
     if begins_constraint(terminals, at) || begins_named_numbers(terminals, at) {
         Stop::Refused(Cause::NotInProfile, at)
@@ -68,8 +68,7 @@ fn lexeme_at<'a>(terminals: &[Terminal<'a>], at: usize) -> Option<Lexeme<'a>> {
 
 // `(` behind a type.
 fn begins_constraint(terminals: &[Terminal], at: usize) -> bool {
-    is_symbol_at(terminals, at, Symbol::OpenParenthesis)
-        && ends_type(lexeme_before(terminals, at, 1))
+    is_symbol_at(terminals, at, Symbol::OpenParenthesis) && ends_type(lexeme_before(terminals, at))
 }
 
 // Does a type end here, where an item, a value or `OPTIONAL` may end as well?
@@ -84,12 +83,16 @@ fn ends_type(lexeme: Option<Lexeme>) -> bool {
     }
 }
 
-// `{` behind INTEGER or BIT STRING.
+// `{` behind INTEGER.
 fn begins_named_numbers(terminals: &[Terminal], at: usize) -> bool {
-    is_symbol_at(terminals, at, Symbol::OpenBrace)
-        && (is_word_before(terminals, at, 1, Word::Integer)
-            || (is_word_before(terminals, at, 1, Word::String)
-                && is_word_before(terminals, at, 2, Word::Bit)))
+    is_symbol_at(terminals, at, Symbol::OpenBrace) && ends_integer(lexeme_before(terminals, at))
+}
+
+fn ends_integer(lexeme: Option<Lexeme>) -> bool {
+    match lexeme {
+        Some(Lexeme::Word(word)) => word == Word::Integer,
+        _ => false,
+    }
 }
 
 fn is_symbol_at(terminals: &[Terminal], at: usize, wanted: Symbol) -> bool {
@@ -99,14 +102,7 @@ fn is_symbol_at(terminals: &[Terminal], at: usize, wanted: Symbol) -> bool {
     }
 }
 
-fn is_word_before(terminals: &[Terminal], at: usize, distance: usize, wanted: Word) -> bool {
-    match lexeme_before(terminals, at, distance) {
-        Some(Lexeme::Word(found)) => found == wanted,
-        _ => false,
-    }
-}
-
-// The lexeme so many places before this one.
-fn lexeme_before<'a>(terminals: &[Terminal<'a>], at: usize, distance: usize) -> Option<Lexeme<'a>> {
-    lexeme_at(terminals, at.checked_sub(distance)?)
+// The lexeme before this one.
+fn lexeme_before<'a>(terminals: &[Terminal<'a>], at: usize) -> Option<Lexeme<'a>> {
+    lexeme_at(terminals, at.checked_sub(1)?)
 }

@@ -64,7 +64,6 @@ fn simple_of(word: Word) -> Option<(Simple, Option<Word>)>
         Word::Boolean => Some((Simple::Boolean, None)),
         Word::Integer => Some((Simple::Integer, None)),
         Word::Null => Some((Simple::Null, None)),
-        Word::Bit => Some((Simple::BitString, Some(Word::String))),
         Word::Octet => Some((Simple::OctetString, Some(Word::String))),
         Word::Object => Some((Simple::ObjectIdentifier, Some(Word::Identifier))),
         Word::RelativeOid => Some((Simple::RelativeOid, None)),

@@ -51,6 +51,8 @@ pub enum Expr {
     Choice(Vec<Alternative>),
     /// `ENUMERATED`, and items in braces.
     Enumerated(Vec<Item>),
+    /// `BIT STRING`, and named bits in braces.
+    NamedBits(Vec<NamedBit>),
     /// A type that is named by reserved words alone.
     Simple(Simple),
     /// The name of a type.
@@ -169,6 +171,15 @@ pub struct Item {
     pub number: Option<SignedNumber>,
 }
 
+/// A named bit of a BIT STRING.
+#[derive(Debug, PartialEq, Eq, Drop)]
+pub struct NamedBit {
+    /// Its name.
+    pub name: Name,
+    /// The number of its bit.
+    pub number: u32,
+}
+
 /// A type that is named by reserved words alone.
 #[derive(Clone, Copy, Debug, PartialEq, Eq)]
 pub enum Simple {
@@ -178,7 +189,7 @@ pub enum Simple {
     Integer,
     /// `NULL`.
     Null,
-    /// `BIT STRING`.
+    /// `BIT STRING`, and no list of named bits.
     BitString,
     /// `OCTET STRING`.
     OctetString,

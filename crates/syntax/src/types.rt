@@ -6,6 +6,7 @@ ghost use Rattle.lexis.specs.Lexemes.{sign};
 ghost use Rattle.syntax.specs.Reading.{Gives, signs_from, more_at};
 ghost use Rattle.syntax.specs.TypeReading.{type_at, shape_at, tagged_at, group_at, of_at, list_at, components_at, component_at, choice_at, alternative_at, named_at};
 
+use crate::bits::bit_string_at;
 use crate::prefixes::prefix_at;
 use crate::reading::{end_at, first_at, identifier_at, is_symbol, is_word, symbol_at};
 use crate::refusing::{Wanted, refuse, refuse_part};
@@ -58,6 +59,8 @@ fn shape_at(
         choice_at(alloc, levels, terminals, at)
     } else if is_word(first, Word::Enumerated) {
         enumerated_at(alloc, terminals, at)
+    } else if is_word(first, Word::Bit) {
+        bit_string_at(alloc, terminals, at)
     } else {
         plain_at(alloc, terminals, first, at)
     }
