@@ -52,10 +52,10 @@ module _ (written : List ℤ) (sorted : IsSorted int_cmp written) (differ : Diff
       let last : get_or written before d <ℤ get_or written later d = subst (λ (p : ℕ). get_or written before d <ℤ get_or written p d) next (next_above before d (omega (arith, next, below))) in
       omega (arith, ints, first, last)
 
-  all_differ : AllPairs (λ (a b : ℤ). a ≢ b) written
+  pub all_differ : AllPairs (λ (a b : ℤ). a ≢ b) written
   all_differ = λ i j d less below same. let above = far_above (j - i - 1) i j d (omega (arith, less)) below in absurd (omega (arith, ints, above, same))
 
-flipped : (a b : ℤ) → a ≢ b → b ≢ a
+pub flipped : (a b : ℤ) → a ≢ b → b ≢ a
 flipped a b h same = h (sym same)
 
 -- so do those that are written, where they are of 128 bits

@@ -4,6 +4,7 @@ use Rattle.std.specs.Prelude.{All, codes}
 use Rattle.std.specs.List.{flat_map}
 use Rattle.std.proofs.lemmas.Int.{ints}
 use Rattle.std.proofs.lemmas.List.Elements.{All-nil, All-cons, All-head}
+use Rattle.primitives.specs.Bits.{IsTrimmed}
 use Rattle.strings.specs.declared.text.TextKind.{TextKind}
 use Rattle.strings.specs.declared.text.TextKind.TheVariants.{Numeric, Ia5, Bmp}
 use Rattle.strings.specs.Alphabet.{IsNumericOctet, IsIa5Octet}
@@ -13,6 +14,7 @@ use Rattle.syntax.specs.Tree.{Value, integer, item_name, binary_value, hex_value
 use Rattle.builtin.specs.Universal.{universal}
 use Rattle.builtin.specs.Tagging.{context}
 use Rattle.builtin.specs.Defaults.{IsHexString, two_digits, IsDefault}
+use Rattle.builtin.proofs.DefaultLemmas.{one_default}
 use Rattle.builtin.proofs.SpellingLemmas.{tails, one_hex_string, one_character_string}
 use Rattle.builtin.proofs.NameInstances.{a, b, apart}
 
@@ -36,16 +38,59 @@ hex_a : IsHexString (codes "'A'H") (10 ∷ [])
 hex_a = record { each = one_below 10 (omega arith); spelt = refl }
 
 bits_of_a : IsDefault bit_string (hex_value (codes "'A'H")) (bits (true ∷ false ∷ true ∷ false ∷ []))
-bits_of_a = (StringValue.bits (true ∷ false ∷ true ∷ false ∷ []), (10 ∷ [], hex_a, refl), refl)
+bits_of_a = (StringValue.bits (true ∷ false ∷ true ∷ false ∷ []), (true ∷ false ∷ true ∷ false ∷ [], (10 ∷ [], hex_a, refl), refl), refl)
 
 bits_of_0 : IsDefault bit_string (hex_value (codes "'0'H")) (bits (false ∷ false ∷ false ∷ false ∷ []))
-bits_of_0 = (StringValue.bits (false ∷ false ∷ false ∷ false ∷ []), (0 ∷ [], record { each = one_below 0 (omega arith); spelt = refl }, refl), refl)
+bits_of_0 = (StringValue.bits (false ∷ false ∷ false ∷ false ∷ []), (false ∷ false ∷ false ∷ false ∷ [], (0 ∷ [], record { each = one_below 0 (omega arith); spelt = refl }, refl), refl), refl)
 
 bits_of_101 : IsDefault bit_string (binary_value (codes "'101'B")) (bits (true ∷ false ∷ true ∷ []))
 bits_of_101 = (StringValue.bits (true ∷ false ∷ true ∷ []), (true ∷ false ∷ true ∷ [], refl, refl), refl)
 
 no_bits : IsDefault bit_string (binary_value (codes "''B")) (bits [])
 no_bits = (StringValue.bits [], ([], refl, refl), refl)
+
+-- the bits 0 at the end are the value's too
+bits_of_1010 : IsDefault bit_string (binary_value (codes "'1010'B")) (bits (true ∷ false ∷ true ∷ false ∷ []))
+bits_of_1010 = (StringValue.bits (true ∷ false ∷ true ∷ false ∷ []), (true ∷ false ∷ true ∷ false ∷ [], refl, refl), refl)
+
+trimmed_all_the_same : IsDefault bit_string (binary_value (codes "'1010'B")) (bits (true ∷ false ∷ true ∷ [])) → ⊥
+trimmed_all_the_same h =
+    let is = one_default bit_string (binary_value (codes "'1010'B")) (bits (true ∷ false ∷ true ∷ [])) (bits (true ∷ false ∷ true ∷ false ∷ [])) tt h bits_of_1010 in
+    cc
+
+-- and with named bits they are not
+abbrev named_bits : Shape
+named_bits = Shape.string (universal 3) (StringType.named_bits (record { name = a; number = 0 } ∷ record { name = b; number = 7 } ∷ []))
+
+trimmed_101 : IsTrimmed (true ∷ false ∷ true ∷ [])
+trimmed_101 = inr (true ∷ false ∷ [], refl)
+
+named_1010 : IsDefault named_bits (binary_value (codes "'1010'B")) (bits (true ∷ false ∷ true ∷ []))
+named_1010 = (StringValue.bits (true ∷ false ∷ true ∷ []), (true ∷ false ∷ true ∷ [], trimmed_101, (1, refl), refl), refl)
+
+named_100 : IsDefault named_bits (binary_value (codes "'100'B")) (bits (true ∷ []))
+named_100 = (StringValue.bits (true ∷ []), (true ∷ [], inr ([], refl), (2, refl), refl), refl)
+
+hex_a0 : IsHexString (codes "'A0'H") (10 ∷ 0 ∷ [])
+hex_a0 = record { each = All-cons (λ (digit : ℕ). digit < 16) 10 (0 ∷ []) (omega arith) (one_below 0 (omega arith)); spelt = refl }
+
+named_a0 : IsDefault named_bits (hex_value (codes "'A0'H")) (bits (true ∷ false ∷ true ∷ []))
+named_a0 = (StringValue.bits (true ∷ false ∷ true ∷ []), (true ∷ false ∷ true ∷ [], trimmed_101, (5, (10 ∷ 0 ∷ [], hex_a0, refl)), refl), refl)
+
+named_0 : IsDefault named_bits (binary_value (codes "'0'B")) (bits [])
+named_0 = (StringValue.bits [], ([], inl refl, (1, refl), refl), refl)
+
+named_none : IsDefault named_bits (binary_value (codes "''B")) (bits [])
+named_none = (StringValue.bits [], ([], inl refl, (0, refl), refl), refl)
+
+-- also where they fill an octet, and no name of a bit is a value
+untrimmed : IsDefault named_bits (hex_value (codes "'A0'H")) (bits (true ∷ false ∷ true ∷ false ∷ false ∷ false ∷ false ∷ false ∷ [])) → ⊥
+untrimmed h =
+    let is = one_default named_bits (hex_value (codes "'A0'H")) (bits (true ∷ false ∷ true ∷ false ∷ false ∷ false ∷ false ∷ false ∷ [])) (bits (true ∷ false ∷ true ∷ [])) tt h named_a0 in
+    cc
+
+no_name : (v : Val) → IsDefault named_bits (item_name a) v → ⊥
+no_name v h = h.1.2.1
 
 -- OCTET STRING: two digits an octet
 octet_10 : IsDefault octet_string (hex_value (codes "'0A'H")) (Val.string (StringValue.octets (10 ∷ [])))

@@ -1,10 +1,11 @@
 -- What stands behind DEFAULT is one value at most.
-use Rattle.std.proofs.Common.{◌≡◌, ℕ, List, map, sym, ap, ◌∙◌}
+use Rattle.std.proofs.Common.{◌≡◌, ℕ, Bool, false, List, ◌++◌, map, replicate, sym, ap, ◌∙◌}
 use Rattle.std.specs.Prelude.{⊤}
 use Rattle.std.specs.List.{flat_map}
 use Rattle.types.specs.Shape.{EnumerationItem, SimpleType, StringType, SimpleValue, StringValue, Val, Requirement, Shape}
 use Rattle.syntax.specs.Tree.{Value, truth, falsity, integer, item_name, binary_value, hex_value, chars_value, Ending, required, optional, default}
-use Rattle.builtin.specs.Defaults.{four_bits, two_digits, IsSimpleDefault, IsStringDefault, IsDefault, IsRequirement}
+use Rattle.builtin.specs.Defaults.{four_bits, two_digits, AreWritten, IsSimpleDefault, IsStringDefault, IsDefault, IsRequirement}
+use Rattle.types.proofs.TrimLemmas.{trimmed_unique}
 use Rattle.builtin.specs.Names.{NamesDiffer}
 use Rattle.builtin.proofs.NameLemmas.{one_of_name}
 use Rattle.builtin.proofs.SpellingLemmas.{one_binary_string, one_hex_string, one_in_two_digits, one_character_string}
@@ -32,10 +33,16 @@ one_simple_default (SimpleType.enumerated items) (item_name name) v w once h g =
     h.3 ∙ ap (λ (item : EnumerationItem). SimpleValue.enumerated item.number) same ∙ sym g.3
 one_simple_default _ _ v w once h g = absurd h
 
+one_written : (written : Value) (a b : List Bool) → AreWritten written a → AreWritten written b → a ≡ b
+one_written (binary_value spelling) a b h g = one_binary_string a b (sym h ∙ g)
+one_written (hex_value spelling) a b h g = h.2 ∙ ap (λ (values : List ℕ). flat_map four_bits values) (one_hex_string spelling h.0 g.0 h.1 g.1) ∙ sym g.2
+one_written _ a b h g = absurd h
+
 one_string_default : (type : StringType) (written : Value) (v w : StringValue) → IsStringDefault type written v → IsStringDefault type written w → v ≡ w
-one_string_default StringType.bit_string (binary_value spelling) v w h g = h.2 ∙ ap StringValue.bits (one_binary_string h.0 g.0 (sym h.1 ∙ g.1)) ∙ sym g.2
-one_string_default StringType.bit_string (hex_value spelling) v w h g =
-    h.2 ∙ ap (λ (values : List ℕ). StringValue.bits (flat_map four_bits values)) (one_hex_string spelling h.0 g.0 h.1 g.1) ∙ sym g.2
+one_string_default StringType.bit_string written v w h g = h.2 ∙ ap StringValue.bits (one_written written h.0 g.0 h.1 g.1) ∙ sym g.2
+one_string_default (StringType.named_bits names) written v w h g =
+    let same = one_written written (h.0 ++ replicate h.2.0 false) (g.0 ++ replicate g.2.0 false) h.2.1 g.2.1 in
+    h.3 ∙ ap StringValue.bits (trimmed_unique h.0 g.0 h.2.0 g.2.0 h.1 g.1 same) ∙ sym g.3
 one_string_default StringType.octet_string (hex_value spelling) v w h g =
     h.2 ∙ ap StringValue.octets (one_in_two_digits h.0 g.0 (one_hex_string spelling (flat_map two_digits h.0) (flat_map two_digits g.0) h.1 g.1)) ∙ sym g.2
 one_string_default (StringType.text kind) (chars_value spelling) v w h g = h.4 ∙ ap StringValue.text (one_character_string h.0 g.0 (sym h.1 ∙ g.1)) ∙ sym g.4

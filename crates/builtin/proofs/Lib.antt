@@ -2,6 +2,7 @@ pub mod SpellingLemmas
 pub mod NameLemmas
 pub mod NumberingLemmas
 pub mod DefaultLemmas
+pub mod BitLemmas
 pub mod TaggingLemmas
 pub mod DigitLemmas
 mod FittingLemmas

@@ -1,18 +1,23 @@
 -- What a type takes of the notation behind DEFAULT.
 use Rattle.std.proofs.Common.{◌≡◌, ◌+◌, ◌<◌, inl, inr, ℕ, List, [], ◌∷◌, ◌++◌, length, map, take, get_or, Option, Some, None, IfSome, IsNone, Contains, refl, sym, ap, ◌∙◌, subst}
+use Rattle.std.specs.Prelude.{Bool, false, replicate, MatchOption, Result, Ok, Err, IfOk}
+use Rattle.primitives.specs.Bits.{IsTrimmed}
 use Rattle.std.proofs.lemmas.List.{map_more, length-map, get_or-map}
 use Rattle.std.proofs.lemmas.List.Elements.{Contains-push_cases}
 use Rattle.strings.specs.declared.text.TextKind.{TextKind}
 use Rattle.strings.specs.Alphabet.{IsText}
 use Rattle.types.specs.declared.value.Value.{Value}
+use Rattle.types.specs.declared.value.Value.TheVariants.{Bits as BitsValue}
 use Rattle.types.specs.declared.ty.Item.{Item}
-use Rattle.types.specs.Shape.{EnumerationItem, SimpleType, StringType, SimpleValue, StringValue, Val}
+use Rattle.octets.specs.declared.tag.Tag.{Tag}
+use Rattle.types.specs.Shape.{EnumerationItem, NamedBitView, SimpleType, StringType, SimpleValue, StringValue, Val, Shape}
 use Rattle.types.specs.View.{value_view, item_view}
+use Rattle.types.proofs.ViewLemmas.{value-Bits}
 use Rattle.syntax.specs.declared.tree.DefaultValue.{DefaultValue}
 use Rattle.syntax.specs.Tree.{Value as Notation, chars_value}
 use Rattle.syntax.specs.View.{value_view as written_view}
-use Rattle.builtin.specs.Defaults.{IsHexString, character_string, IsSimpleDefault, IsStringDefault}
-use Rattle.builtin.specs.Taken.{IsSimpleTaken, IsStringTaken, IsTakenText}
+use Rattle.builtin.specs.Defaults.{AreWritten, IsHexString, character_string, IsSimpleDefault, IsStringDefault}
+use Rattle.builtin.specs.Taken.{IsSimpleTaken, IsStringTaken, IsTakenText, IsTaken}
 use Rattle.builtin.proofs.SpellingLemmas.{one_character_string}
 
 -- the notation stands for the value
@@ -60,3 +65,17 @@ text_taken kind written spelled octets None told none is spelt =
     subst (λ (n : Notation). (v : StringValue) → IsStringDefault (StringType.text kind) n v → ⊥) (sym is) (λ v h. none refl (h.2, subst (IsText kind) (one_character_string h.0 octets (sym h.1 ∙ spelt)) h.3))
 text_taken kind written spelled octets (Some value) told none is spelt =
     (StringValue.text octets, subst (λ (n : Notation). IsStringDefault (StringType.text kind) n (StringValue.text octets)) (sym is) (octets, spelt, told.0.0, told.0.1, refl), told.1)
+
+-- a string type takes what its kind of string does
+pub taken_by_string : {E : Type 0} (type : Shape) (tag : Tag) (string : StringType) (written : Notation) (found : Result (Option Value) E) → type ≡ Shape.string tag string → IfOk found (λ found. IsStringTaken string written found) → IfOk found (λ found. IsTaken type written found)
+taken_by_string type tag string written (Err e) is taken = tt
+taken_by_string type tag string written (Ok None) is taken = subst (λ (t : Shape). IsTaken t written None) (sym is) (λ v default. taken default.0 default.1)
+taken_by_string type tag string written (Ok (Some value)) is taken = subst (λ (t : Shape). IsTaken t written (Some value)) (sym is) taken
+
+-- and one with named bits the bits that are written, without those 0 at their end
+pub trimmed_taken : (written : Notation) (found : Option (List Bool)) (bits kept : List Bool) (names : List NamedBitView)
+    → MatchOption found ((bits : List Bool) → AreWritten written bits → ⊥) (λ bits. AreWritten written bits) → found ≡ Some bits → (zeros : ℕ) × (bits ≡ kept ++ replicate zeros false) → IsTrimmed kept
+    → IsStringTaken (StringType.named_bits names) written (Some (BitsValue kept))
+trimmed_taken written found bits kept names told some front trimmed =
+    let is : AreWritten written bits = subst (λ (o : Option (List Bool)). MatchOption o ((bits : List Bool) → AreWritten written bits → ⊥) (λ bits. AreWritten written bits)) some told in
+    (StringValue.bits kept, (kept, trimmed, (front.0, subst (λ (bits : List Bool). AreWritten written bits) front.1 is), refl), value-Bits kept)

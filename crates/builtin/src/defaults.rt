@@ -2,16 +2,17 @@
 //!
 //! Which types take a default is this project's own choice (`docs/PROFILE.md`, "Defaults").
 
-ghost use Rattle.std.specs.Prelude.{◌≡◌, ◌≢◌, List, map, Contains, IfOk, IfErr, IfSome, IsNone};
-ghost use Rattle.types.specs.Shape.{EnumerationItem, SimpleType, StringType, StringValue, Val};
+ghost use Rattle.std.specs.Prelude.{◌≡◌, ◌≢◌, Bool, List, map, Contains, IfOk, IfErr, IfSome, IsNone, MatchOption};
+ghost use Rattle.types.specs.Shape.{EnumerationItem, NamedBitView, SimpleType, StringType, StringValue, Val};
 ghost use Rattle.types.specs.View.{item_view, ty_view, value_view};
 ghost use Rattle.syntax.specs.View.{value_view as written_view};
-ghost use Rattle.builtin.specs.Defaults.{IsDefault};
+ghost use Rattle.builtin.specs.Defaults.{AreWritten, IsDefault};
 ghost use Rattle.builtin.specs.Taken.{IsSimpleTaken, IsStringTaken, IsTaken, IsTakenText};
 
 use crate::digits::{binary_bits, hex_bits, hex_octets, quoted_octets};
 use crate::numbering::number_of;
 use crate::stop::{Cause, Stop};
+use primitives::Bits;
 use std::alloc::{AllocError, Global};
 use strings::{TextKind, allowed};
 use syntax::{DefaultValue, SignedNumber};
@@ -40,8 +41,7 @@ fn taken(alloc: Global, ty: &Ty, written: &DefaultValue) -> Result<Option<Value>
         Ty::Integer(_) => Ok(integer(written)),
         Ty::Enumerated(_, items) => Ok(item(items, written)),
         Ty::Bits(_) => bits(alloc, written),
-        // No module has a list of named bits.
-        Ty::NamedBits(_, _) => Ok(None),
+        Ty::NamedBits(_, _) => named_bits(alloc, written),
         Ty::Octets(_) => octets(alloc, written),
         Ty::Text(_, kind) => text(alloc, *kind, written),
         Ty::Explicit(_, inner) => taken(alloc, inner, written),
@@ -98,15 +98,29 @@ fn number_named(items: &[Item], name: &str) -> Option<i128>
 fn bits(alloc: Global, written: &DefaultValue) -> Result<Option<Value>, AllocError>
     ensures { IfOk result (λ found. IsStringTaken StringType.bit_string (written_view written.now) found) }
 {
+    match bits_of(alloc, written)? {
+        Some(bits) => Ok(Some(Value::Bits(bits))),
+        None => Ok(None),
+    }
+}
+
+/// The same on named bits, where bits 0 at the end mean nothing (X.680 22.7).
+fn named_bits(alloc: Global, written: &DefaultValue) -> Result<Option<Value>, AllocError>
+    ensures { (names : List NamedBitView) → IfOk result (λ found. IsStringTaken (StringType.named_bits names) (written_view written.now) found) }
+{
+    match bits_of(alloc, written)? {
+        Some(bits) => Ok(Some(Value::Bits(bits.trimmed()))),
+        None => Ok(None),
+    }
+}
+
+/// The bits that are written.
+fn bits_of(alloc: Global, written: &DefaultValue) -> Result<Option<Bits>, AllocError>
+    ensures { IfOk result (λ found. MatchOption found ((bits : List Bool) → ¬ AreWritten (written_view written.now) bits) (λ bits. AreWritten (written_view written.now) bits)) }
+{
     match written {
-        DefaultValue::Binary(spelled) => match binary_bits(alloc, spelled.as_str())? {
-            Some(bits) => Ok(Some(Value::Bits(bits))),
-            None => Ok(None),
-        },
-        DefaultValue::Hex(spelled) => match hex_bits(alloc, spelled.as_str())? {
-            Some(bits) => Ok(Some(Value::Bits(bits))),
-            None => Ok(None),
-        },
+        DefaultValue::Binary(spelled) => binary_bits(alloc, spelled.as_str()),
+        DefaultValue::Hex(spelled) => hex_bits(alloc, spelled.as_str()),
         DefaultValue::True | DefaultValue::False | DefaultValue::Number(_) => Ok(None),
         DefaultValue::Name(_) | DefaultValue::Chars(_) => Ok(None),
     }

@@ -1,12 +1,12 @@
-//! Whether the names of a list differ (X.680 20.5, 25.4, 27.2 and 29.3).
+//! Whether the names of a list differ (X.680 20.5, 22.5, 25.4, 27.2 and 29.3).
 
 ghost use Rattle.std.specs.Prelude.{◌↔◌, IfOk, IsTrue, map};
-ghost use Rattle.syntax.specs.View.{component, alternative, entry};
+ghost use Rattle.syntax.specs.View.{component, alternative, entry, bit};
 ghost use Rattle.builtin.specs.Names.{NamesDiffer, IsEntered};
 
 use indexmap::IndexSet;
 use std::alloc::{AllocError, Global};
-use syntax::{Alternative, Component, Item};
+use syntax::{Alternative, Component, Item, NamedBit};
 
 /// Enters a name behind those that are entered, where it is none of them, and says whether it was none.
 /// Takes memory for the entry; Err where it ran out.
@@ -52,6 +52,20 @@ pub fn items_differ(alloc: Global, items: &[Item]) -> Result<bool, AllocError>
     let mut names = IndexSet::new(alloc);
     for item in items {
         if !enter(&mut names, item.name.as_str())? {
+            return Ok(false);
+        }
+    }
+    Ok(true)
+}
+
+/// Whether the names of the bits of a BIT STRING differ (X.680 clause 22). Takes memory for a table of the
+/// names; Err where it ran out.
+pub fn named_bits_differ(alloc: Global, bits: &[NamedBit]) -> Result<bool, AllocError>
+    ensures { IfOk result (λ differ. IsTrue differ ↔ NamesDiffer (map (λ c. c.0) (map bit bits.now))) }
+{
+    let mut names = IndexSet::new(alloc);
+    for bit in bits {
+        if !enter(&mut names, bit.name.as_str())? {
             return Ok(false);
         }
     }

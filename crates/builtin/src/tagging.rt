@@ -65,7 +65,8 @@ fn is_tagged(expr: &Expr) -> bool
     match expr {
         Expr::Tagged(_, _) => true,
         Expr::List(_, _) | Expr::Of(_, _) | Expr::Choice(_) => false,
-        Expr::Enumerated(_) | Expr::Simple(_) | Expr::Reference(_) => false,
+        Expr::Enumerated(_) | Expr::NamedBits(_) => false,
+        Expr::Simple(_) | Expr::Reference(_) => false,
     }
 }
 

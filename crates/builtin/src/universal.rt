@@ -5,13 +5,20 @@
 ghost use Rattle.std.specs.Prelude.{◌≡◌};
 ghost use Rattle.types.specs.View.{ty_view, components_view};
 ghost use Rattle.types.specs.Shape.{Shape, Components};
-ghost use Rattle.builtin.specs.Universal.{enumerated_tag, sequence_tag, set_tag, named_by_words, list_of, repeated};
+ghost use Rattle.builtin.specs.Universal.{bit_string_tag, enumerated_tag, sequence_tag, set_tag, named_by_words, list_of, repeated};
 ghost use Rattle.builtin.specs.Tagging.{tagged_implicitly};
 
 use octets::Tag;
 use strings::{TextKind, TimeKind};
 use syntax::{Group, Simple};
 use types::{Field, Ty};
+
+/// The tag of BIT STRING.
+pub fn bit_string_tag() -> Tag
+    ensures { result ≡ bit_string_tag }
+{
+    Tag::universal(3)
+}
 
 /// The tag of ENUMERATED.
 pub fn enumerated_tag() -> Tag
