@@ -9,6 +9,7 @@ mod defaults;
 mod examples;
 mod faults;
 mod hostile;
+mod named_bits;
 mod outline;
 mod tables;
 

@@ -9,7 +9,7 @@ use Rattle.syntax.specs.declared.tree.Component.{Component}
 use Rattle.syntax.specs.declared.tree.Alternative.{Alternative}
 use Rattle.syntax.specs.declared.tree.Module.{Module}
 use Rattle.syntax.specs.declared.tree.TagPrefix.{TagPrefix}
-use Rattle.syntax.specs.Tree.{Ending, Form, tagged, list, of, choice, enumerated, simple, reference, Components, no_component, next_component, Alternatives, no_alternative, next_alternative}
+use Rattle.syntax.specs.Tree.{Ending, Form, tagged, list, of, choice, enumerated, named_bits, simple, reference, Components, no_component, next_component, Alternatives, no_alternative, next_alternative}
 use Rattle.syntax.specs.View.{form, tree, component, alternative, components_of, alternatives_of}
 use Rattle.builtin.specs.Names.{NamesDiffer}
 use Rattle.notation.specs.Known.{IsScope, IsNewScope}
@@ -34,6 +34,7 @@ module _ (P Q : List ℕ → Type 0) (more : (name : List ℕ) → P name → Q 
     apart-kept (of group f) h = apart-kept f h
     apart-kept (choice alternatives) h = (h.0, alternatives_apart-kept alternatives h.1)
     apart-kept (enumerated entries) h = h
+    apart-kept (named_bits bits) h = h
     apart-kept (simple words) h = h
     apart-kept (reference name) h = more name h
 

@@ -11,10 +11,10 @@ use Rattle.syntax.specs.declared.tree.TagMode.{TagMode}
 use Rattle.syntax.specs.declared.tree.TagMode.TheVariants.{Unmarked, Implicit, Explicit}
 use Rattle.syntax.specs.declared.tree.Tagging.{Tagging}
 use Rattle.syntax.specs.declared.tree.Tagging.TheVariants.{Explicit as ExplicitTags, Implicit as ImplicitTags, Automatic as AutomaticTags}
-use Rattle.syntax.specs.Tree.{Entry, Form, tagged, list, of, choice, enumerated, simple, reference, Components as WrittenComponents, Alternatives as WrittenAlternatives, Tree}
+use Rattle.syntax.specs.Tree.{Entry, Form, tagged, list, of, choice, enumerated, named_bits, simple, reference, Components as WrittenComponents, Alternatives as WrittenAlternatives, Tree}
 use Rattle.builtin.specs.Universal.{named_by_words}
 use Rattle.builtin.specs.Tagging.{tag_of, IsUntaggedChoice, tagged_by_default, IsTagged}
-use Rattle.notation.specs.Meaning.{IsAssigned, IsMeaning, of_words, of_reference, of_tag, of_items, of_components, of_item_type, of_alternatives}
+use Rattle.notation.specs.Meaning.{IsAssigned, IsMeaning, of_words, of_reference, of_tag, of_items, of_named_bits, of_components, of_item_type, of_alternatives}
 use Rattle.notation.proofs.UnderLemmas.{no_choice-implicitly}
 
 pub choice-untagged : (m : Tree) (alternatives : WrittenAlternatives) (type : Shape) → IsMeaning m (choice alternatives) type → IsUntaggedChoice type
@@ -50,6 +50,9 @@ no_choice-of m Set form type (of_item_type d e) c = subst IsUntaggedChoice e c
 
 pub no_choice-enumerated : (m : Tree) (entries : List Entry) (type : Shape) → IsMeaning m (enumerated entries) type → IsUntaggedChoice type → ⊥
 no_choice-enumerated m entries type (of_items n a e) c = subst IsUntaggedChoice e c
+
+pub no_choice-named_bits : (m : Tree) (bits : List (List ℕ × ℕ)) (type : Shape) → IsMeaning m (named_bits bits) type → IsUntaggedChoice type → ⊥
+no_choice-named_bits m bits type (of_named_bits n e) c = subst IsUntaggedChoice e c
 
 no_choice-words : (words : Simple) → IsUntaggedChoice (named_by_words words) → ⊥
 no_choice-words Boolean c = c

@@ -3,25 +3,25 @@ use Rattle.std.proofs.Common.{◌≡◌, ◌+◌, ◌<◌, ℕ, take, Bool, List
 use Rattle.std.proofs.lemmas.List.{length-map, length-take-le}
 use Rattle.std.specs.Option.{ok_or, unwrap_or}
 use Rattle.octets.specs.declared.tag.Tag.{Tag}
-use Rattle.types.specs.Shape.{EnumerationItem, SimpleType, Shape}
+use Rattle.types.specs.Shape.{EnumerationItem, SimpleType, StringType, Shape}
 use Rattle.types.specs.View.{ComponentView, AlternativeView, components_of, alternatives_of}
 use Rattle.syntax.specs.declared.tree.Group.{Group}
 use Rattle.syntax.specs.declared.tree.TagPrefix.{TagPrefix}
 use Rattle.syntax.specs.declared.tree.Simple.{Simple}
-use Rattle.syntax.specs.Tree.{Ending, Entry, Form, tagged, list, of, choice, enumerated, simple, Tree}
+use Rattle.syntax.specs.Tree.{Ending, Entry, Form, tagged, list, of, choice, enumerated, named_bits, simple, Tree}
 use Rattle.syntax.specs.View.{components_of as written_components, alternatives_of as written_alternatives}
-use Rattle.builtin.specs.Universal.{enumerated_tag, named_by_words, list_of, repeated}
+use Rattle.builtin.specs.Universal.{bit_string_tag, enumerated_tag, named_bit, named_by_words, with_named_bits, list_of, repeated}
 use Rattle.builtin.specs.Tagging.{tag_of, IsUntaggedChoice, tagged_implicitly}
 use Rattle.builtin.specs.Numbering.{AreItems}
 use Rattle.builtin.specs.Names.{NamesDiffer}
 use Rattle.builtin.specs.Defaults.{IsRequirement}
-use Rattle.notation.specs.Meaning.{IsMeaning, of_words, of_tag, of_items, of_item_type}
+use Rattle.notation.specs.Meaning.{IsMeaning, of_words, of_tag, of_items, of_named_bits, of_item_type}
 use Rattle.notation.specs.Under.{MeansUnder, IsExplicitAt, IsAtRoot, IsRoot}
 use Rattle.notation.specs.Parts.{IsPart, IsComponent, IsAlternative, AreComponents, AreAlternatives}
 use Rattle.notation.specs.Made.{IsAround, IsRepeated, AreMade}
 use Rattle.notation.proofs.PartsLemmas.{parts_push}
 use Rattle.notation.proofs.ListLemmas.{automatic_in, automatic_among, names_of_components, names_of_alternatives, list_means, choice_means}
-use Rattle.notation.proofs.ChoiceLemmas.{no_choice-list, no_choice-of, no_choice-enumerated, no_choice-simple}
+use Rattle.notation.proofs.ChoiceLemmas.{no_choice-list, no_choice-of, no_choice-enumerated, no_choice-named_bits, no_choice-simple}
 
 -- the value of an option behind `ok_or`
 pub some_behind : {A E : Type 0} (o : Option A) (e : E) (a : A) → Ok a ≡ ok_or o e → o ≡ Some a
@@ -66,6 +66,12 @@ enumerated_under m tag entries items whole differ are e =
     let meant : IsMeaning m (enumerated entries) type = of_items differ are refl in
     own_under m tag enumerated_tag (enumerated entries) type whole meant (no_choice-enumerated m entries type meant) refl e
 
+pub named_bits_under : (m : Tree) (tag : Option Tag) (bits : List (List ℕ × ℕ)) (whole : Shape) → NamesDiffer (map (λ (bit : List ℕ × ℕ). bit.0) bits)
+    → whole ≡ Shape.string (unwrap_or tag bit_string_tag) (StringType.named_bits (map named_bit bits)) → MeansUnder m tag (named_bits bits) whole
+named_bits_under m tag bits whole differ e =
+    let meant : IsMeaning m (named_bits bits) (with_named_bits bits) = of_named_bits differ refl in
+    own_under m tag bit_string_tag (named_bits bits) (with_named_bits bits) whole meant (no_choice-named_bits m bits (with_named_bits bits) meant) refl e
+
 pub under_none : (m : Tree) (tag : Option Tag) (f : Form) (type : Shape) → tag ≡ None → IsMeaning m f type → MeansUnder m tag f type
 under_none m tag f type none d = subst (λ (t : Option Tag). MeansUnder m t f type) (sym none) (record { type = type; meaning = d; under = refl })
 
@@ -101,8 +107,8 @@ simple_told m outer f tag r words own put whole root is owned given e =
     let put_so = e ∙ ap (λ (i : Tag). tagged_implicitly i (named_by_words words)) given in
     (root.same whole).1 (subst (λ (i : Form). MeansUnder m tag i whole) (sym is) (simple_under m tag own words whole owned put_so))
 
-pub enumerated_told : (m : Tree) (outer : Option Tag) (f : Form) (tag : Option Tag) (r : Form) (entries : List Entry) (whole : Shape) → IsRoot m outer f tag r → r ≡ enumerated entries → MeansUnder m tag (enumerated entries) whole → MeansUnder m outer f whole
-enumerated_told m outer f tag r entries whole root is d = (root.same whole).1 (subst (λ (i : Form). MeansUnder m tag i whole) (sym is) d)
+pub root_told : (m : Tree) (outer : Option Tag) (f : Form) (tag : Option Tag) (r own : Form) (whole : Shape) → IsRoot m outer f tag r → r ≡ own → MeansUnder m tag own whole → MeansUnder m outer f whole
+root_told m outer f tag r own whole root is d = (root.same whole).1 (subst (λ (i : Form). MeansUnder m tag i whole) (sym is) d)
 
 -- a list that is gathered part by part
 pub components_made : (m : Tree) (ws : List (List ℕ × Form × Ending)) (vs : List ComponentView) (automatic : Bool) → NamesDiffer (map (λ (w : List ℕ × Form × Ending). w.0) ws) → automatic ≡ automatic_in m ws → AreComponents m automatic 0 ws vs → AreMade m ws vs

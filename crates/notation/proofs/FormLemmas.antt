@@ -1,10 +1,11 @@
 -- What type expressions of the code stand for, level by level.
 use Rattle.std.proofs.Common.{◌≡◌, Box, Global, String, Vec, map, string_bytes, rules}
-use Rattle.syntax.specs.Tree.{tagged, list, of, choice, enumerated, simple, reference}
-use Rattle.syntax.specs.View.{form, component, alternative, entry, components_of, alternatives_of}
+use Rattle.syntax.specs.Tree.{tagged, list, of, choice, enumerated, named_bits, simple, reference}
+use Rattle.syntax.specs.View.{form, component, alternative, entry, bit, components_of, alternatives_of}
 use Rattle.syntax.specs.declared.tree.Component.{Component}
 use Rattle.syntax.specs.declared.tree.Alternative.{Alternative}
 use Rattle.syntax.specs.declared.tree.Item.{Item}
+use Rattle.syntax.specs.declared.tree.NamedBit.{NamedBit}
 use Rattle.syntax.specs.declared.tree.Simple.{Simple}
 use Rattle.syntax.specs.declared.tree.Group.{Group}
 use Rattle.syntax.specs.declared.tree.TagPrefix.{TagPrefix}
@@ -28,6 +29,9 @@ form-Choice alternatives = search (rules, expr.the_lemmas)
 
 pub form-Enumerated : (items : Vec Item Global) → form (expr.Enumerated items) ≡ enumerated (map entry items.items)
 form-Enumerated items = search (rules, expr.the_lemmas)
+
+pub form-NamedBits : (bits : Vec NamedBit Global) → form (expr.NamedBits bits) ≡ named_bits (map bit bits.items)
+form-NamedBits bits = search (rules, expr.the_lemmas)
 
 pub form-Simple : (words : Simple) → form (expr.Simple words) ≡ simple words
 form-Simple words = search (rules, expr.the_lemmas)

@@ -16,6 +16,7 @@ pub mod FormLemmas
 pub mod ScopeLemmas
 pub mod TagInstances
 pub mod ReferenceInstances
+pub mod BitInstances
 pub mod AutomaticInstances
 pub mod WaitingLemmas
 pub mod SizeInstances

@@ -1,23 +1,26 @@
--- Expressions that mean no well-formed type, since a list is too long, a tag number too great, or an item's name or
--- number stands twice.
-use Rattle.std.proofs.Common.{◌≡◌, ◌≢◌, ◌<◌, ◌≤◌, ◌⊎◌, inl, inr, ℕ, suc, ℤ, List, [], ◌∷◌, Option, Some, None, map, length, refl, sym, ap, ◌∙◌, subst, arith, Contains, FitsSigned}
+-- Expressions that mean no well-formed type, since a list is too long, a number too great, or a name or number of an
+-- item or a bit stands twice.
+use Rattle.std.proofs.Common.{◌≡◌, ◌≢◌, ◌<◌, ◌≤◌, ◌⊎◌, inl, inr, ℕ, suc, ℤ, All, List, [], ◌∷◌, Option, Some, None, map, length, refl, sym, ap, ◌∙◌, subst, arith, Contains, FitsSigned}
 use Rattle.std.specs.List.{AllPairs}
+use Rattle.std.proofs.lemmas.List.{length-map}
+use Rattle.std.proofs.lemmas.List.Elements.{All-nil, All-cons, All-head, All-tail}
+use Rattle.std.proofs.lemmas.Simd.{map-map}
 use Rattle.std.specs.Int.{w128}
 use Rattle.octets.specs.declared.tag.Tag.{Tag}
-use Rattle.types.specs.Shape.{EnumerationItem, SimpleType, Shape}
+use Rattle.types.specs.Shape.{EnumerationItem, NamedBitView, SimpleType, Shape}
 use Rattle.types.specs.View.{ComponentView, AlternativeView, components_of, alternatives_of}
-use Rattle.types.specs.WellFormed.{IsWellFormed}
+use Rattle.types.specs.WellFormed.{AreNamedBitsWithin, IsWellFormed}
 use Rattle.types.proofs.ListLemmas.{not_in_nil, contains_first, contains_later, contains_cases, AllPairs-nil, first_differs, others_differ, all_differ-cons}
 use Rattle.syntax.specs.declared.tree.Group.{Group}
 use Rattle.syntax.specs.declared.tree.Group.TheVariants.{Sequence, Set}
 use Rattle.syntax.specs.declared.tree.TagPrefix.{TagPrefix}
-use Rattle.syntax.specs.Tree.{Ending, Entry, Form, tagged, list, choice, enumerated, Tree}
+use Rattle.syntax.specs.Tree.{Ending, Entry, Form, tagged, list, choice, enumerated, named_bits, Tree}
 use Rattle.syntax.specs.View.{components_of as written_components, alternatives_of as written_alternatives}
-use Rattle.builtin.specs.Universal.{enumerated_tag, list_of}
+use Rattle.builtin.specs.Universal.{enumerated_tag, named_bit, with_named_bits, list_of}
 use Rattle.builtin.specs.Tagging.{tag_of, IsUntaggedChoice, tagged_implicitly}
 use Rattle.builtin.specs.Numbering.{number_of, written_numbers, AreWithin, NumbersDiffer, AreNumbered}
 use Rattle.builtin.specs.Names.{NamesDiffer}
-use Rattle.notation.specs.Meaning.{IsMeaning, of_items}
+use Rattle.notation.specs.Meaning.{IsMeaning, of_items, of_named_bits}
 use Rattle.notation.specs.Parts.{AreFrom}
 use Rattle.notation.specs.Under.{IsUnder, MeansUnder, IsExplicitAt}
 use Rattle.notation.specs.Refused.{HasNoType, NeverHasType}
@@ -125,6 +128,43 @@ items_meant m entries outer whole d good = by_meaning d.meaning
 -- an ENUMERATED without one of these never has a type
 pub never-items : (m : Tree) (entries : List Entry) → (HasGoodItems entries → ⊥) → NeverHasType m (enumerated entries)
 never-items m entries bad outer whole d good = bad (items_meant m entries outer whole d good)
+
+-- what holds of each that is made of another one
+pub all_behind : {A B : Type 0} (P : B → Type 0) (f : A → B) (xs : List A) → All P (map f xs) → All (λ (x : A). P (f x)) xs
+all_behind {A} P f [] h = All-nil (λ (x : A). P (f x))
+all_behind {A} P f (x ∷ xs) h = All-cons (λ (x : A). P (f x)) x xs (All-head P (f x) (map f xs) h) (all_behind P f xs (All-tail P (f x) (map f xs) h))
+
+-- what a well-formed BIT STRING with named bits has
+pub record HasGoodBits (bits : List (List ℕ × ℕ)) : Type 0 where
+  pub some : 1 ≤ length bits
+  pub few : length bits ≤ 256
+  pub names : NamesDiffer (map (λ (bit : List ℕ × ℕ). bit.0) bits)
+  pub numbers_differ : AllPairs (λ (a b : ℕ). a ≢ b) (map (λ (bit : List ℕ × ℕ). bit.1) bits)
+  pub within : All (λ (bit : List ℕ × ℕ). bit.1 ≤ 65_535) bits
+
+good_bits : (outer : Option Tag) (bits : List (List ℕ × ℕ)) (whole : Shape) → IsUnder outer (with_named_bits bits) whole → IsWellFormed whole
+    → AreNamedBitsWithin (map named_bit bits) × AllPairs (λ (a b : ℕ). a ≢ b) (map (λ (bit : NamedBitView). bit.number) (map named_bit bits))
+good_bits None bits whole u good = let g = subst IsWellFormed u good in (g.limits.each.0.1, g.numbers.0)
+good_bits (Some tag) bits whole u good = let g = subst IsWellFormed u.1 good in (g.limits.each.0.1, g.numbers.0)
+
+pub bits_meant : (m : Tree) (bits : List (List ℕ × ℕ)) (outer : Option Tag) (whole : Shape) → MeansUnder m outer (named_bits bits) whole → IsWellFormed whole → HasGoodBits bits
+bits_meant m bits outer whole d good = by_meaning d.meaning
+  where
+    by_meaning : IsMeaning m (named_bits bits) d.type → HasGoodBits bits
+    by_meaning (of_named_bits names e) =
+        let g = good_bits outer bits whole (subst (λ (i : Shape). IsUnder outer i whole) e d.under) good in
+        let long = length-map bits named_bit in
+        record {
+          some = subst (λ (n : ℕ). 1 ≤ n) long g.0.at_least_one;
+          few = subst (λ (n : ℕ). n ≤ 256) long g.0.at_most_256;
+          names = names;
+          numbers_differ = subst (AllPairs (λ (a b : ℕ). a ≢ b)) (map-map (λ (bit : NamedBitView). bit.number) named_bit bits) g.1;
+          within = all_behind (λ (bit : NamedBitView). bit.number ≤ 65_535) named_bit bits g.0.each;
+        }
+
+-- one without one of these never has a type
+pub never-bits : (m : Tree) (bits : List (List ℕ × ℕ)) → (HasGoodBits bits → ⊥) → NeverHasType m (named_bits bits)
+never-bits m bits bad outer whole d good = bad (bits_meant m bits outer whole d good)
 
 -- a tag from outside whose number is too great
 has_tag-implicitly : (tag : Tag) (type : Shape) → (IsUntaggedChoice type → ⊥) → HasTag tag (tagged_implicitly tag type)

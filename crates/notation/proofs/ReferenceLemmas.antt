@@ -4,7 +4,7 @@ use Rattle.std.proofs.lemmas.List.Elements.{Contains-append_cases}
 use Rattle.types.specs.Shape.{Shape, Components, Alternatives}
 use Rattle.types.proofs.ListLemmas.{not_in_nil, contains_first, contains_cases}
 use Rattle.syntax.specs.Tree.{Form, Components as WrittenComponents, Alternatives as WrittenAlternatives, Tree}
-use Rattle.notation.specs.Meaning.{IsMeaning, of_words, of_reference, of_tag, of_items, of_components, of_item_type, of_alternatives, AreMeanings, no_more, one_more, AreAlternativeMeanings, no_other, one_other, NameMeans}
+use Rattle.notation.specs.Meaning.{IsMeaning, of_words, of_reference, of_tag, of_items, of_named_bits, of_components, of_item_type, of_alternatives, AreMeanings, no_more, one_more, AreAlternativeMeanings, no_other, one_other, NameMeans}
 use Rattle.notation.specs.References.{names_in, names_in_components, names_in_alternatives, IsClosed}
 
 module _ (m : Tree) (IsOne : List ℕ → Type 0) (closed : IsClosed m IsOne) where
@@ -16,6 +16,7 @@ module _ (m : Tree) (IsOne : List ℕ → Type 0) (closed : IsClosed m IsOne) wh
         elim (contains_cases own name [] c) [ inl same ↦ let v = closed own (subst IsOne (sym same) h) form a in nothing_meant d v.0 v.1 v.2 | inr none ↦ not_in_nil name none ]
     nothing_meant (of_tag d t) name c h = nothing_meant d name c h
     nothing_meant (of_items n a e) name c h = not_in_nil name c
+    nothing_meant (of_named_bits n e) name c h = not_in_nil name c
     nothing_meant (of_components n ds e) name c h = nothing_meant_in ds name c h
     nothing_meant (of_item_type d e) name c h = nothing_meant d name c h
     nothing_meant (of_alternatives n ds e) name c h = nothing_meant_among ds name c h

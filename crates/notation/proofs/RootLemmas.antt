@@ -5,13 +5,13 @@ use Rattle.std.specs.Option.{option_or}
 use Rattle.octets.specs.declared.tag.Tag.{Tag}
 use Rattle.types.specs.Shape.{Shape}
 use Rattle.syntax.specs.declared.tree.TagPrefix.{TagPrefix}
-use Rattle.syntax.specs.Tree.{Form, tagged, list, of, choice, enumerated, simple, reference, Tree}
+use Rattle.syntax.specs.Tree.{Form, tagged, list, of, choice, enumerated, named_bits, simple, reference, Tree}
 use Rattle.builtin.specs.Tagging.{tag_of, IsUntaggedChoice, tagged_implicitly}
 use Rattle.notation.specs.Meaning.{IsMeaning}
 use Rattle.notation.specs.Under.{IsUnder, MeansUnder, outermost, IsImplicitAt, IsAtRoot, IsRoot}
 use Rattle.notation.specs.Known.{TellsChoice, IsChoice, IsReferenceTo, IsNoReference}
 use Rattle.notation.proofs.UnderLemmas.{no_choice-implicitly, under_both, both_under, under_implicit}
-use Rattle.notation.proofs.ChoiceLemmas.{choice-untagged, no_choice-tagged, no_choice-list, no_choice-of, no_choice-enumerated, no_choice-simple}
+use Rattle.notation.proofs.ChoiceLemmas.{choice-untagged, no_choice-tagged, no_choice-list, no_choice-of, no_choice-enumerated, no_choice-named_bits, no_choice-simple}
 
 either_own : (outer : Option Tag) (own : Tag) → option_or outer (Some own) ≡ Some (outermost outer own)
 either_own None own = refl
@@ -72,6 +72,7 @@ untagged_of m (tagged prefix form) type c d = absurd c
 untagged_of m (list group components) type c d = absurd c
 untagged_of m (of group form) type c d = absurd c
 untagged_of m (enumerated entries) type c d = absurd c
+untagged_of m (named_bits bits) type c d = absurd c
 untagged_of m (simple words) type c d = absurd c
 untagged_of m (reference name) type c d = absurd c
 
@@ -81,6 +82,7 @@ no_choice_of m (tagged prefix form) type a c d = no_choice-tagged m prefix form 
 no_choice_of m (list group components) type a c d = no_choice-list m group components type d
 no_choice_of m (of group form) type a c d = no_choice-of m group form type d
 no_choice_of m (enumerated entries) type a c d = no_choice-enumerated m entries type d
+no_choice_of m (named_bits bits) type a c d = no_choice-named_bits m bits type d
 no_choice_of m (simple words) type a c d = no_choice-simple m words type d
 no_choice_of m (reference name) type a c d = absurd a
 
@@ -108,6 +110,7 @@ plain_tells m (tagged prefix form) n c = λ type d. no_choice-tagged m prefix fo
 plain_tells m (list group components) n c = λ type d. no_choice-list m group components type d
 plain_tells m (of group form) n c = λ type d. no_choice-of m group form type d
 plain_tells m (enumerated entries) n c = λ type d. no_choice-enumerated m entries type d
+plain_tells m (named_bits bits) n c = λ type d. no_choice-named_bits m bits type d
 plain_tells m (simple words) n c = λ type d. no_choice-simple m words type d
 plain_tells m (reference name) n c = λ type d. absurd n
 
@@ -123,4 +126,5 @@ named_tells m (tagged prefix form) name root tag told is h same = absurd is
 named_tells m (list group components) name root tag told is h same = absurd is
 named_tells m (of group form) name root tag told is h same = absurd is
 named_tells m (enumerated entries) name root tag told is h same = absurd is
+named_tells m (named_bits bits) name root tag told is h same = absurd is
 named_tells m (simple words) name root tag told is h same = absurd is

@@ -9,11 +9,11 @@ use Rattle.syntax.specs.declared.tree.Simple.TheVariants.{Boolean, Integer, Null
 use Rattle.syntax.specs.declared.tree.Group.{Group}
 use Rattle.syntax.specs.declared.tree.Group.TheVariants.{Sequence, Set}
 use Rattle.syntax.specs.declared.tree.TagPrefix.{TagPrefix}
-use Rattle.syntax.specs.Tree.{Ending, Entry, Form, tagged, list, of, enumerated, simple, reference, Tree}
+use Rattle.syntax.specs.Tree.{Ending, Entry, Form, tagged, list, of, enumerated, named_bits, simple, reference, Tree}
 use Rattle.syntax.specs.View.{components_of as written_components}
 use Rattle.builtin.specs.Universal.{named_by_words, list_of, repeated}
 use Rattle.builtin.specs.Tagging.{tag_of, IsUntaggedChoice, tagged_implicitly, context}
-use Rattle.notation.specs.Meaning.{IsAssigned, IsMeaning, of_words, of_reference, of_items}
+use Rattle.notation.specs.Meaning.{IsAssigned, IsMeaning, of_words, of_reference, of_items, of_named_bits}
 use Rattle.notation.specs.Parts.{IsPart, IsComponent}
 use Rattle.notation.specs.Under.{IsUnder, IsExplicitAt, IsImplicitAt}
 use Rattle.notation.specs.Size.{counted, HasSize, HaveSize, PartHasSize, AreOfSize, ComponentsHaveSize}
@@ -65,6 +65,9 @@ size-simple m words type (of_words e) = along type (named_by_words words) 1 0 e 
 
 pub size-enumerated : (m : Tree) (entries : List Entry) → HaveSize m (enumerated entries) 1 0
 size-enumerated m entries type (of_items differ numbered e) = subst (λ (i : Shape). HasSize i 1 0) (sym e) (record { nodes_are = refl; levels_are = refl })
+
+pub size-named_bits : (m : Tree) (bits : List (List ℕ × ℕ)) → HaveSize m (named_bits bits) 1 0
+size-named_bits m bits type (of_named_bits differ e) = subst (λ (i : Shape). HasSize i 1 0) (sym e) (record { nodes_are = refl; levels_are = refl })
 
 -- where no other expression is assigned to the name
 pub size-reference : (m : Tree) (name : List ℕ) (form : Form) (nodes levels : ℕ) → ((other : Form) → IsAssigned m name other → form ≡ other) → HaveSize m form nodes levels → HaveSize m (reference name) nodes levels

@@ -15,7 +15,7 @@ use Rattle.builtin.proofs.NameLemmas.{one_of_name}
 use Rattle.builtin.proofs.NumberingLemmas.{one_numbering, numbered_names}
 use Rattle.builtin.proofs.DefaultLemmas.{HasNamesOnce, one_requirement}
 use Rattle.builtin.proofs.TaggingLemmas.{one_tagged, once_tagged}
-use Rattle.notation.specs.Meaning.{IsAssigned, IsMeaning, of_words, of_reference, of_tag, of_items, of_components, of_item_type, of_alternatives, AreMeanings, no_more, one_more, AreAlternativeMeanings, no_other, one_other, Means, NameMeans}
+use Rattle.notation.specs.Meaning.{IsAssigned, IsMeaning, of_words, of_reference, of_tag, of_items, of_named_bits, of_components, of_item_type, of_alternatives, AreMeanings, no_more, one_more, AreAlternativeMeanings, no_other, one_other, Means, NameMeans}
 
 once_words : (words : Simple) → HasNamesOnce (named_by_words words)
 once_words Boolean = tt
@@ -48,6 +48,7 @@ once_meant (of_words {words} e) = subst HasNamesOnce (sym e) (once_words words)
 once_meant (of_reference a d) = once_meant d
 once_meant {m} (of_tag {prefix} {type} {whole} d t) = once_tagged m.tagging prefix.mode (tag_of prefix) type whole (once_meant d) t
 once_meant (of_items {entries} {items} differ numbered e) = subst HasNamesOnce (sym e) (subst NamesDiffer (sym (numbered_names (written_numbers entries) 0 entries items numbered)) differ)
+once_meant (of_named_bits differ e) = subst HasNamesOnce (sym e) tt
 once_meant {m} (of_components {group} {written} {types} differ ds e) = subst HasNamesOnce (sym e) (once_list group (components_in m.tagging written types))
 once_meant (of_item_type {group} {item} d e) = subst HasNamesOnce (sym e) (once_repeated group item)
 once_meant (of_alternatives differ ds e) = subst HasNamesOnce (sym e) tt
@@ -66,6 +67,7 @@ module _ (m : Tree) (differ : NamesDiffer (map (λ (assigned : List ℕ × Form)
         one_tagged m.tagging prefix.mode (tag_of prefix) within whole other (subst (λ (i : Shape). IsTagged m.tagging prefix.mode (tag_of prefix) i whole) (one_meaning d within f) t) u
     one_meaning (of_items {entries} {items} n a e) other (of_items {items = others} k b f) =
         e ∙ ap (λ (i : List EnumerationItem). Shape.simple enumerated_tag (SimpleType.enumerated i)) (one_numbering (written_numbers entries) 0 entries items others a b) ∙ sym f
+    one_meaning (of_named_bits n e) other (of_named_bits k f) = e ∙ sym f
     one_meaning (of_components {group} {written} {types} n ds e) other (of_components {types = others} k fs f) =
         e ∙ ap (λ (i : Components). list_of group (components_in m.tagging written i)) (one_list ds others fs) ∙ sym f
     one_meaning (of_item_type {group} {item} d e) other (of_item_type {item = within} g f) = e ∙ ap (repeated group) (one_meaning d within g) ∙ sym f

@@ -1,11 +1,12 @@
 -- The weight of an expression out of those of its parts.
-use Rattle.std.proofs.Common.{◌≡◌, ◌+◌, ◌++◌, ◌<◌, ◌≤◌, ◌↔◌, ◌⊎◌, inl, inr, ℕ, zero, suc, max, Bool, true, false, List, [], ◌∷◌, Option, Some, None, map, length, get_or, slice_get, unwrap_or, refl, sym, ap, ◌∙◌, subst, arith, Contains}
+use Rattle.std.proofs.Common.{◌≡◌, ◌≢◌, ◌+◌, ◌++◌, ◌<◌, ◌≤◌, ◌↔◌, ◌⊎◌, inl, inr, ℕ, zero, suc, max, All, Bool, true, false, List, [], ◌∷◌, Option, Some, None, map, length, get_or, slice_get, unwrap_or, refl, sym, ap, ◌∙◌, subst, arith, Contains}
 use mathlib.Core.Bool.{beq}
 use Rattle.std.specs.Option.{option_eq}
-use Rattle.std.specs.List.{AllByRecursion}
+use Rattle.std.specs.List.{AllByRecursion, AllPairs}
 use Rattle.std.specs.Prelude.{option_and_then}
 use Rattle.std.proofs.lemmas.Bool.{cases_lt}
 use Rattle.std.proofs.lemmas.List.Elements.{Contains-append_left, Contains-append_right}
+use Rattle.std.proofs.lemmas.Simd.{map-map}
 use Rattle.types.specs.Shape.{Shape}
 use Rattle.types.specs.View.{ComponentView, AlternativeView}
 use Rattle.types.specs.WellFormed.{IsWellFormed}
@@ -14,8 +15,9 @@ use Rattle.syntax.specs.declared.tree.Group.{Group}
 use Rattle.syntax.specs.declared.tree.TagPrefix.{TagPrefix}
 use Rattle.syntax.specs.declared.tree.Component.{Component}
 use Rattle.syntax.specs.declared.tree.Alternative.{Alternative}
-use Rattle.syntax.specs.Tree.{Ending, Entry, Form, tagged, list, of, choice, enumerated, reference, Tree}
-use Rattle.syntax.specs.View.{form, tree, component, alternative, components_of as written_components, alternatives_of as written_alternatives}
+use Rattle.syntax.specs.declared.tree.NamedBit.{NamedBit}
+use Rattle.syntax.specs.Tree.{Ending, Entry, Form, tagged, list, of, choice, enumerated, named_bits, reference, Tree}
+use Rattle.syntax.specs.View.{form, tree, component, alternative, bit, components_of as written_components, alternatives_of as written_alternatives}
 use Rattle.builtin.specs.Tagging.{IsUntaggedChoice}
 use Rattle.builtin.specs.Names.{NamesDiffer}
 use Rattle.builtin.specs.Numbering.{AreWithin, NumbersDiffer}
@@ -39,7 +41,7 @@ use Rattle.notation.proofs.ListLemmas.{automatic_in, automatic_among, names_of_c
 use Rattle.notation.proofs.SizeLemmas.{size-reference, size-explicit_tag, size-implicit_tag, size-of, size-list, part_size-automatic, part_size-choice, components_size-more}
 use Rattle.notation.proofs.ChoiceSizeLemmas.{alternatives_size-more, size-choice}
 use Rattle.notation.proofs.RefusedLemmas.{never-nothing, never-reference, never-explicit, never-implicit, never-of, no_part-automatic, no_part-choice, never-list, never-choice, never-equal_components, never-equal_alternatives}
-use Rattle.notation.proofs.LimitLemmas.{never-items, never-long_list, never-long_choice}
+use Rattle.notation.proofs.LimitLemmas.{all_behind, never-items, never-bits, never-long_list, never-long_choice}
 use Rattle.notation.proofs.WeighedLemmas.{weighs_any, weighs_on, weighs_as, weighs_beside}
 
 -- a test for a known truth
@@ -65,6 +67,19 @@ never-equal_items m entries equal = never-items m entries (λ h. equal h.names)
 
 pub never-equal_numbers : (m : Tree) (entries : List Entry) → (NumbersDiffer entries → ⊥) → NeverHasType m (enumerated entries)
 never-equal_numbers m entries equal = never-items m entries (λ h. equal h.numbers_differ)
+
+-- and named bits of which one is not
+pub never-bit_count : (m : Tree) (bits : List (List ℕ × ℕ)) (count : ℕ) → count ≡ length bits → ((1 ≤ count) × (count ≤ 256) → ⊥) → NeverHasType m (named_bits bits)
+never-bit_count m bits count is out = never-bits m bits (λ h. out (subst (λ (n : ℕ). (1 ≤ n) × (n ≤ 256)) (sym is) (h.some, h.few)))
+
+pub never-great_bit : (m : Tree) (bits : List NamedBit) → (All (λ (bit : NamedBit). bit.number ≤ 65_535) bits → ⊥) → NeverHasType m (named_bits (map bit bits))
+never-great_bit m bits out = never-bits m (map bit bits) (λ h. out (all_behind (λ (b : List ℕ × ℕ). b.1 ≤ 65_535) bit bits h.within))
+
+pub never-equal_bits : (m : Tree) (bits : List (List ℕ × ℕ)) → (NamesDiffer (map (λ (bit : List ℕ × ℕ). bit.0) bits) → ⊥) → NeverHasType m (named_bits bits)
+never-equal_bits m bits equal = never-bits m bits (λ h. equal h.names)
+
+pub never-equal_bit_numbers : (m : Tree) (bits : List NamedBit) → (AllPairs (λ (a b : ℕ). a ≢ b) (map (λ (bit : NamedBit). bit.number) bits) → ⊥) → NeverHasType m (named_bits (map bit bits))
+never-equal_bit_numbers m bits equal = never-bits m (map bit bits) (λ h. equal (subst (AllPairs (λ (a b : ℕ). a ≢ b)) (map-map (λ (b : List ℕ × ℕ). b.1) bit bits) h.numbers_differ))
 
 -- what means nothing has any weight
 pub weighs_nothing : (m : Tree) (f : Form) (w : Weight) → MeansNothing m f → IsWeight m f w

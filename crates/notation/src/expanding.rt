@@ -3,8 +3,8 @@
 ghost use Rattle.std.specs.Prelude.{◌≢◌, suc, Option, IfOk, IfErr, map, None as Nothing};
 ghost use Rattle.types.specs.View.{ty_view, field_view, requirement_view};
 ghost use Rattle.types.specs.Shape.{Requirement};
-ghost use Rattle.syntax.specs.Tree.{Tree, list, choice, enumerated};
-ghost use Rattle.syntax.specs.View.{form, tree, component, alternative, components_of, alternatives_of, entry, ending};
+ghost use Rattle.syntax.specs.Tree.{Tree, list, choice, enumerated, named_bits};
+ghost use Rattle.syntax.specs.View.{form, tree, component, alternative, components_of, alternatives_of, entry, bit, ending};
 ghost use Rattle.builtin.specs.Defaults.{IsRequirement};
 ghost use Rattle.builtin.specs.Names.{NamesDiffer};
 ghost use Rattle.notation.specs.Meaning.{IsMeaning};
@@ -17,12 +17,13 @@ ghost use Rattle.notation.specs.Refused.{HasNoTypeWithin, PartHasNoTypeWithin};
 
 use crate::scope::Scope;
 use builtin::{
-    Cause, Stop, are_alternatives_tagged, are_components_tagged, automatic_tag, default_of,
-    enumerated_tag, group_tag, list_type, numbered, of_type, simple_tag, simple_type, tag_of,
+    Cause, Stop, are_alternatives_tagged, are_components_tagged, automatic_tag, bit_string_tag,
+    default_of, enumerated_tag, group_tag, list_type, named_bits, numbered, of_type, simple_tag,
+    simple_type, tag_of,
 };
 use octets::Tag;
-use std::alloc::Global;
-use syntax::{Alternative, Component, Expr, Group, Item, Presence};
+use std::alloc::{AllocError, Global};
+use syntax::{Alternative, Component, Expr, Group, Item, NamedBit, Presence};
 use types::{Field, Ty};
 
 impl<'a> Scope<'a> {
@@ -63,6 +64,7 @@ impl<'a> Scope<'a> {
                 None => self.choice(alloc, alternatives, depth),
             },
             Expr::Enumerated(items) => enumerated(alloc, root.tag, items),
+            Expr::NamedBits(bits) => Ok(bit_string(alloc, root.tag, bits)?),
             Expr::Simple(simple) => {
                 Ok(simple_type(*simple, root.tag.unwrap_or(simple_tag(*simple))))
             }
@@ -169,6 +171,14 @@ fn enumerated(alloc: Global, outer: Option<Tag>, items: &[Item]) -> Result<Ty, S
 {
     let tag = outer.unwrap_or(enumerated_tag());
     Ok(Ty::Enumerated(tag, numbered(alloc, items)?))
+}
+
+/// A BIT STRING with these named bits.
+fn bit_string(alloc: Global, outer: Option<Tag>, bits: &[NamedBit]) -> Result<Ty, AllocError>
+    ensures { IfOk result (λ ty. NamesDiffer (map (λ bit. bit.0) (map bit bits.now)) → (m : Tree) → MeansUnder m outer (named_bits (map bit bits.now)) (ty_view ty)) }
+{
+    let tag = outer.unwrap_or(bit_string_tag());
+    Ok(Ty::NamedBits(tag, named_bits(alloc, bits)?))
 }
 
 fn presence_of(alloc: Global, ty: &Ty, written: &Presence) -> Result<types::Presence, Stop>

@@ -15,6 +15,6 @@ mod weight;
 pub use lexis::Fault;
 pub use resolving::resolve;
 pub use syntax::{
-    Alternative, Assignment, Component, DefaultValue, Expr, Group, Item, Module, Presence,
-    SignedNumber, Simple, TagClass, TagMode, TagPrefix, Tagging, parse,
+    Alternative, Assignment, Component, DefaultValue, Expr, Group, Item, Module, NamedBit,
+    Presence, SignedNumber, Simple, TagClass, TagMode, TagPrefix, Tagging, parse,
 };

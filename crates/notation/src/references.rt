@@ -25,7 +25,7 @@ fn gather<'a>(expr: &'a Expr, names: &mut Vec<&'a str>) -> Result<(), AllocError
         Expr::List(_, components) => gather_components(components, names),
         Expr::Of(_, inner) => gather(inner, names),
         Expr::Choice(alternatives) => gather_alternatives(alternatives, names),
-        Expr::Enumerated(_) | Expr::Simple(_) => Ok(()),
+        Expr::Enumerated(_) | Expr::NamedBits(_) | Expr::Simple(_) => Ok(()),
         Expr::Reference(name) => Ok(names.push(name.as_str())?),
     }
 }

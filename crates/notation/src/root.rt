@@ -51,7 +51,7 @@ fn is_choice(expr: &Expr) -> bool
     match expr {
         Expr::Choice(_) => true,
         Expr::Tagged(_, _) | Expr::List(_, _) | Expr::Of(_, _) => false,
-        Expr::Enumerated(_) | Expr::Simple(_) | Expr::Reference(_) => false,
+        Expr::Enumerated(_) | Expr::NamedBits(_) | Expr::Simple(_) | Expr::Reference(_) => false,
     }
 }
 
@@ -63,7 +63,7 @@ fn name_in(expr: &Expr) -> Option<&str>
     match expr {
         Expr::Reference(name) => Some(name.as_str()),
         Expr::Tagged(_, _) | Expr::List(_, _) | Expr::Of(_, _) => None,
-        Expr::Choice(_) | Expr::Enumerated(_) | Expr::Simple(_) => None,
+        Expr::Choice(_) | Expr::Enumerated(_) | Expr::NamedBits(_) | Expr::Simple(_) => None,
     }
 }
 
@@ -74,7 +74,7 @@ fn is_own_tag_within(expr: &Expr) -> bool
     match expr {
         Expr::Tagged(prefix, _) => prefix.number <= MAX_TAG_NUMBER,
         Expr::Choice(_) | Expr::List(_, _) | Expr::Of(_, _) => true,
-        Expr::Enumerated(_) | Expr::Simple(_) | Expr::Reference(_) => true,
+        Expr::Enumerated(_) | Expr::NamedBits(_) | Expr::Simple(_) | Expr::Reference(_) => true,
     }
 }
 
@@ -101,7 +101,9 @@ impl<'a> Scope<'a> {
                 })
             }
             Expr::List(_, _) | Expr::Of(_, _) | Expr::Choice(_) => Some(Root { expr, tag: outer }),
-            Expr::Enumerated(_) | Expr::Simple(_) => Some(Root { expr, tag: outer }),
+            Expr::Enumerated(_) | Expr::NamedBits(_) | Expr::Simple(_) => {
+                Some(Root { expr, tag: outer })
+            }
         }
     }
 

@@ -3,8 +3,8 @@
 
 ghost use Rattle.std.specs.Prelude.{◌≡◌, ◌↔◌, ◌≤◌, ℕ, IfOk, IsTrue, map, None as Nothing};
 ghost use Rattle.syntax.specs.declared.tree.Group.{Group};
-ghost use Rattle.syntax.specs.Tree.{Tree, tagged, list, choice, enumerated};
-ghost use Rattle.syntax.specs.View.{form, tree, component, alternative, entry, components_of, alternatives_of};
+ghost use Rattle.syntax.specs.Tree.{Tree, tagged, list, choice, enumerated, named_bits};
+ghost use Rattle.syntax.specs.View.{form, tree, component, alternative, entry, bit, components_of, alternatives_of};
 ghost use Rattle.builtin.specs.Names.{NamesDiffer};
 ghost use Rattle.notation.specs.Known.{IsScope};
 ghost use Rattle.notation.specs.Apart.{IsApart};
@@ -13,11 +13,12 @@ ghost use Rattle.notation.specs.Weighed.{CanWeigh, IsWeight, IsOwnWeight, IsPart
 use crate::scope::Scope;
 use crate::weight::Weight;
 use builtin::{
-    Cause, alternatives_differ, are_alternatives_tagged, are_components_tagged, are_numbers_within,
-    components_differ, items_differ, numbers_differ,
+    Cause, alternatives_differ, are_alternatives_tagged, are_bits_within, are_components_tagged,
+    are_numbers_within, bit_numbers_differ, components_differ, items_differ, named_bits_differ,
+    numbers_differ,
 };
 use std::alloc::{AllocError, Global};
-use syntax::{Alternative, Component, Expr, Item, TagMode, TagPrefix};
+use syntax::{Alternative, Component, Expr, Item, NamedBit, TagMode, TagPrefix};
 use types::MAX_LIST;
 
 impl<'a> Scope<'a> {
@@ -34,6 +35,7 @@ impl<'a> Scope<'a> {
             Expr::Of(_, inner) => Ok(self.weight_within(alloc, inner)?.as_constructed()),
             Expr::Choice(alternatives) => self.weight_of_choice(alloc, alternatives),
             Expr::Enumerated(items) => weight_of_items(alloc, items),
+            Expr::NamedBits(bits) => weight_of_bits(alloc, bits),
             Expr::Simple(_) => Ok(Weight::NOTHING.with_node()),
             Expr::Reference(name) => Ok(match self.seen_of(name) {
                 Some(seen) => seen.weight,
@@ -160,7 +162,21 @@ fn weight_of_items(alloc: Global, items: &[Item]) -> Result<Weight, AllocError>
     )
 }
 
-/// Whether a CHOICE or an ENUMERATED may have so many alternatives or items.
+fn weight_of_bits(alloc: Global, bits: &[NamedBit]) -> Result<Weight, AllocError>
+    ensures weight { IfOk result (λ weight. (m : Tree) → IsWeight m (named_bits (map bit bits.now)) weight) }
+    ensures apart { IfOk result (λ weight. weight.cause ≡ Nothing → NamesDiffer (map (λ bit. bit.0) (map bit bits.now))) }
+{
+    let weight = Weight::NOTHING.with_node();
+    let within = is_length_within(bits.len()) && are_bits_within(bits);
+    Ok(
+        weight
+            .unless(within, Cause::TooLarge)
+            .unless(named_bits_differ(alloc, bits)?, Cause::RepeatedName)
+            .unless(bit_numbers_differ(alloc, bits)?, Cause::RepeatedNumber),
+    )
+}
+
+/// Whether a CHOICE, an ENUMERATED or a list of named bits may have so many alternatives, items or bits.
 fn is_length_within(length: usize) -> bool
     ensures { IsTrue result ↔ ((1 ≤ length) × (length ≤ 256)) }
 {

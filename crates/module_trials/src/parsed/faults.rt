@@ -84,7 +84,7 @@ fn faults_of_types(rt: HostRuntime) -> Result<(), Fail> {
         ("OBJECT", 22, 8),
         ("INTEGER (5)", 32, 9),
         ("INTEGER { a(0) }", 32, 9),
-        ("BIT STRING { a(0) }", 32, 12),
+        ("BIT STRING (SIZE (5))", 32, 12),
         ("OCTET STRING { a(0) }", 22, 14),
         ("OCTET STRING (SIZE (5))", 32, 14),
         ("NULL { }", 22, 6),
@@ -158,9 +158,9 @@ fn faults_of_types(rt: HostRuntime) -> Result<(), Fail> {
 }
 
 #[test]
-fn faults_of_items(rt: HostRuntime) -> Result<(), Fail> {
+fn faults_of_items_and_bits(rt: HostRuntime) -> Result<(), Fail> {
     // (type, number, octet of the type; zeros where it is read)
-    let cases: [(&str, u32, u32); 19] = [
+    let cases: [(&str, u32, u32); 43] = [
         ("ENUMERATED { a }", 0, 0),
         ("ENUMERATED { a, b }", 0, 0),
         ("ENUMERATED { a(0) }", 0, 0),
@@ -196,6 +196,30 @@ fn faults_of_items(rt: HostRuntime) -> Result<(), Fail> {
             17,
         ),
         ("ENUMERATED a", 22, 12),
+        ("BIT STRING { a(0) }", 0, 0),
+        ("BIT STRING { a(0), b(5) }", 0, 0),
+        ("BIT STRING { a(65535) }", 0, 0),
+        ("BIT STRING { a(65536) }", 31, 16),
+        ("BIT STRING { a(00) }", 21, 16),
+        ("BIT STRING { }", 22, 14),
+        ("BIT STRING { a }", 22, 16),
+        ("BIT STRING { a() }", 22, 16),
+        ("BIT STRING { a(-1) }", 22, 16),
+        ("BIT STRING { a(b) }", 22, 16),
+        ("BIT STRING { a(0 }", 22, 18),
+        ("BIT STRING { a(0) (1) }", 22, 19),
+        ("BIT STRING { a(0) b(1) }", 22, 19),
+        ("BIT STRING { a(0), }", 22, 20),
+        ("BIT STRING { A(0) }", 22, 14),
+        ("BIT STRING { BOOLEAN(0) }", 23, 14),
+        ("BIT STRING { REAL(0) }", 32, 14),
+        ("BIT STRING {", 23, 14),
+        ("BIT STRING { a(0), ... }", 32, 20),
+        ("BIT STRING { a(0) } (SIZE (1))", 32, 21),
+        ("BIT STRING { a(0) } { b(1) }", 22, 21),
+        ("SEQUENCE { a BIT STRING { b(0) } OPTIONAL }", 0, 0),
+        ("SEQUENCE { a BIT STRING { b(0) } (5) }", 32, 34),
+        ("SET OF BIT STRING { a(0) }", 0, 0),
     ];
     for (body, number, octet) in cases {
         let text = with_type(rt.alloc(), body)?;

@@ -48,11 +48,12 @@ fn types_nest_at_most_64_deep(rt: HostRuntime) -> Result<(), Fail> {
 #[test]
 fn lists_have_at_most_256_parts(rt: HostRuntime) -> Result<(), Fail> {
     // (what begins the list, one part and `,`, the last part, its octets before the last part)
-    let cases: [(&str, &str, &str); 4] = [
+    let cases: [(&str, &str, &str); 5] = [
         ("SEQUENCE { ", "a NULL, ", "z NULL }"),
         ("SET { ", "a NULL, ", "z NULL }"),
         ("CHOICE { ", "a NULL, ", "z NULL }"),
         ("ENUMERATED { ", "a, ", "z }"),
+        ("BIT STRING { ", "a(0), ", "z(1) }"),
     ];
     for (first, part, last) in cases {
         let fits = repeated(rt.alloc(), part, 255, last)?;

@@ -95,7 +95,7 @@ const LEFT_OUT: [&str; 50] = [
 ];
 
 /// What stands before a name and behind it.
-const PLACES: [(&str, &str); 8] = [
+const PLACES: [(&str, &str); 9] = [
     ("", " DEFINITIONS ::= BEGIN END"),
     ("M DEFINITIONS ::= BEGIN ", " ::= NULL END"),
     ("M DEFINITIONS ::= BEGIN T ::= NULL ", " ::= NULL END"),
@@ -110,6 +110,7 @@ const PLACES: [(&str, &str); 8] = [
         " NULL } END",
     ),
     ("M DEFINITIONS ::= BEGIN T ::= ENUMERATED { ", " } END"),
+    ("M DEFINITIONS ::= BEGIN T ::= BIT STRING { ", "(0) } END"),
 ];
 
 #[test]

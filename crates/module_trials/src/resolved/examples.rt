@@ -15,6 +15,7 @@ AlgorithmIdentifier ::= SEQUENCE { algorithm OBJECT IDENTIFIER, parameters NULL 
 Version ::= ENUMERATED { v1(0), v2(1), v3(2) }
 Time ::= CHOICE { utcTime UTCTime, generalTime GeneralizedTime }
 Validity ::= SEQUENCE { notBefore Time, notAfter Time }
+KeyUsage ::= BIT STRING { digitalSignature(0), nonRepudiation(1), keyEncipherment(2), dataEncipherment(3), keyAgreement(4), keyCertSign(5), cRLSign(6), encipherOnly(7), decipherOnly(8) }
 Begin ::= SEQUENCE { version [0] Version DEFAULT v1, serialNumber INTEGER, issuerUniqueID [1] IMPLICIT BIT STRING OPTIONAL }
 END";
 
@@ -33,6 +34,10 @@ fn certificates(rt: HostRuntime) -> Result<(), Fail> {
         (
             "Validity",
             "[U16]SEQUENCE{ notBefore CHOICE{ utcTime [U23]Utc generalTime [U24]Generalized } notAfter CHOICE{ utcTime [U23]Utc generalTime [U24]Generalized } }",
+        ),
+        (
+            "KeyUsage",
+            "[U3]NAMED BITS digitalSignature(0) nonRepudiation(1) keyEncipherment(2) dataEncipherment(3) keyAgreement(4) keyCertSign(5) cRLSign(6) encipherOnly(7) decipherOnly(8)",
         ),
         (
             "Begin",

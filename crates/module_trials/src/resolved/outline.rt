@@ -2,7 +2,7 @@
 
 use octets::{Class, Tag};
 use std::alloc::{AllocError, Global};
-use types::{Alternative, Field, Item, Presence, Ty};
+use types::{Alternative, Field, Item, NamedBit, Presence, Ty};
 
 /// The text of the type.
 pub fn outline(alloc: Global, ty: &Ty) -> Result<String, AllocError> {
@@ -20,7 +20,10 @@ fn put_type(text: &mut String, ty: &Ty) -> Result<(), AllocError> {
         Ty::Oid(tag) => put_name(text, tag, "OID"),
         Ty::RelativeOid(tag) => put_name(text, tag, "RELATIVE-OID"),
         Ty::Bits(tag) => put_name(text, tag, "BITS"),
-        Ty::NamedBits(tag, _) => put_name(text, tag, "NAMED BITS"),
+        Ty::NamedBits(tag, bits) => {
+            put_name(text, tag, "NAMED BITS")?;
+            put_named_bits(text, bits)
+        }
         Ty::Octets(tag) => put_name(text, tag, "OCTETS"),
         Ty::Text(tag, kind) => {
             put_tag(text, tag)?;
@@ -78,6 +81,15 @@ fn put_items(text: &mut String, items: &[Item]) -> Result<(), AllocError> {
     for item in items {
         let name = item.name.as_str();
         let number = item.number;
+        write!(text, " {name}({number})")?;
+    }
+    Ok(())
+}
+
+fn put_named_bits(text: &mut String, bits: &[NamedBit]) -> Result<(), AllocError> {
+    for bit in bits {
+        let name = bit.name.as_str();
+        let number = bit.number;
         write!(text, " {name}({number})")?;
     }
     Ok(())

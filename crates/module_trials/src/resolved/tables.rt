@@ -97,6 +97,7 @@ fn universal_tags(rt: HostRuntime) -> Result<(), Fail> {
         ("BOOLEAN", "[U1]BOOLEAN"),
         ("INTEGER", "[U2]INTEGER"),
         ("BIT STRING", "[U3]BITS"),
+        ("BIT STRING { a(0) }", "[U3]NAMED BITS a(0)"),
         ("OCTET STRING", "[U4]OCTETS"),
         ("NULL", "[U5]NULL"),
         ("OBJECT IDENTIFIER", "[U6]OID"),

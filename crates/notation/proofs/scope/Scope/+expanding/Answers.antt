@@ -10,15 +10,16 @@ use Rattle.syntax.specs.declared.tree.Expr.{Expr}
 use Rattle.syntax.specs.declared.tree.Component.{Component}
 use Rattle.syntax.specs.declared.tree.Alternative.{Alternative}
 use Rattle.syntax.specs.declared.tree.Item.{Item}
-use Rattle.syntax.specs.Tree.{Ending, Form, tagged, list, of, choice, enumerated}
-use Rattle.syntax.specs.View.{form, tree, component, alternative, entry, components_of, alternatives_of}
+use Rattle.syntax.specs.declared.tree.NamedBit.{NamedBit}
+use Rattle.syntax.specs.Tree.{Ending, Form, tagged, list, of, choice, enumerated, named_bits}
+use Rattle.syntax.specs.View.{form, tree, component, alternative, entry, bit, components_of, alternatives_of}
 use Rattle.builtin.specs.Tagging.{has_automatic_tags}
 use Rattle.notation.specs.declared.root.Root.{Root}
 use Rattle.notation.specs.Known.{IsScope, LeadsTo, TellsChoice}
 use Rattle.notation.specs.Meaning.{IsMeaning}
 use Rattle.notation.specs.Parts.{AreComponents, AreAlternatives}
-use Rattle.notation.proofs.FormLemmas.{form-Tagged, form-List, form-Of, form-Choice, form-Enumerated, form-Simple}
-use Rattle.notation.proofs.ExpandingLemmas.{explicit_told, list_told, of_told, choice_told, simple_told, enumerated_told, component_more, alternative_more, components_made, alternatives_made, length_front}
+use Rattle.notation.proofs.FormLemmas.{form-Tagged, form-List, form-Of, form-Choice, form-Enumerated, form-NamedBits, form-Simple}
+use Rattle.notation.proofs.ExpandingLemmas.{explicit_told, list_told, of_told, choice_told, simple_told, root_told, component_more, alternative_more, components_made, alternatives_made, length_front}
 use Rattle.notation.proofs.NeverLemmas.{no_type_within-0, no_type_within-root, no_part_within-choice, no_view-default}
 use Rattle.notation.proofs.NothingLemmas.{nothing_within, explicit_never, of_never, root_never, choice_under_tag, list_never, choice_never}
 use Rattle.notation.specs.Refused.{HasNoTypeWithin, PartHasNoTypeWithin}
@@ -81,7 +82,18 @@ expand-returns-in-Enumerated-clause-value t c = IfOk-map c.enumerated.result _ _
     let leads = subst (λ (r : Option Root). IfSome r (λ root. IsScope c.args.self.now.module.now c.args.self.now → LeadsTo m c.args.outer f root)) c.in_ok-root.ensures.ok_part c.root_of.ensures.leads s.settled.known in
     let is = ap form c.in-Enumerated.is ∙ form-Enumerated c.in-Enumerated.items ∙ ap (λ (xs : List Item). enumerated (map entry xs)) (sym c.deref-in-Enumerated.ensures.value) in
     let can = can_make-root c.args.self.now f (enumerated (map entry c.deref-in-Enumerated.result.now)) c.root_of.result root c.in_ok-root.ensures.ok_part c.root_of.ensures.apart is s in
-    enumerated_told m c.args.outer f root.tag (form root.expr.now) (map entry c.deref-in-Enumerated.result.now) (ty_view ty) leads is (h can.own m)) c.enumerated.ensures.value
+    root_told m c.args.outer f root.tag (form root.expr.now) (enumerated (map entry c.deref-in-Enumerated.result.now)) (ty_view ty) leads is (h can.own m)) c.enumerated.ensures.value
+
+pub expand-returns-in_ok-bit_string-in-NamedBits-clause-value : goal.expand-returns-in_ok-bit_string-in-NamedBits-clause-value
+expand-returns-in_ok-bit_string-in-NamedBits-clause-value t c = λ s.
+    let m = tree c.args.self.now.module.now in
+    let f = form c.args.expr.now in
+    let root = c.in_ok-root.root in
+    let leads = subst (λ (r : Option Root). IfSome r (λ root. IsScope c.args.self.now.module.now c.args.self.now → LeadsTo m c.args.outer f root)) c.in_ok-root.ensures.ok_part c.root_of.ensures.leads s.settled.known in
+    let own = named_bits (map bit c.deref-in-NamedBits.result.now) in
+    let is = ap form c.in-NamedBits.is ∙ form-NamedBits c.in-NamedBits.bits ∙ ap (λ (xs : List NamedBit). named_bits (map bit xs)) (sym c.deref-in-NamedBits.ensures.value) in
+    let can = can_make-root c.args.self.now f own c.root_of.result root c.in_ok-root.ensures.ok_part c.root_of.ensures.apart is s in
+    root_told m c.args.outer f root.tag (form root.expr.now) own (ty_view c.in_ok-bit_string-in-NamedBits.field-0) leads is (c.in_ok-bit_string-in-NamedBits.ensures can.own m)
 
 pub expand-returns-in-Simple-clause-value : goal.expand-returns-in-Simple-clause-value
 expand-returns-in-Simple-clause-value t c = λ s.

@@ -6,9 +6,10 @@ use Rattle.syntax.specs.declared.tree.Expr.{Expr}
 use Rattle.syntax.specs.declared.tree.Component.{Component}
 use Rattle.syntax.specs.declared.tree.Alternative.{Alternative}
 use Rattle.syntax.specs.declared.tree.Item.{Item}
+use Rattle.syntax.specs.declared.tree.NamedBit.{NamedBit}
 use Rattle.syntax.specs.declared.tree.TagPrefix.{TagPrefix}
-use Rattle.syntax.specs.Tree.{Ending, Form, tagged, list, of, choice, enumerated, simple, reference}
-use Rattle.syntax.specs.View.{form, tree, component, alternative, entry, components_of, alternatives_of}
+use Rattle.syntax.specs.Tree.{Ending, Form, tagged, list, of, choice, enumerated, named_bits, simple, reference}
+use Rattle.syntax.specs.View.{form, tree, component, alternative, entry, bit, components_of, alternatives_of}
 use Rattle.builtin.specs.Tagging.{has_automatic_tags}
 use Rattle.notation.specs.Under.{IsImplicitAt}
 use Rattle.notation.specs.Known.{IsScope, TellsChoice, TellsExplicit}
@@ -16,7 +17,7 @@ use Rattle.notation.specs.Settled.{MeansNothing, NamesTold}
 use Rattle.notation.specs.Size.{HaveSize}
 use Rattle.notation.specs.Refused.{HasNoType, NeverHasType}
 use Rattle.notation.specs.Weighed.{CanWeigh, IsWeight, IsPartWeight, IsComponentsWeight, IsAlternativesWeight}
-use Rattle.notation.proofs.FormLemmas.{form-Tagged, form-List, form-Of, form-Choice, form-Enumerated, form-Simple, form-Reference}
+use Rattle.notation.proofs.FormLemmas.{form-Tagged, form-List, form-Of, form-Choice, form-Enumerated, form-NamedBits, form-Simple, form-Reference}
 use Rattle.notation.proofs.SizeLemmas.{size-simple}
 use Rattle.notation.proofs.WeighedLemmas.{weighs_just, weighs_unless}
 use Rattle.notation.proofs.RefusedLemmas.{no_type-root, never-implicit_choice}
@@ -67,6 +68,13 @@ weight_of-returns-in-Enumerated-clause-weight t c = IfOk-map c.weight_of_items.r
     let is : form c.args.expr.now ≡ enumerated (map entry c.deref-in-Enumerated.result.now) =
     ap form c.in-Enumerated.is ∙ form-Enumerated c.in-Enumerated.items ∙ ap (λ (xs : List Item). enumerated (map entry xs)) (sym c.deref-in-Enumerated.ensures.value) in
     subst (λ (i : Form). IsWeight m i w) (sym is) (h m)) c.weight_of_items.ensures.weight
+
+pub weight_of-returns-in-NamedBits-clause-weight : goal.weight_of-returns-in-NamedBits-clause-weight
+weight_of-returns-in-NamedBits-clause-weight t c = IfOk-map c.weight_of_bits.result _ _ (λ w h can.
+    let m = tree c.args.self.now.module.now in
+    let is : form c.args.expr.now ≡ named_bits (map bit c.deref-in-NamedBits.result.now) =
+    ap form c.in-NamedBits.is ∙ form-NamedBits c.in-NamedBits.bits ∙ ap (λ (xs : List NamedBit). named_bits (map bit xs)) (sym c.deref-in-NamedBits.ensures.value) in
+    subst (λ (i : Form). IsWeight m i w) (sym is) (h m)) c.weight_of_bits.ensures.weight
 
 pub weight_of-returns-in-Simple-clause-weight : goal.weight_of-returns-in-Simple-clause-weight
 weight_of-returns-in-Simple-clause-weight t c = λ can.
