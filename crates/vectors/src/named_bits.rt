@@ -1,14 +1,15 @@
 //! BIT STRING with named bits (X.680 clause 22), whose bits 0 at the end mean nothing (X.690 11.2.2).
 
-use crate::checks::{check_line, check_table};
+use crate::checks::check_table;
 use convert::{
-    Bits, Class, Field, Name, NamedBit, Presence, Tag, Ty, TypeFault, Value, WellTyped, conforms,
+    Bits, Field, Name, NamedBit, Presence, Tag, Ty, TypeFault, Value, WellTyped, conforms,
 };
 use std::alloc::Global;
 use std::test::Fail;
 
 // octets | under DER | under CER | text
 const ROWS: &str = "
+BIT STRING { a(0), b(7) }:
 03 02 05 A0              | kept        | kept        | '101'B
 03 02 04 A0              | 03 02 05 A0 | 03 02 05 A0 | '101'B
 03 02 04 AF              | 03 02 05 A0 | 03 02 05 A0 | '101'B
@@ -41,17 +42,26 @@ const ROWS: &str = "
 03 01 01                 | refused 6
 03 02 08 00              | refused 6
 23 09 03 03 04 AA B0 03 02 00 F0 | refused 6
-";
-
-// The same octets where each bit counts.
-const UNNAMED: &str = "
+# without a list each bit counts
 BIT STRING:
 23 08 03 02 00 A0 03 02 00 00 | 03 03 00 A0 00 | 03 03 00 A0 00 | '1010000000000000'B
 03 03 00 80 00           | kept        | kept        | '1000000000000000'B
+# through a reference, and under tags
+U U ::= BIT STRING { a(0) }:
+03 02 00 80              | 03 02 07 80 | 03 02 07 80 | '1'B
+[5] U U ::= BIT STRING { a(0) }:
+85 02 00 80              | 85 02 07 80 | 85 02 07 80 | '1'B
+03 02 07 80              | refused 2
+EXPLICIT TAGS [5] BIT STRING { a(0) }:
+A5 04 03 02 00 80        | A5 04 03 02 07 80 | A5 80 03 02 07 80 00 00 | '1'B
+# a set is ordered by the encodings of its trimmed elements
+SET OF BIT STRING { a(0) }:
+31 09 03 02 07 80 03 03 00 40 00 | 31 08 03 02 06 40 03 02 07 80 | 31 80 03 02 06 40 03 02 07 80 00 00 | { '01'B, '1'B }
 ";
 
 // octets | under DER | under CER | text
 const DEFAULTS: &str = "
+AUTOMATIC TAGS SEQUENCE { f BIT STRING { a(0) } DEFAULT '100'B }:
 30 00                    | kept                 | 30 80 00 00                | { }
 30 04 80 02 07 80        | 30 00                | 30 80 00 00                | { }
 30 04 80 02 00 80        | 30 00                | 30 80 00 00                | { }
@@ -60,10 +70,24 @@ const DEFAULTS: &str = "
 30 0A A0 08 03 02 00 80 03 02 00 00 | 30 00     | 30 80 00 00                | { }
 30 04 80 02 05 A0        | kept                 | 30 80 80 02 05 A0 00 00    | { f '101'B }
 30 08 80 02 00 80 80 02 00 80 | refused 2
+# the same default in other words, through references and a tag
+AUTOMATIC TAGS SEQUENCE { f U DEFAULT '8000'H } U ::= [3] V V ::= BIT STRING { a(0) }:
+30 04 80 02 00 80        | 30 00                | 30 80 00 00                | { }
+30 04 80 02 06 40        | kept                 | 30 80 80 02 06 40 00 00    | { f '01'B }
+# a default of no bits
+AUTOMATIC TAGS SEQUENCE { f BIT STRING { a(0) } DEFAULT '00'B }:
+30 03 80 01 00           | 30 00                | 30 80 00 00                | { }
+30 05 80 03 00 00 00     | 30 00                | 30 80 00 00                | { }
+30 04 80 02 07 80        | kept                 | 30 80 80 02 07 80 00 00    | { f '1'B }
+# without a list the bits 0 at the end count
+AUTOMATIC TAGS SEQUENCE { f BIT STRING DEFAULT '100'B }:
+30 04 80 02 05 80        | 30 00                | 30 80 00 00                | { }
+30 04 80 02 07 80        | kept                 | 30 80 80 02 07 80 00 00    | { f '1'B }
 ";
 
 // octets | under DER | under CER | text
 const CUT: &str = "
+BIT STRING { a(0) }:
 03 82 03 E8 00, 41 x999         | kept                    | kept
 03 82 03 E9 00, 41 x999, 00     | 03 82 03 E8 00, 41 x999 | 03 82 03 E8 00, 41 x999
 03 82 03 E9 00, 41 x1000        | kept                    | 23 80, 03 82 03 E8 00, 41 x999, 03 02 00 41, 00 00
@@ -71,6 +95,21 @@ const CUT: &str = "
 03 82 03 EA 00, 41 x999, 80, 00 | 03 82 03 E9 07, 41 x999, 80 | 23 80, 03 82 03 E8 00, 41 x999, 03 02 07 80, 00 00
 03 82 07 D1 00, 80, 00 x1999    | 03 02 07 80             | 03 02 07 80
 ";
+
+#[test]
+fn encodings(rt: HostRuntime) -> Result<(), Fail> {
+    check_table(rt.alloc(), ROWS)
+}
+
+#[test]
+fn defaults(rt: HostRuntime) -> Result<(), Fail> {
+    check_table(rt.alloc(), DEFAULTS)
+}
+
+#[test]
+fn cut_by_cer(rt: HostRuntime) -> Result<(), Fail> {
+    check_table(rt.alloc(), CUT)
+}
 
 // A BIT STRING whose bits of these numbers are named `i`.
 fn named_bits(alloc: Global, numbers: &[u32]) -> Result<Ty, Fail> {
@@ -83,30 +122,6 @@ fn named_bits(alloc: Global, numbers: &[u32]) -> Result<Ty, Fail> {
     Ok(Ty::NamedBits(Tag::universal(3), bits))
 }
 
-// Checks the rows of a table whose type is made in code.
-fn check_rows(alloc: Global, ty: Ty, table: &str) -> Result<(), Fail> {
-    let ty = WellTyped::new(ty)?;
-    for line in table.lines() {
-        check_line(alloc, &ty, line)?;
-    }
-    Ok(())
-}
-
-#[test]
-fn encodings(rt: HostRuntime) -> Result<(), Fail> {
-    check_rows(rt.alloc(), named_bits(rt.alloc(), &[0, 7])?, ROWS)
-}
-
-#[test]
-fn without_names(rt: HostRuntime) -> Result<(), Fail> {
-    check_table(rt.alloc(), UNNAMED)
-}
-
-#[test]
-fn cut_by_cer(rt: HostRuntime) -> Result<(), Fail> {
-    check_rows(rt.alloc(), named_bits(rt.alloc(), &[0])?, CUT)
-}
-
 // The bits of one octet, but the unused ones.
 fn bits(alloc: Global, octet: u8, unused: u8) -> Result<Value, Fail> {
     match Bits::new(Vec::from_slice(alloc, &[octet])?, unused) {
@@ -115,35 +130,29 @@ fn bits(alloc: Global, octet: u8, unused: u8) -> Result<Value, Fail> {
     }
 }
 
-// SEQUENCE of a component `f` under context-specific 0 with a default of one octet's bits.
+// SEQUENCE of a component `f` with a default of one octet's bits.
 fn with_default(alloc: Global, octet: u8, unused: u8) -> Result<Ty, Fail> {
-    let mut names = Vec::new(alloc);
-    names.push(NamedBit {
-        name: Name::new(alloc, "i")?,
-        number: 0,
-    })?;
-    let tag = Tag {
-        class: Class::Context,
-        number: 0,
-    };
     let mut fields = Vec::new(alloc);
     fields.push(Field {
         name: Name::new(alloc, "f")?,
-        ty: Ty::NamedBits(tag, names),
+        ty: named_bits(alloc, &[0])?,
         presence: Presence::Default(bits(alloc, octet, unused)?),
     })?;
     Ok(Ty::Sequence(Tag::universal(16), fields))
 }
 
 #[test]
-fn defaults(rt: HostRuntime) -> Result<(), Fail> {
-    check_rows(rt.alloc(), with_default(rt.alloc(), 0x80, 7)?, DEFAULTS)
-}
-
-#[test]
 fn no_untrimmed_default(rt: HostRuntime) -> Result<(), Fail> {
-    let ty = WellTyped::new(with_default(rt.alloc(), 0x80, 5)?);
-    assert_eq!(rt; ty.err(), Some(TypeFault::BadDefault));
+    // (octet, unused bits, fault)
+    let cases = [
+        (0x80, 7, None),
+        (0x80, 5, Some(TypeFault::BadDefault)),
+        (0x00, 7, Some(TypeFault::BadDefault)),
+    ];
+    for (octet, unused, fault) in cases {
+        let ty = WellTyped::new(with_default(rt.alloc(), octet, unused)?);
+        assert_eq!(rt; ty.err(), fault, "at {octet} {unused}");
+    }
     Ok(())
 }
 

@@ -30,6 +30,10 @@ convert,m,T,in,--to=cer,--from=der | 30 03 81 01 FF 30 06 80 01 07 81 01 FF | 30
 convert,m,T,in,--to,der        | 30 03 81 01 FF 30 03 80 01 07 | 30 03 81 01 FF | asn1x: refused 8 Missing after 1 values; | 1
 show,m,T,in                    | 30 03 81 01 FF 30 03 80 01 07 | { b TRUE }; | asn1x: refused 8 Missing after 1 values; | 1
 check,m,T,in                   | 30 03 81 01 FF 30 03 80 01 07 || asn1x: refused 8 Missing after 1 values; | 1
+M DEFINITIONS ::= BEGIN T ::= BIT STRING { a(0), b(7) } END:
+show,m,T,in,--hex              | 030204a0 03020000 | '101'B;''B; || 0
+convert,m,T,in,--hex,--to,der  | 030204a0 03020000 | 030205a0030100; || 0
+check,m,T,in,--hex,--from,der  | 030205a0 030204a0 || asn1x: refused 12 NotCanonical after 1 values; | 1
 M DEFINITIONS EXPLICIT TAGS ::= BEGIN T ::= SET { a INTEGER, b CHOICE { x [5] IMPLICIT NULL, y BOOLEAN } } END:
 show,m,T,in,--hex              | 3105 020107 8500 | { a 7, b x : NULL }; || 0
 convert,m,T,in,--hex,--to,cer  | 3105 020107 8500 | 318085000201070000; || 0
@@ -91,8 +95,16 @@ check,m,@builtin,in | 00 || asn1x: module refused 24 UnknownType at 1:1; | 2
 check,m,BOOLEAN,in | 00 || asn1x: module refused 24 UnknownType at 1:1; | 2
 M DEFINITIONS ::= BEGIN T ::= INTEGER (5) END:
 check,m,T,in       | 00 || asn1x: module refused 32 NotInProfile at 1:39; | 2
-M DEFINITIONS ::= BEGIN T ::= BIT STRING { a(0) } END:
-check,m,T,in       | 00 || asn1x: module refused 32 NotInProfile at 1:42; | 2
+M DEFINITIONS ::= BEGIN T ::= BIT STRING { a(0) } (SIZE (1)) END:
+check,m,T,in       | 00 || asn1x: module refused 32 NotInProfile at 1:51; | 2
+M DEFINITIONS ::= BEGIN T ::= BIT STRING { a(0), a(1) } END:
+check,m,T,in       | 00 || asn1x: module refused 26 RepeatedName at 1:25; | 2
+M DEFINITIONS ::= BEGIN T ::= BIT STRING { a(0), b(0) } END:
+check,m,T,in       | 00 || asn1x: module refused 27 RepeatedNumber at 1:25; | 2
+M DEFINITIONS ::= BEGIN T ::= BIT STRING { a(65536) } END:
+check,m,T,in       | 00 || asn1x: module refused 31 TooLarge at 1:46; | 2
+M DEFINITIONS ::= BEGIN T ::= BIT STRING { } END:
+check,m,T,in       | 00 || asn1x: module refused 22 Syntax at 1:44; | 2
 M DEFINITIONS ::= BEGIN T ::= ENUMERATED { a(1), b(1) } END:
 check,m,T,in       | 00 || asn1x: module refused 27 RepeatedNumber at 1:25; | 2
 M DEFINITIONS ::= BEGIN T ::= SEQUENCE { a BOOLEAN DEFAULT 3 } END:
