@@ -53,7 +53,7 @@ rt:
 	@command -v rt >/dev/null || { echo "rt is missing: put the kit's bin folder on the path" >&2; exit 1; }
 
 in_program = cd crates/asn1x &&
-shown = calls.asn calls.hex certificates.asn certificates.hex revoked.hex
+shown = calls.asn calls.hex certificates.asn certificates.hex revoked.hex usage.hex
 stored_run = convert @builtin BOOLEAN data/in.hex --hex --to der
 
 # A command whose standard error is shown only where it fails.
