@@ -46,6 +46,7 @@ Kinds DEFINITIONS EXPLICIT TAGS ::= BEGIN
     name OBJECT IDENTIFIER,
     path RELATIVE-OID,
     bits BIT STRING,
+    flags BIT STRING { low (0), high (9) },
     octets OCTET STRING,
     text UTF8String,
     time UTCTime,
@@ -62,6 +63,7 @@ MODULE
 value() {
     printf '%s' 3080 010101 020107 02110080000000000000000000000000000000 0a0102 0500 06032a0304 0d020304
     printf '%s' 2380 030200a5 030204f0 0000
+    printf '%s' 2380 03020080 03020000 0000
     printf '2480 24800402010200000482%04x' "$1"
     printf '41%.0s' $(seq "$1")
     printf '%s' 0000
