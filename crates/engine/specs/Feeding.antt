@@ -2,7 +2,7 @@
 -- since it was fresh.
 use Rattle.std.specs.Prelude.{◌≡◌, ◌≢◌, ◌≤◌, ◌⊎◌, ⊤, ℕ, List, [], ◌++◌, length, take, Result, Ok, Err}
 use Rattle.octets.specs.Front.{HasFront}
-use Rattle.octets.specs.Rule.{Rule, IsCanonical}
+use Rattle.octets.specs.Rule.{Rule, ber, IsCanonical}
 use Rattle.types.specs.declared.refusal.Refusal.{Refusal}
 use Rattle.types.specs.declared.refusal.Refusal.TheVariants.{Truncated, NotCanonical, NoMemory}
 use Rattle.types.specs.Encoding.{IsAccepted, IsSomeAccepted}
@@ -19,10 +19,11 @@ pub record StandsOpen (shape : Shape) (reader : Pieces) (octets : List ℕ) : Ty
   pub type : shape_of reader ≡ shape
   pub fed : HasBeenFed reader octets
 
--- 2 to 12, these only of the canonical rules, and 17
-pub record IsOfFeeding (rule : Rule) (refusal : Refusal) : Type 0 where
+-- 2 to 12 and 17; 12 of the canonical rules alone, and of octets that begin with what BER reads
+pub record IsOfFeeding (rule : Rule) (shape : Shape) (octets : List ℕ) (refusal : Refusal) : Type 0 where
   pub number : IsFinal refusal ⊎ (refusal ≡ NoMemory)
   pub strict : refusal ≡ NotCanonical → IsCanonical rule
+  pub by_ber : refusal ≡ NotCanonical → HasFront (IsSomeAccepted ber shape) octets
 
 -- so many octets of a piece complete a value, behind the octets that were taken before it
 pub record IsDone (rule : Rule) (shape : Shape) (v : Val) (used : ℕ) (old piece : List ℕ) : Type 0 where
@@ -34,7 +35,7 @@ pub record IsDone (rule : Rule) (shape : Shape) (v : Val) (used : ℕ) (old piec
 abbrev pub IsFed : (List ℕ → Type 0) → Rule → Shape → Result Step Refusal → List ℕ → List ℕ → Type 0
 IsFed StandsAt rule shape (Ok More) old piece = StandsAt (old ++ piece) × ¬ HasFront (IsSomeAccepted rule shape) (old ++ piece)
 IsFed StandsAt rule shape (Ok (Done value used)) old piece = IsDone rule shape (value_view value) used old piece × StandsAt []
-IsFed StandsAt rule shape (Err refusal) old piece = IsOfFeeding rule refusal × (IsFinal refusal → (more : List ℕ) → ¬ HasFront (IsSomeAccepted rule shape) ((old ++ piece) ++ more))
+IsFed StandsAt rule shape (Err refusal) old piece = IsOfFeeding rule shape (old ++ piece) refusal × (IsFinal refusal → (more : List ℕ) → ¬ HasFront (IsSomeAccepted rule shape) ((old ++ piece) ++ more))
 
 -- Ok exactly where no value is begun
 abbrev pub IsFinished : Result ⊤ Refusal → List ℕ → Type 0

@@ -68,8 +68,9 @@ pub record Refuses (rule : Rule) (shape : Shape) (refusal : Refusal) (stream res
   pub none : IsOfOctets refusal → ¬ HasFront (IsSomeAccepted rule shape) rest
   -- 2 to 12: nor is one of any octets that begin so
   pub never : IsFinal refusal → (more : List ℕ) → ¬ HasFront (IsSomeAccepted rule shape) (rest ++ more)
-  -- 12 is of the canonical rules
+  -- 12 is of the canonical rules, and a front of the rest is accepted by BER
   pub strict : refusal ≡ NotCanonical → IsCanonical rule
+  pub by_ber : refusal ≡ NotCanonical → HasFront (IsSomeAccepted ber shape) rest
   -- 13
   pub stream_limit : refusal ≡ StreamTooLong → most_streamed < length stream
 
