@@ -1,1 +1,10 @@
 pub mod Refusal
+pub mod Canonical
+pub mod Bars
+pub mod Head
+pub mod Leaf
+pub mod Segments
+pub mod Reading
+pub mod Items
+pub mod Components
+pub mod Members

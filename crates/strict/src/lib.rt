@@ -1,9 +1,24 @@
 //! Readers that take the one encoding which CER or DER gives a value, and no other (X.690 clauses 9 to 11).
 //!
-//! Each reads under BER, writes the value again, and compares: what was read is canonical exactly if it is what
-//! is written.
+//! Each reads the octets once and judges each length, form, order and default where it stands. No second encoding is
+//! made: the items of a SET OF are compared as the octets that they stand in, and a component with its default as
+//! values.
 #![tactic(auto)]
 
+mod canonical;
+mod components;
+mod ends;
+mod fronts;
+mod head;
+mod items;
+mod leaf;
+mod members;
+mod parts;
+mod places;
 mod reading;
+mod segments;
+mod tags;
+mod values;
 
-pub use reading::{read_cer, read_der};
+pub use canonical::Canonical;
+pub use reading::{read_canonical, read_cer, read_der};

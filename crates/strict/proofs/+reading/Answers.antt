@@ -1,0 +1,1094 @@
+use Rattle.std.proofs.Common.{rules, ◌≡◌, ◌+◌, ◌-◌, ◌≤◌, ◌<◌, ◌⊎◌, inl, ◌++◌, ◌∷◌, ℕ, List, [], Option, Some, None, Contains, Err, length, map, take, drop, MatchOption, true, false, sym, ap, ◌∙◌, subst, subst₂, arith, refl, append-nil}
+use Rattle.std.specs.Ordering.{nat_cmp, is_lt}
+use Rattle.std.specs.Cmp.Lexicographic.{slice_cmp}
+use Rattle.std.proofs.lemmas.List.{take_rest, length-drop, length-map, drop-drop, drop-map, drop_all, take_all}
+use Rattle.octets.specs.declared.TheConstants.{MAX_ENCODING}
+use Rattle.octets.specs.declared.tag.Tag.{Tag}
+use Rattle.octets.proofs.ResultLemmas.{IfErr-from}
+use Rattle.types.specs.declared.value.Value.{Value}
+use Rattle.types.specs.FirstTags.{first_tags, AreDistinct, tags_of_alternatives}
+use Rattle.types.specs.Shape.{Shape}
+use Rattle.types.specs.View.{ty_view, value_view, field_view, components_view, alternative_view, alternatives_view, alternatives_of}
+use Rattle.types.specs.Conforms.{MayBeAbsent}
+use Rattle.types.specs.declared.ty.Ty as node
+use Rattle.types.specs.declared.ty.Field as field
+use Rattle.types.specs.declared.ty.Alternative as alternative
+use Rattle.types.proofs.LimitLemmas.{alternative_type}
+use Rattle.contents.specs.Parts.{IsGoodType, IsGoodComponent, IsSlotOf}
+use Rattle.contents.specs.Segments.{BeginsAboveZero}
+use Rattle.strict.specs.Canonical.{rule_of}
+use Rattle.strict.specs.Bars.{Bars}
+use Rattle.strict.specs.Head.{EndsHere, IsEndKnown}
+use Rattle.strict.specs.Reading.{IsRead, HasPart, HasChoice, HasAlone}
+use Rattle.strict.specs.Items.{HasItems, AreItemsRead, HasOrdered, AreOrderedRead, between}
+use Rattle.strict.specs.Components.{IsFront, EndsOrBegins, HasPresent, IsPresentRead, HasComponents, AreComponentsRead, BarsComponents}
+use Rattle.strict.specs.Members.{IsBegunAt, IsEmptyAt, IsOrderTagOf, HasMembers, AreMembersRead, AreFilled}
+use Rattle.strict.proofs.BarsLemmas.{bars_of, bars_by, bars_through, bars_named}
+use Rattle.strict.proofs.PartLemmas.{read_some}
+use Rattle.strict.proofs.FieldLemmas.{field_type, field_requirement, run_at, first_of, whole_of}
+use Rattle.strict.proofs.FrontLemmas.{IsStandingKnown, front_known}
+use Rattle.strict.proofs.PresentLemmas.{part_of_present, none_spelt_out}
+use Rattle.strict.proofs.ComponentLemmas.{ends_or_begins, none_stands}
+use Rattle.strict.proofs.SequenceLemmas.{absent_read, stands_read, present_stands, none_read, component_more, good_components, components_inside, ends_behind, sequence_read}
+use Rattle.strict.proofs.ListLemmas.{item_or_end, item_stands, item_read, items_inside, list_read}
+use Rattle.strict.proofs.OrderedLemmas.{ordered_or_end, ordered_stands, none_ordered, ordered_read, none_out_of_order, set_of_read, ordered_inside}
+use Rattle.strict.proofs.ChosenLemmas as choices
+use Rattle.strict.proofs.ChosenLemmas.{tag_of_part, choice_of_part, not_this, this_one, none_left, distinct_from, good_at, chosen_read}
+use Rattle.strict.proofs.AloneLemmas.{alone_inside, ends_alone, explicit_read}
+use Rattle.strict.proofs.BegunLemmas.{begun_below}
+use Rattle.strict.proofs.DueLemmas.{members_begin, members_filled, none_goes_on, is_due, present_due, none_before, component_at, component_all}
+use Rattle.strict.proofs.SetLemmas.{come_length, no_members, member_more, set_read, members_inside, good_members}
+use Rattle.strict.proofs.+reading.Goals as goal
+
+pub items::read_items-returns-in_err-ends-clause-refused : goal.items::read_items-returns-in_err-ends-clause-refused
+items::read_items-returns-in_err-ends-clause-refused t c =
+    let octets = c.args.octets.now in
+    let rule = rule_of c.args.rule in
+    let type = ty_view c.args.inner.now in
+    let d = c.args.inside.now.definite in
+    let room = c.args.inside.now.room in
+    let at = c.loop-item.at in
+    let all : take (length octets - at) (drop at octets) ≡ drop at octets = take_rest octets at in
+    let Q = HasItems rule type d room in
+    let P : List ℕ → Type 0 = λ o. EndsHere d (room - at) o ⊎ BeginsAboveZero o in
+    bars_through c.from_residual.result _ Q octets c.from_residual.ensures.1
+    (bars_by _ Q P octets (take (length octets - at) (drop at octets)) (λ more h. subst (λ x. P (x ++ more)) (sym all) (item_or_end rule type d (room - at) (drop at octets ++ more) c.requires.good (c.loop-item.invariant.forth more h)))
+    c.in_err-ends.ensures.refused)
+
+pub items::read_items-returns-in_err-used-clause-refused : goal.items::read_items-returns-in_err-used-clause-refused
+items::read_items-returns-in_err-used-clause-refused t c =
+    let octets = c.args.octets.now in
+    let rule = rule_of c.args.rule in
+    let type = ty_view c.args.inner.now in
+    let d = c.args.inside.now.definite in
+    let room = c.args.inside.now.room in
+    let at = c.loop-item.at in
+    let all : take (length octets - at) (drop at octets) ≡ drop at octets = take_rest octets at in
+    let Q = HasItems rule type d room in
+    let P = HasPart rule type (room - at) in
+    let known : IsEndKnown false d (room - at) (take (length octets - at) (drop at octets)) = let off : c.in_ok-ends.field-0 ≡ false = search rules in subst (λ b. IsEndKnown b d (room - at) (take (length octets - at) (drop at octets))) off c.in_ok-ends.ensures.value in
+    bars_through c.from_residual-in_err-used.result _ Q octets c.from_residual-in_err-used.ensures.1
+    (bars_by _ Q P octets (take (length octets - at) (drop at octets)) (λ more h.
+    let goes : EndsHere d (room - at) (drop at octets ++ more) → ⊥ = subst (λ x. EndsHere d (room - at) (x ++ more) → ⊥) all (known more) in
+    subst (λ x. P (x ++ more)) (sym all) (item_stands rule type d (room - at) (drop at octets ++ more) goes (c.loop-item.invariant.forth more h)))
+    c.in_err-used.ensures.refused)
+
+pub items::read_items-loop-item-smaller : goal.items::read_items-loop-item-smaller
+items::read_items-loop-item-smaller t c =
+    let octets = c.args.octets.now in
+    let type = ty_view c.args.inner.now in
+    let at = c.loop-item.at in
+    let all : take (length octets - at) (drop at octets) ≡ drop at octets = take_rest octets at in
+    let read = subst (λ x. IsRead (rule_of c.args.rule) type (c.args.inside.now.room - at) x c.read_one.new.slot c.in_ok-used.used) all c.in_ok-used.ensures.value in
+    let some = read_some (rule_of c.args.rule) type (c.args.inside.now.room - at) (drop at octets) c.read_one.new.slot c.in_ok-used.used c.requires.good read in
+    omega (arith, some, read.0, length-drop at octets, c.loop-item.invariant.there)
+
+pub items::read_items-loop-item-preserved : goal.items::read_items-loop-item-preserved
+items::read_items-loop-item-preserved t c =
+    let octets = c.args.octets.now in
+    let rule = rule_of c.args.rule in
+    let type = ty_view c.args.inner.now in
+    let room = c.args.inside.now.room in
+    let at = c.loop-item.at in
+    let used = c.in_ok-used.used in
+    let all : take (length octets - at) (drop at octets) ≡ drop at octets = take_rest octets at in
+    let v = c.in-Some.value in
+    let read : IsRead rule type (room - at) (drop at octets) (Some v) used = subst₂ (λ x s. IsRead rule type (room - at) x s used) all c.in-Some.is c.in_ok-used.ensures.value in
+    let more = item_read rule type c.args.inside.now.definite room octets c.loop-item.items.items v at used c.requires.good c.loop-item.invariant read in
+    subst (λ l. AreItemsRead rule type c.args.inside.now.definite room octets l (at + used)) (sym (c.push_reserved.ensures.items ∙ ap (λ l. l ++ (v ∷ [])) c.reserve.ensures.items)) more
+
+pub items::read_ordered-loop-item-init : goal.items::read_ordered-loop-item-init
+items::read_ordered-loop-item-init t c = none_ordered (rule_of c.args.rule) (ty_view c.args.inner.now) c.args.inside.now.definite c.args.inside.now.room c.args.octets.now c.args.items.now.items c.requires.none
+
+pub items::read_ordered-returns-in_err-ends-clause-refused : goal.items::read_ordered-returns-in_err-ends-clause-refused
+items::read_ordered-returns-in_err-ends-clause-refused t c =
+    let octets = c.args.octets.now in
+    let rule = rule_of c.args.rule in
+    let type = ty_view c.args.inner.now in
+    let d = c.args.inside.now.definite in
+    let room = c.args.inside.now.room in
+    let at = c.loop-item.at in
+    let before = c.loop-item.before in
+    let last = between octets before at in
+    let inner = take (length octets - at) (drop at octets) in
+    let all : inner ≡ drop at octets = take_rest octets at in
+    let Q = HasOrdered rule type d room [] in
+    let P : List ℕ → Type 0 = λ o. EndsHere d (room - at) o ⊎ BeginsAboveZero o in
+    bars_through c.from_residual.result _ Q octets c.from_residual.ensures.1
+    (bars_by _ Q P octets inner (λ more h. subst (λ x. P (x ++ more)) (sym all) (ordered_or_end rule type d (room - at) last (drop at octets ++ more) c.requires.good (c.loop-item.invariant.forth more h)))
+    c.in_err-ends.ensures.refused)
+
+pub items::read_ordered-returns-in_err-used-clause-refused : goal.items::read_ordered-returns-in_err-used-clause-refused
+items::read_ordered-returns-in_err-used-clause-refused t c =
+    let octets = c.args.octets.now in
+    let rule = rule_of c.args.rule in
+    let type = ty_view c.args.inner.now in
+    let d = c.args.inside.now.definite in
+    let room = c.args.inside.now.room in
+    let at = c.loop-item.at in
+    let before = c.loop-item.before in
+    let last = between octets before at in
+    let inner = take (length octets - at) (drop at octets) in
+    let all : inner ≡ drop at octets = take_rest octets at in
+    let Q = HasOrdered rule type d room [] in
+    let P = HasPart rule type (room - at) in
+    let off : c.in_ok-ends.field-0 ≡ false = search rules in
+    let known : IsEndKnown false d (room - at) inner = subst (λ b. IsEndKnown b d (room - at) inner) off c.in_ok-ends.ensures.value in
+    bars_through c.from_residual-in_err-used.result _ Q octets c.from_residual-in_err-used.ensures.1
+    (bars_by _ Q P octets inner (λ more h.
+    let goes : EndsHere d (room - at) (drop at octets ++ more) → ⊥ = subst (λ x. EndsHere d (room - at) (x ++ more) → ⊥) all (known more) in
+    subst (λ x. P (x ++ more)) (sym all) (ordered_stands rule type d (room - at) last (drop at octets ++ more) goes (c.loop-item.invariant.forth more h)))
+    c.in_err-used.ensures.refused)
+
+pub items::read_ordered-returns-then-comes_before-clause-refused : goal.items::read_ordered-returns-then-comes_before-clause-refused
+items::read_ordered-returns-then-comes_before-clause-refused t c = λ more may h.
+    let octets = c.args.octets.now in
+    let rule = rule_of c.args.rule in
+    let type = ty_view c.args.inner.now in
+    let d = c.args.inside.now.definite in
+    let room = c.args.inside.now.room in
+    let at = c.loop-item.at in
+    let before = c.loop-item.before in
+    let used = c.in_ok-used.used in
+    let v = c.in-Some.value in
+    let inner = take (length octets - at) (drop at octets) in
+    let all : inner ≡ drop at octets = take_rest octets at in
+    let read : IsRead rule type (room - at) (drop at octets) (Some v) used = subst₂ (λ x s. IsRead rule type (room - at) x s used) all c.in-Some.is c.in_ok-used.ensures.value in
+    let size : (at + used) - at ≡ used = omega arith in
+    let told : c.comes_before.result ≡ is_lt (slice_cmp nat_cmp (take used (drop at octets)) (between octets before at)) = subst (λ n. c.comes_before.result ≡ is_lt (slice_cmp nat_cmp (take n (drop at octets)) (between octets before at))) size c.comes_before.ensures in
+    none_out_of_order rule type d room octets more c.loop-item.items.items v before at used c.requires.good c.loop-item.invariant read (sym told ∙ c.if-comes_before.true) h
+
+pub items::read_ordered-loop-item-smaller : goal.items::read_ordered-loop-item-smaller
+items::read_ordered-loop-item-smaller t c =
+    let octets = c.args.octets.now in
+    let rule = rule_of c.args.rule in
+    let type = ty_view c.args.inner.now in
+    let d = c.args.inside.now.definite in
+    let room = c.args.inside.now.room in
+    let at = c.loop-item.at in
+    let before = c.loop-item.before in
+    let last = between octets before at in
+    let inner = take (length octets - at) (drop at octets) in
+    let all : inner ≡ drop at octets = take_rest octets at in
+    let read = subst (λ x. IsRead rule type (room - at) x c.read_one.new.slot c.in_ok-used.used) all c.in_ok-used.ensures.value in
+    let some = read_some rule type (room - at) (drop at octets) c.read_one.new.slot c.in_ok-used.used c.requires.good read in
+    omega (arith, some, read.0, length-drop at octets, c.loop-item.invariant.there)
+
+pub items::read_ordered-loop-item-preserved : goal.items::read_ordered-loop-item-preserved
+items::read_ordered-loop-item-preserved t c =
+    let octets = c.args.octets.now in
+    let rule = rule_of c.args.rule in
+    let type = ty_view c.args.inner.now in
+    let d = c.args.inside.now.definite in
+    let room = c.args.inside.now.room in
+    let at = c.loop-item.at in
+    let before = c.loop-item.before in
+    let used = c.in_ok-used.used in
+    let v = c.in-Some.value in
+    let inner = take (length octets - at) (drop at octets) in
+    let all : inner ≡ drop at octets = take_rest octets at in
+    let read : IsRead rule type (room - at) (drop at octets) (Some v) used = subst₂ (λ x s. IsRead rule type (room - at) x s used) all c.in-Some.is c.in_ok-used.ensures.value in
+    let size : (at + used) - at ≡ used = omega arith in
+    let told : c.comes_before.result ≡ is_lt (slice_cmp nat_cmp (take used (drop at octets)) (between octets before at)) = subst (λ n. c.comes_before.result ≡ is_lt (slice_cmp nat_cmp (take n (drop at octets)) (between octets before at))) size c.comes_before.ensures in
+    let more = ordered_read rule type d room octets c.loop-item.items.items v before at used c.requires.good c.loop-item.invariant read (sym told ∙ c.if-comes_before.false) in
+    subst (λ l. AreOrderedRead rule type d room octets l at (at + used)) (sym (c.push_reserved.ensures.items ∙ ap (λ l. l ++ (v ∷ [])) c.reserve.ensures.items)) more
+
+pub parts::read_chosen-returns-in_err-tag-clause-refused : goal.parts::read_chosen-returns-in_err-tag-clause-refused
+parts::read_chosen-returns-in_err-tag-clause-refused t c =
+    let octets = c.args.octets.now in
+    let rule = rule_of c.args.rule in
+    let xs = c.args.alternatives.now in
+    let room = c.args.room in
+    let shape = Shape.choice (alternatives_view xs) in
+    let Q = HasPart rule shape room in
+    bars_through c.from_residual.result _ Q octets c.from_residual.ensures.1
+    (bars_of _ Q octets
+    (λ same h. let k = tag_of_part rule shape room octets c.requires.good h in c.in_err-tag.ensures.truncated (ap Err same) k.tag k.within k.head)
+    (λ final more h. let k = tag_of_part rule shape room (octets ++ more) c.requires.good h in c.in_err-tag.ensures.never final more k.tag k.within k.head))
+
+pub parts::read_chosen-loop-which-init : goal.parts::read_chosen-loop-which-init
+parts::read_chosen-loop-which-init t c = λ more h. choice_of_part (rule_of c.args.rule) (map alternative_view c.args.alternatives.now) c.args.room (c.args.octets.now ++ more) h
+
+pub parts::read_chosen-read_one-requires : goal.parts::read_chosen-read_one-requires
+parts::read_chosen-read_one-requires t c =
+    let octets = c.args.octets.now in
+    let rule = rule_of c.args.rule in
+    let xs = c.args.alternatives.now in
+    let room = c.args.room in
+    let shape = Shape.choice (alternatives_view xs) in
+    let i = c.loop-which.which in
+    let a = c.index-alternatives-which.result in
+    let bound : i < length xs = c.loop-which-test.true in
+    let is = c.index-alternatives-which.is in
+    let left = map alternative_view (drop (i + 1) xs) in
+    let here = choices.here_of xs i a bound is in
+    let read = c.in_ok-tag.ensures.value in
+    let type : (alternative_view a).type ≡ ty_view a.ty = alternative_type a in
+    let good = subst IsGoodType type (good_at xs i a bound is c.requires.good) in
+    (search (rules, node.the_lemmas, alternative.the_lemmas, bound, is), (good, c.requires.room))
+
+pub parts::read_chosen-returns-in_err-used-clause-refused : goal.parts::read_chosen-returns-in_err-used-clause-refused
+parts::read_chosen-returns-in_err-used-clause-refused t c =
+    let octets = c.args.octets.now in
+    let rule = rule_of c.args.rule in
+    let xs = c.args.alternatives.now in
+    let room = c.args.room in
+    let shape = Shape.choice (alternatives_view xs) in
+    let i = c.loop-which.which in
+    let a = c.index-alternatives-which.result in
+    let bound : i < length xs = c.loop-which-test.true in
+    let is = c.index-alternatives-which.is in
+    let left = map alternative_view (drop (i + 1) xs) in
+    let here = choices.here_of xs i a bound is in
+    let read = c.in_ok-tag.ensures.value in
+    let type : (alternative_view a).type ≡ ty_view a.ty = alternative_type a in
+    let Q = HasPart rule shape room in
+    let P = HasPart rule (ty_view a.ty) room in
+    let on : c.begins.result ≡ true = search rules in
+    let first = subst (λ x. Contains (first_tags x) c.in_ok-tag.tag) (sym type) (c.begins.ensures.0 on) in
+    let distinct = subst (λ l. AreDistinct (tags_of_alternatives (alternatives_of l))) (drop-map alternative_view i xs ∙ here) (distinct_from (map alternative_view xs) i c.requires.good.tags.0) in
+    bars_through c.from_residual-in_err-used.result _ Q octets c.from_residual-in_err-used.ensures.1
+    (bars_by _ Q P octets octets (λ more h. subst (λ x. HasPart rule x room (octets ++ more)) type (this_one rule (alternative_view a) left room octets more c.in_ok-tag.tag c.in_ok-tag.field-0-1 c.in_ok-tag.field-0-2 distinct read first (subst (λ l. HasChoice rule l room (octets ++ more)) here (c.loop-which.invariant more h))))
+    c.in_err-used.ensures.refused)
+
+pub parts::read_chosen-returns-then-begins-clause-value : goal.parts::read_chosen-returns-then-begins-clause-value
+parts::read_chosen-returns-then-begins-clause-value t c =
+    let octets = c.args.octets.now in
+    let rule = rule_of c.args.rule in
+    let xs = c.args.alternatives.now in
+    let room = c.args.room in
+    let shape = Shape.choice (alternatives_view xs) in
+    let i = c.loop-which.which in
+    let a = c.index-alternatives-which.result in
+    let bound : i < length xs = c.loop-which-test.true in
+    let is = c.index-alternatives-which.is in
+    let left = map alternative_view (drop (i + 1) xs) in
+    let here = choices.here_of xs i a bound is in
+    let read = c.in_ok-tag.ensures.value in
+    let type : (alternative_view a).type ≡ ty_view a.ty = alternative_type a in
+    let v = c.in-Some.value in
+    let one = subst (λ s. IsRead rule (ty_view a.ty) room octets s c.in_ok-used.used) c.in-Some.is c.in_ok-used.ensures.value in
+    chosen_read rule xs i a room octets v c.in-Ok.boxed c.in_ok-used.used bound is c.in-Ok.ensures.ok one
+
+pub parts::read_chosen-loop-which-preserved : goal.parts::read_chosen-loop-which-preserved
+parts::read_chosen-loop-which-preserved t c = λ more h.
+    let octets = c.args.octets.now in
+    let rule = rule_of c.args.rule in
+    let xs = c.args.alternatives.now in
+    let room = c.args.room in
+    let shape = Shape.choice (alternatives_view xs) in
+    let i = c.loop-which.which in
+    let a = c.index-alternatives-which.result in
+    let bound : i < length xs = c.loop-which-test.true in
+    let is = c.index-alternatives-which.is in
+    let left = map alternative_view (drop (i + 1) xs) in
+    let here = choices.here_of xs i a bound is in
+    let read = c.in_ok-tag.ensures.value in
+    let type : (alternative_view a).type ≡ ty_view a.ty = alternative_type a in
+    let none : Contains (first_tags (alternative_view a).type) c.in_ok-tag.tag → ⊥ = λ k. let on : c.begins.result ≡ true = c.begins.ensures.1 (subst (λ x. Contains (first_tags x) c.in_ok-tag.tag) type k) in search (rules, on) in
+    not_this rule (alternative_view a) left room octets more c.in_ok-tag.tag c.in_ok-tag.field-0-1 c.in_ok-tag.field-0-2 read none (subst (λ l. HasChoice rule l room (octets ++ more)) here (c.loop-which.invariant more h))
+
+pub items::read_list-returns-in-Ok-clause-value : goal.items::read_list-returns-in-Ok-clause-value
+items::read_list-returns-in-Ok-clause-value t c =
+    let octets = c.args.octets.now in
+    let rule = rule_of c.args.rule in
+    let type = ty_view c.args.inner.now in
+    let inside = c.in_ok-inside.inside in
+    let used = c.in-Ok.used in
+    let items = c.read_items.new.items in
+    let all : take (length octets - inside.start) (drop inside.start octets) ≡ drop inside.start octets = take_rest octets inside.start in
+    let read = subst (λ x. AreItemsRead rule type inside.definite inside.room x items.items used × EndsHere inside.definite (inside.room - used) (drop used x)) all c.in-Ok.ensures.value in
+    list_read rule c.args.tag type c.args.room octets inside items used c.close.result c.in_ok-inside.ensures.value read.0 read.1 c.close.ensures
+
+pub items::read_list-returns-in-Err-clause-refused : goal.items::read_list-returns-in-Err-clause-refused
+items::read_list-returns-in-Err-clause-refused t c =
+    let octets = c.args.octets.now in
+    let rule = rule_of c.args.rule in
+    let type = ty_view c.args.inner.now in
+    let inside = c.in_ok-inside.inside in
+    let start = inside.start in
+    let inner = take (length octets - start) (drop start octets) in
+    let all : inner ≡ drop start octets = take_rest octets start in
+    let Q = HasPart rule (Shape.sequence_of c.args.tag type) c.args.room in
+    let P = HasItems rule type inside.definite inside.room in
+    bars_named c.in-Err.refusal c.named.result Q octets c.named.ensures.follows
+    (bars_by _ Q P octets inner (λ more h. subst (λ x. P (x ++ more)) (sym all) (items_inside rule c.args.tag type c.args.room octets more inside c.in_ok-inside.ensures.value h))
+    c.in-Err.ensures.refused)
+
+pub items::read_set_of-returns-in-Ok-clause-value : goal.items::read_set_of-returns-in-Ok-clause-value
+items::read_set_of-returns-in-Ok-clause-value t c =
+    let octets = c.args.octets.now in
+    let rule = rule_of c.args.rule in
+    let type = ty_view c.args.inner.now in
+    let inside = c.in_ok-inside.inside in
+    let used = c.in-Ok.used in
+    let items = c.read_ordered.new.items in
+    let all : take (length octets - inside.start) (drop inside.start octets) ≡ drop inside.start octets = take_rest octets inside.start in
+    let read = subst (λ x. (before : ℕ) × AreOrderedRead rule type inside.definite inside.room x items.items before used × EndsHere inside.definite (inside.room - used) (drop used x)) all c.in-Ok.ensures.value in
+    set_of_read c.args.rule c.args.tag type c.args.room octets inside items read.0 used c.close.result c.in_ok-inside.ensures.value read.1 read.2 c.close.ensures
+
+pub items::read_set_of-returns-in-Err-clause-refused : goal.items::read_set_of-returns-in-Err-clause-refused
+items::read_set_of-returns-in-Err-clause-refused t c =
+    let octets = c.args.octets.now in
+    let rule = rule_of c.args.rule in
+    let type = ty_view c.args.inner.now in
+    let inside = c.in_ok-inside.inside in
+    let start = inside.start in
+    let inner = take (length octets - start) (drop start octets) in
+    let all : inner ≡ drop start octets = take_rest octets start in
+    let Q = HasPart rule (Shape.set_of c.args.tag type) c.args.room in
+    let P = HasOrdered rule type inside.definite inside.room [] in
+    bars_named c.in-Err.refusal c.named.result Q octets c.named.ensures.follows
+    (bars_by _ Q P octets inner (λ more h. subst (λ x. P (x ++ more)) (sym all) (ordered_inside c.args.rule c.args.tag type c.args.room octets more inside c.in_ok-inside.ensures.value h))
+    c.in-Err.ensures.refused)
+
+pub parts::read_chosen-returns-clause-refused : goal.parts::read_chosen-returns-clause-refused
+parts::read_chosen-returns-clause-refused t c = λ more may h.
+    let octets = c.args.octets.now in
+    let rule = rule_of c.args.rule in
+    let xs = c.args.alternatives.now in
+    let room = c.args.room in
+    let all : drop c.loop-which.which xs ≡ [] = drop_all c.loop-which.which xs (omega arith) in
+    none_left rule room (octets ++ more) (subst (λ l. HasChoice rule (map alternative_view l) room (octets ++ more)) all (c.loop-which.invariant more h))
+
+pub parts::read_alone-returns-in_err-front_tag-clause-refused : goal.parts::read_alone-returns-in_err-front_tag-clause-refused
+parts::read_alone-returns-in_err-front_tag-clause-refused t c =
+    let octets = c.args.octets.now in
+    let rule = rule_of c.args.rule in
+    let type = ty_view c.args.ty.now in
+    let d = c.args.inside.now.definite in
+    let room = c.args.inside.now.room in
+    let used = c.in_ok-used.used in
+    let inner = take (length octets - used) (drop used octets) in
+    let all : inner ≡ drop used octets = take_rest octets used in
+    let Q = HasAlone rule type d room in
+    let P = EndsOrBegins d (room - used) in
+    bars_through c.from_residual-in_err-front_tag.result _ Q octets c.from_residual-in_err-front_tag.ensures.1
+    (bars_by _ Q P octets inner (λ more h. inl (subst (λ x. EndsHere d (room - used) (x ++ more)) (sym all) (ends_alone rule type d room octets more c.read_one.new.slot used c.requires.good c.in_ok-used.ensures.value h)))
+    c.in_err-front_tag.ensures.refused)
+
+pub parts::read_alone-returns-in-Some-clause-refused : goal.parts::read_alone-returns-in-Some-clause-refused
+parts::read_alone-returns-in-Some-clause-refused t c = λ more may h.
+    let octets = c.args.octets.now in
+    let rule = rule_of c.args.rule in
+    let type = ty_view c.args.ty.now in
+    let d = c.args.inside.now.definite in
+    let room = c.args.inside.now.room in
+    let used = c.in_ok-used.used in
+    let inner = take (length octets - used) (drop used octets) in
+    let all : inner ≡ drop used octets = take_rest octets used in
+    let front : IsFront (Some c.in-Some.field-0) d (room - used) inner = subst (λ f. IsFront f d (room - used) inner) c.in-Some.is c.in_ok-front_tag.ensures.value in
+    front.1 more (subst (λ x. EndsHere d (room - used) (x ++ more)) (sym all) (ends_alone rule type d room octets more c.read_one.new.slot used c.requires.good c.in_ok-used.ensures.value h))
+
+pub parts::read_explicit-returns-in-Ok-clause-value : goal.parts::read_explicit-returns-in-Ok-clause-value
+parts::read_explicit-returns-in-Ok-clause-value t c =
+    let octets = c.args.octets.now in
+    let rule = rule_of c.args.rule in
+    let type = ty_view c.args.inner.now in
+    let inside = c.in_ok-inside.inside in
+    let used = c.in-Ok.used in
+    let slot = c.read_alone.new.slot in
+    let all : take (length octets - inside.start) (drop inside.start octets) ≡ drop inside.start octets = take_rest octets inside.start in
+    let read = subst (λ x. IsRead rule type inside.room x slot used × EndsHere inside.definite (inside.room - used) (drop used x)) all c.in-Ok.ensures.value in
+    explicit_read rule c.args.tag type c.args.room octets inside slot used c.close.result c.in_ok-inside.ensures.value read.0 read.1 c.close.ensures
+
+pub parts::read_explicit-returns-in-Err-clause-refused : goal.parts::read_explicit-returns-in-Err-clause-refused
+parts::read_explicit-returns-in-Err-clause-refused t c =
+    let octets = c.args.octets.now in
+    let rule = rule_of c.args.rule in
+    let type = ty_view c.args.inner.now in
+    let inside = c.in_ok-inside.inside in
+    let start = inside.start in
+    let inner = take (length octets - start) (drop start octets) in
+    let all : inner ≡ drop start octets = take_rest octets start in
+    let Q = HasPart rule (Shape.explicit c.args.tag type) c.args.room in
+    let P = HasAlone rule type inside.definite inside.room in
+    bars_named c.in-Err.refusal c.named.result Q octets c.named.ensures.follows
+    (bars_by _ Q P octets inner (λ more h. subst (λ x. P (x ++ more)) (sym all) (alone_inside rule c.args.tag type c.args.room octets more inside c.in_ok-inside.ensures.value h))
+    c.in-Err.ensures.refused)
+
+pub components::read_sequence-read_components-requires : goal.components::read_sequence-read_components-requires
+components::read_sequence-read_components-requires t c =
+    let fields = c.args.fields.now in
+    let within : c.in_ok-inside.inside.room ≤ MAX_ENCODING = omega (arith, c.in_ok-inside.ensures.value.fits, c.requires.room) in
+    (search (rules, node.the_lemmas), (good_components c.args.tag fields c.requires.good, (c.requires.good.tags.0.1, (within, c.reserve_exact.ensures.items ∙ c.new-slots.ensures.items))))
+
+pub components::read_sequence-returns-in-Ok-clause-value : goal.components::read_sequence-returns-in-Ok-clause-value
+components::read_sequence-returns-in-Ok-clause-value t c =
+    let octets = c.args.octets.now in
+    let rule = rule_of c.args.rule in
+    let components = map field_view c.args.fields.now in
+    let inside = c.in_ok-inside.inside in
+    let used = c.in-Ok.used in
+    let slots = c.read_components.new.slots in
+    let all : take (length octets - inside.start) (drop inside.start octets) ≡ drop inside.start octets = take_rest octets inside.start in
+    let read = subst (λ x. AreComponentsRead rule components [] inside.definite inside.room x slots.items used × EndsHere inside.definite (inside.room - used) (drop used x)) all c.in-Ok.ensures.value in
+    sequence_read rule c.args.tag c.args.fields.now c.args.room octets inside slots used c.close.result c.in_ok-inside.ensures.value read.0 read.1 c.close.ensures
+
+pub components::read_sequence-returns-in-Err-clause-refused : goal.components::read_sequence-returns-in-Err-clause-refused
+components::read_sequence-returns-in-Err-clause-refused t c =
+    let octets = c.args.octets.now in
+    let rule = rule_of c.args.rule in
+    let components = map field_view c.args.fields.now in
+    let inside = c.in_ok-inside.inside in
+    let start = inside.start in
+    let inner = take (length octets - start) (drop start octets) in
+    let all : inner ≡ drop start octets = take_rest octets start in
+    let Q = HasPart rule (Shape.sequence c.args.tag (components_view c.args.fields.now)) c.args.room in
+    let P = HasComponents rule components inside.definite inside.room in
+    bars_named c.in-Err.refusal c.named.result Q octets c.named.ensures.follows
+    (bars_by _ Q P octets inner (λ more h. subst (λ x. P (x ++ more)) (sym all) (components_inside rule c.args.tag components c.args.room octets more inside c.in_ok-inside.ensures.value h))
+    c.in-Err.ensures.refused)
+
+pub components::read_components-returns-in_err-front-clause-refused : goal.components::read_components-returns-in_err-front-clause-refused
+components::read_components-returns-in_err-front-clause-refused t c =
+    let octets = c.args.octets.now in
+    let rule = c.args.rule in
+    let fields = c.args.fields.now in
+    let d = c.args.inside.now.definite in
+    let room = c.args.inside.now.room in
+    let Q = HasComponents (rule_of rule) (map field_view fields) d room in
+    bars_through c.from_residual.result _ Q octets c.from_residual.ensures.1
+    (bars_by _ Q (EndsOrBegins d room) octets octets (λ more h. ends_or_begins rule (map field_view fields) d room (octets ++ more) c.requires.good h) c.in_err-front.ensures.refused)
+
+pub components::read_components-loop-place-init : goal.components::read_components-loop-place-init
+components::read_components-loop-place-init t c =
+    let octets = c.args.octets.now in
+    let rule = c.args.rule in
+    let fields = c.args.fields.now in
+    let d = c.args.inside.now.definite in
+    let room = c.args.inside.now.room in
+    (none_read (rule_of rule) (map field_view fields) d room octets c.args.slots.now.items c.requires.none, subst (λ n. IsFront c.in_ok-front.front d n octets) (omega arith) c.in_ok-front.ensures.value)
+
+pub components::read_components-read_component-requires : goal.components::read_components-read_component-requires
+components::read_components-read_component-requires t c =
+    let octets = c.args.octets.now in
+    let rule = c.args.rule in
+    let fields = c.args.fields.now in
+    let d = c.args.inside.now.definite in
+    let room = c.args.inside.now.room in
+    let i = c.loop-place.place in
+    let f = c.index-fields-place.result in
+    let bound : i < length fields = c.loop-place-test.true in
+    let is = c.index-fields-place.is in
+    let run = run_at fields i f bound is c.requires.good c.requires.runs in
+    let at = c.loop-place.at in
+    let inner = take (length octets - at) (drop at octets) in
+    let all : inner ≡ drop at octets = take_rest octets at in
+    let others = map field_view (drop (i + 1) fields) in
+    (search (rules, node.the_lemmas, field.the_lemmas, bound, is), (run.good, (omega (arith, c.requires.room), (subst (IsFront c.loop-place.front d (room - at)) (sym all) c.loop-place.invariant.1, refl))))
+
+pub components::read_components-returns-in_err-at-clause-refused : goal.components::read_components-returns-in_err-at-clause-refused
+components::read_components-returns-in_err-at-clause-refused t c =
+    let octets = c.args.octets.now in
+    let rule = c.args.rule in
+    let fields = c.args.fields.now in
+    let d = c.args.inside.now.definite in
+    let room = c.args.inside.now.room in
+    let i = c.loop-place.place in
+    let f = c.index-fields-place.result in
+    let bound : i < length fields = c.loop-place-test.true in
+    let is = c.index-fields-place.is in
+    let run = run_at fields i f bound is c.requires.good c.requires.runs in
+    let at = c.loop-place.at in
+    let inner = take (length octets - at) (drop at octets) in
+    let all : inner ≡ drop at octets = take_rest octets at in
+    let others = map field_view (drop (i + 1) fields) in
+    let so_far = subst (λ l. AreComponentsRead (rule_of rule) (map field_view (take i fields)) l d room octets c.loop-place.slots.items at) run.here c.loop-place.invariant.0 in
+    let Q = HasComponents (rule_of rule) (map field_view fields) d room in
+    let P = HasComponents (rule_of rule) (field_view f ∷ others) d (room - at) in
+    bars_through c.from_residual-in_err-at.result _ Q octets c.from_residual-in_err-at.ensures.1
+    (bars_by _ Q P octets inner (λ more h. subst (λ x. P (x ++ more)) (sym all) (so_far.forth more (subst (λ l. HasComponents (rule_of rule) l d room (octets ++ more)) (whole_of fields i f bound is) h)))
+    (c.in_err-at.ensures.refused others run.runs run.goods))
+
+pub components::read_components-overflow_add-at : goal.components::read_components-overflow_add-at
+components::read_components-overflow_add-at t c =
+    let octets = c.args.octets.now in
+    let rule = c.args.rule in
+    let fields = c.args.fields.now in
+    let d = c.args.inside.now.definite in
+    let room = c.args.inside.now.room in
+    let i = c.loop-place.place in
+    let f = c.index-fields-place.result in
+    let bound : i < length fields = c.loop-place-test.true in
+    let is = c.index-fields-place.is in
+    let run = run_at fields i f bound is c.requires.good c.requires.runs in
+    let at = c.loop-place.at in
+    let inner = take (length octets - at) (drop at octets) in
+    let all : inner ≡ drop at octets = take_rest octets at in
+    let others = map field_view (drop (i + 1) fields) in
+    let so_far = subst (λ l. AreComponentsRead (rule_of rule) (map field_view (take i fields)) l d room octets c.loop-place.slots.items at) run.here c.loop-place.invariant.0 in
+    let one = c.in_ok-at.ensures.value.0 others run.runs run.goods in
+    omega (arith, one.within, c.requires.room, so_far.within)
+
+pub components::read_components-loop-place-preserved : goal.components::read_components-loop-place-preserved
+components::read_components-loop-place-preserved t c =
+    let octets = c.args.octets.now in
+    let rule = c.args.rule in
+    let fields = c.args.fields.now in
+    let d = c.args.inside.now.definite in
+    let room = c.args.inside.now.room in
+    let i = c.loop-place.place in
+    let f = c.index-fields-place.result in
+    let bound : i < length fields = c.loop-place-test.true in
+    let is = c.index-fields-place.is in
+    let run = run_at fields i f bound is c.requires.good c.requires.runs in
+    let at = c.loop-place.at in
+    let inner = take (length octets - at) (drop at octets) in
+    let all : inner ≡ drop at octets = take_rest octets at in
+    let others = map field_view (drop (i + 1) fields) in
+    let so_far = subst (λ l. AreComponentsRead (rule_of rule) (map field_view (take i fields)) l d room octets c.loop-place.slots.items at) run.here c.loop-place.invariant.0 in
+    let used = c.in_ok-at.field-0 in
+    let slots = c.loop-place.slots.items in
+    let slot = c.read_component.new.slot in
+    let one = subst (λ x. AreComponentsRead (rule_of rule) (field_view f ∷ []) others d (room - at) x (slot ∷ []) used) all (c.in_ok-at.ensures.value.0 others run.runs run.goods) in
+    let more = component_more (rule_of rule) (map field_view (take i fields)) (field_view f) others d room octets slots slot at used so_far one in
+    let pushed : c.push_reserved.new.self.items ≡ slots ++ (slot ∷ []) = c.push_reserved.ensures.items ∙ ap (λ l. l ++ (slot ∷ [])) c.reserve.ensures.items in
+    let front = subst (λ x. IsFront c.read_component.new.front d ((room - at) - used) (drop used x)) all c.in_ok-at.ensures.value.1 in
+    let left : (room - at) - used ≡ room - (at + used) = omega arith in (
+      subst₂ (λ first l. AreComponentsRead (rule_of rule) first others d room octets l (at + used)) (sym (first_of fields i f bound is)) (sym pushed) more,
+      subst₂ (λ n x. IsFront c.read_component.new.front d n x) left (drop-drop used at octets) front,
+    )
+
+pub components::read_components-returns-in-Some-clause-refused : goal.components::read_components-returns-in-Some-clause-refused
+components::read_components-returns-in-Some-clause-refused t c = λ more may h.
+    let octets = c.args.octets.now in
+    let rule = c.args.rule in
+    let fields = c.args.fields.now in
+    let d = c.args.inside.now.definite in
+    let room = c.args.inside.now.room in
+    let i = c.loop-place.place in
+    let at = c.loop-place.at in
+    let past : length fields ≤ i = c.loop-place-test.false in
+    let none : drop i fields ≡ [] = drop_all i fields past in
+    let whole : take i fields ≡ fields = take_all i fields past in
+    let read = subst₂ (λ first others. AreComponentsRead (rule_of rule) (map field_view first) (map field_view others) d room octets c.loop-place.slots.items at) whole none c.loop-place.invariant.0 in
+    let left = read.forth more (subst (λ l. HasComponents (rule_of rule) l d room (octets ++ more)) (sym (append-nil (map field_view fields))) h) in
+    let front : IsFront (Some c.in-Some.tag) d (room - at) (drop at octets) = subst (λ f. IsFront f d (room - at) (drop at octets)) c.in-Some.is c.loop-place.invariant.1 in
+    front.1 more (ends_behind (rule_of rule) d (room - at) (drop at octets ++ more) left)
+
+pub components::read_component-returns-then-may_be_absent-clause-value : goal.components::read_component-returns-then-may_be_absent-clause-value
+components::read_component-returns-then-may_be_absent-clause-value t c =
+    let octets = c.args.octets.now in
+    let rule = c.args.rule in
+    let f = c.args.field.now in
+    let view = field_view f in
+    let type = view.type in
+    let d = c.args.definite in
+    let room = c.args.room in
+    let same : ty_view f.ty ≡ type = sym (field_type f) in
+    let found = front_known c.args.front.now c.is_next.result (ty_view f.ty) d room octets c.requires.front c.is_next.ensures in
+    let off : c.is_next.result ≡ false = search rules in
+    let known : IsStandingKnown false type d room octets = subst₂ (λ b t. IsStandingKnown b t d room octets) off same found in
+    let yes : c.may_be_absent.result ≡ true = search rules in
+    let may : MayBeAbsent view.requirement = subst MayBeAbsent (sym (field_requirement f)) (c.may_be_absent.ensures.0 yes) in
+    (λ others runs goods. absent_read rule view others d room octets c.args.slot.now c.requires.none may c.requires.good.type known, subst (λ n. IsFront c.args.front.now d n octets) (omega arith) c.requires.front)
+
+pub components::read_component-returns-then-not-is_next-clause-refused : goal.components::read_component-returns-then-not-is_next-clause-refused
+components::read_component-returns-then-not-is_next-clause-refused t c = λ others runs goods more may h.
+    let octets = c.args.octets.now in
+    let rule = c.args.rule in
+    let f = c.args.field.now in
+    let view = field_view f in
+    let type = view.type in
+    let d = c.args.definite in
+    let room = c.args.room in
+    let same : ty_view f.ty ≡ type = sym (field_type f) in
+    let found = front_known c.args.front.now c.is_next.result (ty_view f.ty) d room octets c.requires.front c.is_next.ensures in
+    let off : c.is_next.result ≡ false = search rules in
+    let known : IsStandingKnown false type d room octets = subst₂ (λ b t. IsStandingKnown b t d room octets) off same found in
+    let left = none_stands rule view others d room (octets ++ more) c.requires.good.type (known more) h in
+    let yes : c.may_be_absent.result ≡ true = c.may_be_absent.ensures.1 (subst MayBeAbsent (field_requirement f) left.may) in
+    search (rules, yes)
+
+pub components::read_component-returns-in_err-used-clause-refused : goal.components::read_component-returns-in_err-used-clause-refused
+components::read_component-returns-in_err-used-clause-refused t c =
+    let octets = c.args.octets.now in
+    let rule = c.args.rule in
+    let f = c.args.field.now in
+    let view = field_view f in
+    let type = view.type in
+    let d = c.args.definite in
+    let room = c.args.room in
+    let same : ty_view f.ty ≡ type = sym (field_type f) in
+    let found = front_known c.args.front.now c.is_next.result (ty_view f.ty) d room octets c.requires.front c.is_next.ensures in
+    let on : c.is_next.result ≡ true = search rules in
+    let known : IsStandingKnown true type d room octets = subst₂ (λ b t. IsStandingKnown b t d room octets) on same found in
+    IfErr-from c.from_residual.result _ (BarsComponents (rule_of rule) view d room octets) c.from_residual.ensures.1 (λ r is others runs goods.
+    let Q = HasComponents (rule_of rule) (view ∷ others) d room in
+    let P = HasPresent (rule_of rule) view room in
+    subst (λ x. Bars x Q octets) (sym is) (bars_by _ Q P octets octets (λ more h. present_stands rule view others d room octets more runs goods known h) c.in_err-used.ensures.refused))
+
+pub components::read_component-returns-in_err-front-clause-refused : goal.components::read_component-returns-in_err-front-clause-refused
+components::read_component-returns-in_err-front-clause-refused t c =
+    let octets = c.args.octets.now in
+    let rule = c.args.rule in
+    let f = c.args.field.now in
+    let view = field_view f in
+    let type = view.type in
+    let d = c.args.definite in
+    let room = c.args.room in
+    let same : ty_view f.ty ≡ type = sym (field_type f) in
+    let found = front_known c.args.front.now c.is_next.result (ty_view f.ty) d room octets c.requires.front c.is_next.ensures in
+    let used = c.in_ok-used.used in
+    let slot = c.read_present.new.slot in
+    let inner = take (length octets - used) (drop used octets) in
+    let all : inner ≡ drop used octets = take_rest octets used in
+    IfErr-from c.from_residual-in_err-front.result _ (BarsComponents (rule_of rule) view d room octets) c.from_residual-in_err-front.ensures.1 (λ r is others runs goods.
+    let Q = HasComponents (rule_of rule) (view ∷ others) d room in
+    let P = EndsOrBegins d (room - used) in
+    let read = stands_read rule view others d room octets slot used c.requires.good.type runs goods c.in_ok-used.ensures.value in
+    subst (λ x. Bars x Q octets) (sym is) (bars_by _ Q P octets inner (λ more h. subst (λ x. P (x ++ more)) (sym all) (ends_or_begins rule others d (room - used) (drop used octets ++ more) goods (read.forth more h))) c.in_err-front.ensures.refused))
+
+pub components::read_component-returns-clause-value : goal.components::read_component-returns-clause-value
+components::read_component-returns-clause-value t c =
+    let octets = c.args.octets.now in
+    let rule = c.args.rule in
+    let f = c.args.field.now in
+    let view = field_view f in
+    let type = view.type in
+    let d = c.args.definite in
+    let room = c.args.room in
+    let same : ty_view f.ty ≡ type = sym (field_type f) in
+    let found = front_known c.args.front.now c.is_next.result (ty_view f.ty) d room octets c.requires.front c.is_next.ensures in
+    let used = c.in_ok-used.used in
+    let slot = c.read_present.new.slot in
+    let inner = take (length octets - used) (drop used octets) in
+    let all : inner ≡ drop used octets = take_rest octets used in
+    (λ others runs goods. stands_read rule view others d room octets slot used c.requires.good.type runs goods c.in_ok-used.ensures.value, subst (IsFront c.in_ok-front.field-0 d (room - used)) all c.in_ok-front.ensures.value)
+
+pub components::read_present-returns-in_err-used-clause-refused : goal.components::read_present-returns-in_err-used-clause-refused
+components::read_present-returns-in_err-used-clause-refused t c =
+    let octets = c.args.octets.now in
+    let rule = rule_of c.args.rule in
+    let f = c.args.field.now in
+    let view = field_view f in
+    let room = c.args.room in
+    let same : ty_view f.ty ≡ view.type = sym (field_type f) in
+    let Q = HasPresent rule view room in
+    let P = HasPart rule (ty_view f.ty) room in
+    bars_through c.from_residual.result _ Q octets c.from_residual.ensures.1
+    (bars_by _ Q P octets octets (λ more h. subst (λ t. HasPart rule t room (octets ++ more)) (sym same) (part_of_present rule view room (octets ++ more) h)) c.in_err-used.ensures.refused)
+
+pub components::read_present-returns-then-is_spelt_out-clause-refused : goal.components::read_present-returns-then-is_spelt_out-clause-refused
+components::read_present-returns-then-is_spelt_out-clause-refused t c = λ more may h.
+    let octets = c.args.octets.now in
+    let rule = rule_of c.args.rule in
+    let f = c.args.field.now in
+    let view = field_view f in
+    let room = c.args.room in
+    let same : ty_view f.ty ≡ view.type = sym (field_type f) in
+    let slot = c.read_one.new.slot in
+    let on : c.is_spelt_out.result ≡ true = search rules in
+    let spelt = subst (λ r. MatchOption slot (Unit {0}) (λ v. IsSlotOf r (value_view v) None)) (sym (field_requirement f)) (c.is_spelt_out.ensures.default on) in
+    let read = subst (λ t. IsRead rule t room octets slot c.in_ok-used.used) same c.in_ok-used.ensures.value in
+    none_spelt_out rule view room octets more slot c.in_ok-used.used c.requires.good read spelt h
+
+pub members::read_members-loop-tag-init : goal.members::read_members-loop-tag-init
+members::read_members-loop-tag-init t c = no_members (rule_of c.args.rule) (map field_view c.args.fields.now) c.args.inside.now.definite c.args.inside.now.room c.args.octets.now c.args.slots.now.items c.requires.none
+
+pub members::read_members-returns-in_err-tag-clause-refused : goal.members::read_members-returns-in_err-tag-clause-refused
+members::read_members-returns-in_err-tag-clause-refused t c =
+    let octets = c.args.octets.now in
+    let rule = rule_of c.args.rule in
+    let fields = c.args.fields.now in
+    let cs = map field_view fields in
+    let d = c.args.inside.now.definite in
+    let room = c.args.inside.now.room in
+    let at = c.loop-tag.at in
+    let slots = c.loop-tag.slots.items in
+    let last = c.loop-tag.last in
+    let read = c.loop-tag.invariant in
+    let inner = take (length octets - at) (drop at octets) in
+    let all : inner ≡ drop at octets = take_rest octets at in
+    let Q = HasMembers rule cs (map (λ k. None) cs) None d room in
+    let P = EndsOrBegins d (room - at) in
+    bars_through c.from_residual.result _ Q octets c.from_residual.ensures.1
+    (bars_by _ Q P octets inner (λ more h. subst (λ x. P (x ++ more)) (sym all) (members_begin rule cs slots last d (room - at) (drop at octets ++ more) c.requires.good (read.forth more h)))
+    c.in_err-tag.ensures.refused)
+
+pub members::read_members-place_due-requires-clause-slots : goal.members::read_members-place_due-requires-clause-slots
+members::read_members-place_due-requires-clause-slots t c =
+    let octets = c.args.octets.now in
+    let rule = rule_of c.args.rule in
+    let fields = c.args.fields.now in
+    let cs = map field_view fields in
+    let d = c.args.inside.now.definite in
+    let room = c.args.inside.now.room in
+    let at = c.loop-tag.at in
+    let slots = c.loop-tag.slots.items in
+    let last = c.loop-tag.last in
+    let read = c.loop-tag.invariant in
+    let inner = take (length octets - at) (drop at octets) in
+    let all : inner ≡ drop at octets = take_rest octets at in
+    ap length c.deref.ensures.value ∙ (come_length rule cs slots read.encodings read.each ∙ length-map fields field_view)
+
+pub members::read_members-returns-in_err-place-clause-refused : goal.members::read_members-returns-in_err-place-clause-refused
+members::read_members-returns-in_err-place-clause-refused t c =
+    let octets = c.args.octets.now in
+    let rule = rule_of c.args.rule in
+    let fields = c.args.fields.now in
+    let cs = map field_view fields in
+    let d = c.args.inside.now.definite in
+    let room = c.args.inside.now.room in
+    let at = c.loop-tag.at in
+    let slots = c.loop-tag.slots.items in
+    let last = c.loop-tag.last in
+    let read = c.loop-tag.invariant in
+    let inner = take (length octets - at) (drop at octets) in
+    let all : inner ≡ drop at octets = take_rest octets at in
+    let tag = c.in-Some.tag in
+    let front : IsFront (Some tag) d (room - at) (drop at octets) = subst₂ (λ f x. IsFront f d (room - at) x) c.in-Some.is all c.in_ok-tag.ensures.value in
+    let Q = HasMembers rule cs (map (λ k. None) cs) None d room in
+    let none = subst (λ (l : List (Option Value)). (place : ℕ) → IsBegunAt cs place tag → IsEmptyAt l place → ⊥) c.deref.ensures.value c.in_err-place.ensures.never in
+    bars_through c.from_residual-in_err-place.result _ Q octets c.from_residual-in_err-place.ensures.1
+    (λ more may h. none_goes_on rule cs slots last d (room - at) (drop at octets) more tag front none (read.forth more h))
+
+pub members::read_members-offset_bounds-fields-place : goal.members::read_members-offset_bounds-fields-place
+members::read_members-offset_bounds-fields-place t c =
+    let octets = c.args.octets.now in
+    let rule = rule_of c.args.rule in
+    let fields = c.args.fields.now in
+    let cs = map field_view fields in
+    let d = c.args.inside.now.definite in
+    let room = c.args.inside.now.room in
+    let at = c.loop-tag.at in
+    let slots = c.loop-tag.slots.items in
+    let last = c.loop-tag.last in
+    let read = c.loop-tag.invariant in
+    let inner = take (length octets - at) (drop at octets) in
+    let all : inner ≡ drop at octets = take_rest octets at in
+    let tag = c.in-Some.tag in
+    let front : IsFront (Some tag) d (room - at) (drop at octets) = subst₂ (λ f x. IsFront f d (room - at) x) c.in-Some.is all c.in_ok-tag.ensures.value in
+    let place = c.in_ok-place.place in
+    let begun : IsBegunAt cs place tag = c.in_ok-place.ensures.value.0 in
+    let empty : IsEmptyAt slots place = subst (λ (l : List (Option Value)). IsEmptyAt l place) c.deref.ensures.value c.in_ok-place.ensures.value.1 in
+    let below : place < length fields = omega (arith, begun_below cs place tag begun, length-map fields field_view) in
+    let many : length slots ≡ length fields = come_length rule cs slots read.encodings read.each ∙ length-map fields field_view in
+    search (rules, below)
+
+pub members::read_members-bounds-fields-place : goal.members::read_members-bounds-fields-place
+members::read_members-bounds-fields-place t c =
+    let octets = c.args.octets.now in
+    let rule = rule_of c.args.rule in
+    let fields = c.args.fields.now in
+    let cs = map field_view fields in
+    let d = c.args.inside.now.definite in
+    let room = c.args.inside.now.room in
+    let at = c.loop-tag.at in
+    let slots = c.loop-tag.slots.items in
+    let last = c.loop-tag.last in
+    let read = c.loop-tag.invariant in
+    let inner = take (length octets - at) (drop at octets) in
+    let all : inner ≡ drop at octets = take_rest octets at in
+    let tag = c.in-Some.tag in
+    let front : IsFront (Some tag) d (room - at) (drop at octets) = subst₂ (λ f x. IsFront f d (room - at) x) c.in-Some.is all c.in_ok-tag.ensures.value in
+    let place = c.in_ok-place.place in
+    let begun : IsBegunAt cs place tag = c.in_ok-place.ensures.value.0 in
+    let empty : IsEmptyAt slots place = subst (λ (l : List (Option Value)). IsEmptyAt l place) c.deref.ensures.value c.in_ok-place.ensures.value.1 in
+    let below : place < length fields = omega (arith, begun_below cs place tag begun, length-map fields field_view) in
+    let many : length slots ≡ length fields = come_length rule cs slots read.encodings read.each ∙ length-map fields field_view in
+    below
+
+pub members::read_members-order_tag-order-requires : goal.members::read_members-order_tag-order-requires
+members::read_members-order_tag-order-requires t c =
+    let octets = c.args.octets.now in
+    let rule = rule_of c.args.rule in
+    let fields = c.args.fields.now in
+    let cs = map field_view fields in
+    let d = c.args.inside.now.definite in
+    let room = c.args.inside.now.room in
+    let at = c.loop-tag.at in
+    let slots = c.loop-tag.slots.items in
+    let last = c.loop-tag.last in
+    let read = c.loop-tag.invariant in
+    let inner = take (length octets - at) (drop at octets) in
+    let all : inner ≡ drop at octets = take_rest octets at in
+    let tag = c.in-Some.tag in
+    let front : IsFront (Some tag) d (room - at) (drop at octets) = subst₂ (λ f x. IsFront f d (room - at) x) c.in-Some.is all c.in_ok-tag.ensures.value in
+    let place = c.in_ok-place.place in
+    let begun : IsBegunAt cs place tag = c.in_ok-place.ensures.value.0 in
+    let empty : IsEmptyAt slots place = subst (λ (l : List (Option Value)). IsEmptyAt l place) c.deref.ensures.value c.in_ok-place.ensures.value.1 in
+    let below : place < length fields = omega (arith, begun_below cs place tag begun, length-map fields field_view) in
+    let many : length slots ≡ length fields = come_length rule cs slots read.encodings read.each ∙ length-map fields field_view in
+    let f = c.index-fields-place.result in
+    let view = field_view f in
+    let is = c.index-fields-place.is in
+    let here = component_at fields place f below is in
+    let good = component_all IsGoodComponent cs place view here c.requires.good in
+    subst IsGoodType (field_type f) good.type
+
+pub members::read_members-returns-then-not-comes_behind-clause-refused : goal.members::read_members-returns-then-not-comes_behind-clause-refused
+members::read_members-returns-then-not-comes_behind-clause-refused t c = λ more may h.
+    let octets = c.args.octets.now in
+    let rule = rule_of c.args.rule in
+    let fields = c.args.fields.now in
+    let cs = map field_view fields in
+    let d = c.args.inside.now.definite in
+    let room = c.args.inside.now.room in
+    let at = c.loop-tag.at in
+    let slots = c.loop-tag.slots.items in
+    let last = c.loop-tag.last in
+    let read = c.loop-tag.invariant in
+    let inner = take (length octets - at) (drop at octets) in
+    let all : inner ≡ drop at octets = take_rest octets at in
+    let tag = c.in-Some.tag in
+    let front : IsFront (Some tag) d (room - at) (drop at octets) = subst₂ (λ f x. IsFront f d (room - at) x) c.in-Some.is all c.in_ok-tag.ensures.value in
+    let place = c.in_ok-place.place in
+    let begun : IsBegunAt cs place tag = c.in_ok-place.ensures.value.0 in
+    let empty : IsEmptyAt slots place = subst (λ (l : List (Option Value)). IsEmptyAt l place) c.deref.ensures.value c.in_ok-place.ensures.value.1 in
+    let below : place < length fields = omega (arith, begun_below cs place tag begun, length-map fields field_view) in
+    let many : length slots ≡ length fields = come_length rule cs slots read.encodings read.each ∙ length-map fields field_view in
+    let f = c.index-fields-place.result in
+    let view = field_view f in
+    let is = c.index-fields-place.is in
+    let here = component_at fields place f below is in
+    let good = component_all IsGoodComponent cs place view here c.requires.good in
+    let order = c.order_tag-order.result in
+    let ordered : IsOrderTagOf rule view.type tag order = subst (λ t. IsOrderTagOf rule t tag order) (sym (field_type f)) c.order_tag-order.ensures in
+    let due = λ (more : List ℕ) (k : HasMembers rule cs slots last d (room - at) (drop at octets ++ more)). is_due rule cs slots last place view order d (room - at) (drop at octets) more tag c.requires.distinct front begun here ordered k in
+    let off : c.comes_behind.result ≡ false = search rules in
+    none_before rule cs slots last place view order c.comes_behind.result d (room - at) (drop at octets ++ more) c.comes_behind.ensures off (due more (read.forth more h))
+
+pub members::read_members-index_mut-requires : goal.members::read_members-index_mut-requires
+members::read_members-index_mut-requires t c =
+    let octets = c.args.octets.now in
+    let rule = rule_of c.args.rule in
+    let fields = c.args.fields.now in
+    let cs = map field_view fields in
+    let d = c.args.inside.now.definite in
+    let room = c.args.inside.now.room in
+    let at = c.loop-tag.at in
+    let slots = c.loop-tag.slots.items in
+    let last = c.loop-tag.last in
+    let read = c.loop-tag.invariant in
+    let inner = take (length octets - at) (drop at octets) in
+    let all : inner ≡ drop at octets = take_rest octets at in
+    let tag = c.in-Some.tag in
+    let front : IsFront (Some tag) d (room - at) (drop at octets) = subst₂ (λ f x. IsFront f d (room - at) x) c.in-Some.is all c.in_ok-tag.ensures.value in
+    let place = c.in_ok-place.place in
+    let begun : IsBegunAt cs place tag = c.in_ok-place.ensures.value.0 in
+    let empty : IsEmptyAt slots place = subst (λ (l : List (Option Value)). IsEmptyAt l place) c.deref.ensures.value c.in_ok-place.ensures.value.1 in
+    let below : place < length fields = omega (arith, begun_below cs place tag begun, length-map fields field_view) in
+    let many : length slots ≡ length fields = come_length rule cs slots read.encodings read.each ∙ length-map fields field_view in
+    omega (arith, below, many)
+
+pub members::read_members-read_present-requires : goal.members::read_members-read_present-requires
+members::read_members-read_present-requires t c =
+    let octets = c.args.octets.now in
+    let rule = rule_of c.args.rule in
+    let fields = c.args.fields.now in
+    let cs = map field_view fields in
+    let d = c.args.inside.now.definite in
+    let room = c.args.inside.now.room in
+    let at = c.loop-tag.at in
+    let slots = c.loop-tag.slots.items in
+    let last = c.loop-tag.last in
+    let read = c.loop-tag.invariant in
+    let inner = take (length octets - at) (drop at octets) in
+    let all : inner ≡ drop at octets = take_rest octets at in
+    let tag = c.in-Some.tag in
+    let front : IsFront (Some tag) d (room - at) (drop at octets) = subst₂ (λ f x. IsFront f d (room - at) x) c.in-Some.is all c.in_ok-tag.ensures.value in
+    let place = c.in_ok-place.place in
+    let begun : IsBegunAt cs place tag = c.in_ok-place.ensures.value.0 in
+    let empty : IsEmptyAt slots place = subst (λ (l : List (Option Value)). IsEmptyAt l place) c.deref.ensures.value c.in_ok-place.ensures.value.1 in
+    let below : place < length fields = omega (arith, begun_below cs place tag begun, length-map fields field_view) in
+    let many : length slots ≡ length fields = come_length rule cs slots read.encodings read.each ∙ length-map fields field_view in
+    let f = c.index-fields-place.result in
+    let view = field_view f in
+    let is = c.index-fields-place.is in
+    let here = component_at fields place f below is in
+    let good = component_all IsGoodComponent cs place view here c.requires.good in
+    (search (rules, node.the_lemmas, field.the_lemmas, below, is), (good, omega (arith, c.requires.room)))
+
+pub members::read_members-returns-in_err-at-clause-refused : goal.members::read_members-returns-in_err-at-clause-refused
+members::read_members-returns-in_err-at-clause-refused t c =
+    let octets = c.args.octets.now in
+    let rule = rule_of c.args.rule in
+    let fields = c.args.fields.now in
+    let cs = map field_view fields in
+    let d = c.args.inside.now.definite in
+    let room = c.args.inside.now.room in
+    let at = c.loop-tag.at in
+    let slots = c.loop-tag.slots.items in
+    let last = c.loop-tag.last in
+    let read = c.loop-tag.invariant in
+    let inner = take (length octets - at) (drop at octets) in
+    let all : inner ≡ drop at octets = take_rest octets at in
+    let tag = c.in-Some.tag in
+    let front : IsFront (Some tag) d (room - at) (drop at octets) = subst₂ (λ f x. IsFront f d (room - at) x) c.in-Some.is all c.in_ok-tag.ensures.value in
+    let place = c.in_ok-place.place in
+    let begun : IsBegunAt cs place tag = c.in_ok-place.ensures.value.0 in
+    let empty : IsEmptyAt slots place = subst (λ (l : List (Option Value)). IsEmptyAt l place) c.deref.ensures.value c.in_ok-place.ensures.value.1 in
+    let below : place < length fields = omega (arith, begun_below cs place tag begun, length-map fields field_view) in
+    let many : length slots ≡ length fields = come_length rule cs slots read.encodings read.each ∙ length-map fields field_view in
+    let f = c.index-fields-place.result in
+    let view = field_view f in
+    let is = c.index-fields-place.is in
+    let here = component_at fields place f below is in
+    let good = component_all IsGoodComponent cs place view here c.requires.good in
+    let order = c.order_tag-order.result in
+    let ordered : IsOrderTagOf rule view.type tag order = subst (λ t. IsOrderTagOf rule t tag order) (sym (field_type f)) c.order_tag-order.ensures in
+    let due = λ (more : List ℕ) (k : HasMembers rule cs slots last d (room - at) (drop at octets ++ more)). is_due rule cs slots last place view order d (room - at) (drop at octets) more tag c.requires.distinct front begun here ordered k in
+    let Q = HasMembers rule cs (map (λ k. None) cs) None d room in
+    let P = HasPresent rule view (room - at) in
+    bars_through c.from_residual-in_err-at.result _ Q octets c.from_residual-in_err-at.ensures.1
+    (bars_by _ Q P octets inner (λ more h. subst (λ x. P (x ++ more)) (sym all) (present_due rule cs slots last place view order d (room - at) (drop at octets ++ more) (due more (read.forth more h))))
+    c.in_err-at.ensures.refused)
+
+pub members::read_members-overflow_add-behind : goal.members::read_members-overflow_add-behind
+members::read_members-overflow_add-behind t c =
+    let octets = c.args.octets.now in
+    let rule = rule_of c.args.rule in
+    let fields = c.args.fields.now in
+    let cs = map field_view fields in
+    let d = c.args.inside.now.definite in
+    let room = c.args.inside.now.room in
+    let at = c.loop-tag.at in
+    let slots = c.loop-tag.slots.items in
+    let last = c.loop-tag.last in
+    let read = c.loop-tag.invariant in
+    let inner = take (length octets - at) (drop at octets) in
+    let all : inner ≡ drop at octets = take_rest octets at in
+    let tag = c.in-Some.tag in
+    let front : IsFront (Some tag) d (room - at) (drop at octets) = subst₂ (λ f x. IsFront f d (room - at) x) c.in-Some.is all c.in_ok-tag.ensures.value in
+    let place = c.in_ok-place.place in
+    let begun : IsBegunAt cs place tag = c.in_ok-place.ensures.value.0 in
+    let empty : IsEmptyAt slots place = subst (λ (l : List (Option Value)). IsEmptyAt l place) c.deref.ensures.value c.in_ok-place.ensures.value.1 in
+    let below : place < length fields = omega (arith, begun_below cs place tag begun, length-map fields field_view) in
+    let many : length slots ≡ length fields = come_length rule cs slots read.encodings read.each ∙ length-map fields field_view in
+    search (rules, below)
+
+pub members::read_members-loop-tag-smaller : goal.members::read_members-loop-tag-smaller
+members::read_members-loop-tag-smaller t c =
+    let octets = c.args.octets.now in
+    let rule = rule_of c.args.rule in
+    let fields = c.args.fields.now in
+    let cs = map field_view fields in
+    let d = c.args.inside.now.definite in
+    let room = c.args.inside.now.room in
+    let at = c.loop-tag.at in
+    let slots = c.loop-tag.slots.items in
+    let last = c.loop-tag.last in
+    let read = c.loop-tag.invariant in
+    let inner = take (length octets - at) (drop at octets) in
+    let all : inner ≡ drop at octets = take_rest octets at in
+    let tag = c.in-Some.tag in
+    let front : IsFront (Some tag) d (room - at) (drop at octets) = subst₂ (λ f x. IsFront f d (room - at) x) c.in-Some.is all c.in_ok-tag.ensures.value in
+    let place = c.in_ok-place.place in
+    let begun : IsBegunAt cs place tag = c.in_ok-place.ensures.value.0 in
+    let empty : IsEmptyAt slots place = subst (λ (l : List (Option Value)). IsEmptyAt l place) c.deref.ensures.value c.in_ok-place.ensures.value.1 in
+    let below : place < length fields = omega (arith, begun_below cs place tag begun, length-map fields field_view) in
+    let many : length slots ≡ length fields = come_length rule cs slots read.encodings read.each ∙ length-map fields field_view in
+    let f = c.index-fields-place.result in
+    let view = field_view f in
+    let is = c.index-fields-place.is in
+    let here = component_at fields place f below is in
+    let good = component_all IsGoodComponent cs place view here c.requires.good in
+    let used = c.in_ok-at.field-0 in
+    let one = subst (λ x. IsPresentRead rule view (room - at) x c.read_present.new.slot used) all c.in_ok-at.ensures.value in
+    let some = read_some rule view.type (room - at) (drop at octets) c.read_present.new.slot used good.type one.0 in
+    omega (arith, some, one.0.0, length-drop at octets, read.there)
+
+pub members::read_members-loop-tag-preserved : goal.members::read_members-loop-tag-preserved
+members::read_members-loop-tag-preserved t c =
+    let octets = c.args.octets.now in
+    let rule = rule_of c.args.rule in
+    let fields = c.args.fields.now in
+    let cs = map field_view fields in
+    let d = c.args.inside.now.definite in
+    let room = c.args.inside.now.room in
+    let at = c.loop-tag.at in
+    let slots = c.loop-tag.slots.items in
+    let last = c.loop-tag.last in
+    let read = c.loop-tag.invariant in
+    let inner = take (length octets - at) (drop at octets) in
+    let all : inner ≡ drop at octets = take_rest octets at in
+    let tag = c.in-Some.tag in
+    let front : IsFront (Some tag) d (room - at) (drop at octets) = subst₂ (λ f x. IsFront f d (room - at) x) c.in-Some.is all c.in_ok-tag.ensures.value in
+    let place = c.in_ok-place.place in
+    let begun : IsBegunAt cs place tag = c.in_ok-place.ensures.value.0 in
+    let empty : IsEmptyAt slots place = subst (λ (l : List (Option Value)). IsEmptyAt l place) c.deref.ensures.value c.in_ok-place.ensures.value.1 in
+    let below : place < length fields = omega (arith, begun_below cs place tag begun, length-map fields field_view) in
+    let many : length slots ≡ length fields = come_length rule cs slots read.encodings read.each ∙ length-map fields field_view in
+    let f = c.index-fields-place.result in
+    let view = field_view f in
+    let is = c.index-fields-place.is in
+    let here = component_at fields place f below is in
+    let good = component_all IsGoodComponent cs place view here c.requires.good in
+    let order = c.order_tag-order.result in
+    let ordered : IsOrderTagOf rule view.type tag order = subst (λ t. IsOrderTagOf rule t tag order) (sym (field_type f)) c.order_tag-order.ensures in
+    let due = λ (more : List ℕ) (k : HasMembers rule cs slots last d (room - at) (drop at octets ++ more)). is_due rule cs slots last place view order d (room - at) (drop at octets) more tag c.requires.distinct front begun here ordered k in
+    let used = c.in_ok-at.field-0 in
+    let on : c.comes_behind.result ≡ true = search rules in
+    let one = subst (λ x. IsPresentRead rule view (room - at) x c.read_present.new.slot used) all c.in_ok-at.ensures.value in
+    member_more c.args.rule cs slots last place view tag order c.comes_behind.result d room octets c.read_present.new.slot at used good.type c.requires.distinct front begun empty here ordered c.comes_behind.ensures on read one
+
+pub members::read_members-are_filled-requires : goal.members::read_members-are_filled-requires
+members::read_members-are_filled-requires t c =
+    let octets = c.args.octets.now in
+    let rule = rule_of c.args.rule in
+    let fields = c.args.fields.now in
+    let cs = map field_view fields in
+    let d = c.args.inside.now.definite in
+    let room = c.args.inside.now.room in
+    let at = c.loop-tag.at in
+    let slots = c.loop-tag.slots.items in
+    let last = c.loop-tag.last in
+    let read = c.loop-tag.invariant in
+    let inner = take (length octets - at) (drop at octets) in
+    let all : inner ≡ drop at octets = take_rest octets at in
+    ap length c.deref-2.ensures.value ∙ (come_length rule cs slots read.encodings read.each ∙ length-map fields field_view)
+
+pub members::read_members-returns-then-not-are_filled-clause-refused : goal.members::read_members-returns-then-not-are_filled-clause-refused
+members::read_members-returns-then-not-are_filled-clause-refused t c = λ more may h.
+    let octets = c.args.octets.now in
+    let rule = rule_of c.args.rule in
+    let fields = c.args.fields.now in
+    let cs = map field_view fields in
+    let d = c.args.inside.now.definite in
+    let room = c.args.inside.now.room in
+    let at = c.loop-tag.at in
+    let slots = c.loop-tag.slots.items in
+    let last = c.loop-tag.last in
+    let read = c.loop-tag.invariant in
+    let inner = take (length octets - at) (drop at octets) in
+    let all : inner ≡ drop at octets = take_rest octets at in
+    let none : c.in_ok-tag.field-0 ≡ None = c.in_default.is in
+    let ends : EndsHere d (room - at) (drop at octets) = subst₂ (λ f x. IsFront f d (room - at) x) none all c.in_ok-tag.ensures.value in
+    let filled = members_filled rule cs slots last d (room - at) (drop at octets) more c.requires.good ends (read.forth more h) in
+    let yes : c.are_filled.result ≡ true = c.are_filled.ensures.1 (subst (λ (l : List (Option Value)). AreFilled cs l) (sym c.deref-2.ensures.value) filled) in
+    search (rules, yes)
+
+pub members::read_set-read_members-requires : goal.members::read_set-read_members-requires
+members::read_set-read_members-requires t c =
+    let fields = c.args.fields.now in
+    let within : c.in_ok-inside.inside.room ≤ MAX_ENCODING = omega (arith, c.in_ok-inside.ensures.value.fits, c.requires.room) in
+    (search (rules, node.the_lemmas), (good_members c.args.tag fields c.requires.good, (c.requires.good.tags.0.1, (within, c.in-Ok.ensures))))
+
+pub members::read_set-returns-in-Ok-read_members-clause-value : goal.members::read_set-returns-in-Ok-read_members-clause-value
+members::read_set-returns-in-Ok-read_members-clause-value t c =
+    let octets = c.args.octets.now in
+    let rule = rule_of c.args.rule in
+    let cs = map field_view c.args.fields.now in
+    let inside = c.in_ok-inside.inside in
+    let used = c.in-Ok-read_members.used in
+    let slots = c.read_members.new.slots in
+    let all : take (length octets - inside.start) (drop inside.start octets) ≡ drop inside.start octets = take_rest octets inside.start in
+    let read = subst (λ x. AreFilled cs slots.items × ((last : Option Tag) × AreMembersRead rule cs slots.items last inside.definite inside.room x used) × EndsHere inside.definite (inside.room - used) (drop used x)) all c.in-Ok-read_members.ensures.value in
+    set_read rule c.args.tag c.args.fields.now c.args.room octets inside slots read.1.0 used c.close.result c.in_ok-inside.ensures.value read.0 read.1.1 read.2 c.close.ensures
+
+pub members::read_set-returns-in-Err-clause-refused : goal.members::read_set-returns-in-Err-clause-refused
+members::read_set-returns-in-Err-clause-refused t c =
+    let octets = c.args.octets.now in
+    let rule = rule_of c.args.rule in
+    let components = map field_view c.args.fields.now in
+    let inside = c.in_ok-inside.inside in
+    let start = inside.start in
+    let inner = take (length octets - start) (drop start octets) in
+    let all : inner ≡ drop start octets = take_rest octets start in
+    let Q = HasPart rule (Shape.set c.args.tag (components_view c.args.fields.now)) c.args.room in
+    let P = HasMembers rule components (map (λ k. None) components) None inside.definite inside.room in
+    bars_named c.in-Err.refusal c.named.result Q octets c.named.ensures.follows
+    (bars_by _ Q P octets inner (λ more h. subst (λ x. P (x ++ more)) (sym all) (members_inside c.args.rule c.args.tag components c.args.room octets more inside c.in_ok-inside.ensures.value h))
+    c.in-Err.ensures.refused)

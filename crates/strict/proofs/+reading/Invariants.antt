@@ -1,0 +1,35 @@
+use Rattle.std.proofs.Common.{length, map, take, drop, ◌-◌, ℕ, List, ◌++◌}
+use Rattle.types.specs.View.{ty_view, field_view, alternative_view, alternatives_view}
+use Rattle.types.specs.Shape.{Shape}
+use Rattle.strict.specs.Canonical.{rule_of}
+use Rattle.strict.specs.Reading.{HasPart, HasChoice}
+use Rattle.strict.specs.Items.{AreOrderedRead, AreItemsRead}
+use Rattle.strict.specs.Components.{AreComponentsRead, IsFront}
+use Rattle.strict.specs.Members.{AreMembersRead}
+use Rattle.strict.proofs.+reading.Given as goal
+
+abbrev pub invariant-components::read_components-loop-place : goal.invariant-components::read_components-loop-place
+invariant-components::read_components-loop-place l =
+    AreComponentsRead (rule_of l.rule) (map field_view (take l.place l.fields)) (map field_view (drop l.place l.fields)) l.inside.definite l.inside.room l.octets l.slots.items l.at
+    × IsFront l.front l.inside.definite (l.inside.room - l.at) (drop l.at l.octets)
+
+abbrev pub invariant-items::read_items-loop-item : goal.invariant-items::read_items-loop-item
+invariant-items::read_items-loop-item l = AreItemsRead (rule_of l.rule) (ty_view l.inner) l.inside.definite l.inside.room l.octets l.items.items l.at
+
+abbrev pub decreases-items::read_items-loop-item : goal.decreases-items::read_items-loop-item
+decreases-items::read_items-loop-item l = length l.octets - l.at
+
+abbrev pub invariant-items::read_ordered-loop-item : goal.invariant-items::read_ordered-loop-item
+invariant-items::read_ordered-loop-item l = AreOrderedRead (rule_of l.rule) (ty_view l.inner) l.inside.definite l.inside.room l.octets l.items.items l.before l.at
+
+abbrev pub decreases-items::read_ordered-loop-item : goal.decreases-items::read_ordered-loop-item
+decreases-items::read_ordered-loop-item l = length l.octets - l.at
+
+abbrev pub invariant-members::read_members-loop-tag : goal.invariant-members::read_members-loop-tag
+invariant-members::read_members-loop-tag l = AreMembersRead (rule_of l.rule) (map field_view l.fields) l.slots.items l.last l.inside.definite l.inside.room l.octets l.at
+
+abbrev pub decreases-members::read_members-loop-tag : goal.decreases-members::read_members-loop-tag
+decreases-members::read_members-loop-tag l = length l.octets - l.at
+
+abbrev pub invariant-parts::read_chosen-loop-which : goal.invariant-parts::read_chosen-loop-which
+invariant-parts::read_chosen-loop-which l = (more : List ℕ) → HasPart (rule_of l.rule) (Shape.choice (alternatives_view l.alternatives)) l.room (l.octets ++ more) → HasChoice (rule_of l.rule) (map alternative_view (drop l.which l.alternatives)) l.room (l.octets ++ more)

@@ -1,0 +1,105 @@
+-- Lemmas on the alternatives of a CHOICE, one after another.
+use Rattle.std.proofs.Common.{◌≡◌, ℕ, zero, suc, ◌+◌, ◌<◌, ◌≤◌, ◌⊎◌, inl, inr, List, [], ◌∷◌, ◌++◌, Bool, Some, Contains, Box, Global, length, take, drop, map, get_or, refl, sym, ◌∙◌, ap, subst, arith}
+use Rattle.std.specs.List.{AllByRecursion}
+use Rattle.octets.specs.declared.tag.Tag.{Tag}
+use Rattle.octets.specs.Rule.{Rule}
+use Rattle.types.specs.declared.value.Value.{Value}
+use Rattle.types.specs.declared.value.Value as value
+use Rattle.types.specs.declared.ty.Alternative.{Alternative}
+use Rattle.types.specs.Shape.{Shape, Val}
+use Rattle.types.specs.Encoding.{IsEncoding, IsAlternativeEncoding}
+use Rattle.types.specs.FirstTags.{first_tags, tags_of_alternatives, AreDistinct}
+use Rattle.types.specs.View.{AlternativeView, ty_view, value_view, alternative_view, alternatives_of, alternatives_view}
+use Rattle.types.specs.WellFormed.{nodes_of, nodes_of_alternatives}
+use Rattle.types.proofs.BeginningLemmas.{encoding_begins, alternative_begins}
+use Rattle.types.proofs.LimitLemmas.{alternative_type}
+use Rattle.types.proofs.ListLemmas.{all_append, distinct_apart, distinct_right}
+use Rattle.types.proofs.ViewLemmas.{value-Chosen}
+use Rattle.contents.specs.Head.{IsTagWithin, IsReadTag}
+use Rattle.contents.specs.Parts.{IsGoodType}
+use Rattle.contents.proofs.HeadLemmas.{tag_of_front}
+use Rattle.strict.specs.Reading.{IsRead, HasPart, HasChoice}
+use Rattle.strict.proofs.FrontLemmas.{within_of, tag_within}
+
+-- what can stand at the front begins with a tag of the type
+pub record IsTagOf (type : Shape) (room : ℕ) (octets : List ℕ) : Type 0 where
+  pub tag : Tag
+  pub within : tag.number ≤ 268_435_455
+  pub head : IsTagWithin tag room 0 octets
+
+pub tag_of_part : (rule : Rule) (type : Shape) (room : ℕ) (octets : List ℕ) → IsGoodType type → HasPart rule type room octets → IsTagOf type room octets
+tag_of_part rule type room octets good h =
+    let b = encoding_begins rule type h.value h.part h.encoding in
+    record { tag = b.0; within = tag_within type b.0 good.within b.1; head = within_of b.0 room h.part h.rest octets h.parts h.fits b.2 }
+
+pub choice_of_part : (rule : Rule) (left : List AlternativeView) (room : ℕ) (octets : List ℕ) → HasPart rule (Shape.choice (alternatives_of left)) room octets → HasChoice rule left room octets
+choice_of_part rule left room octets h = record { which = h.encoding.which; value = h.encoding.value; part = h.part; rest = h.rest; chosen = h.encoding.chosen; fits = h.fits; parts = h.parts }
+
+next_of : (rule : Rule) (a : AlternativeView) (left : List AlternativeView) (room : ℕ) (octets : List ℕ) (which : ℕ) (v : Val) (part rest : List ℕ) → IsAlternativeEncoding rule (alternatives_of (a ∷ left)) which v part → length part ≤ room → octets ≡ part ++ rest
+    → HasPart rule a.type room octets ⊎ HasChoice rule left room octets
+next_of rule a left room octets zero v part rest chosen fits parts = inl record { value = v; part = part; rest = rest; encoding = chosen; fits = fits; parts = parts }
+next_of rule a left room octets (suc which) v part rest chosen fits parts = inr record { which = which; value = v; part = part; rest = rest; chosen = chosen; fits = fits; parts = parts }
+
+next_choice : (rule : Rule) (a : AlternativeView) (left : List AlternativeView) (room : ℕ) (octets : List ℕ) → HasChoice rule (a ∷ left) room octets → HasPart rule a.type room octets ⊎ HasChoice rule left room octets
+next_choice rule a left room octets h = next_of rule a left room octets h.which h.value h.part h.rest h.chosen h.fits h.parts
+
+-- by the tag that was read it is none of this type
+pub not_this : (rule : Rule) (a : AlternativeView) (left : List AlternativeView) (room : ℕ) (octets more : List ℕ) (tag : Tag) (constructed : Bool) (used : ℕ) → IsReadTag tag room 0 octets constructed used → (Contains (first_tags a.type) tag → ⊥)
+    → HasChoice rule (a ∷ left) room (octets ++ more) → HasChoice rule left room (octets ++ more)
+not_this rule a left room octets more tag constructed used read none h =
+    elim (next_choice rule a left room (octets ++ more) h) [
+      | inr later ↦ later
+      | inl p ↦
+          let b = encoding_begins rule a.type p.value p.part p.encoding in
+          let same = (tag_of_front tag b.0 constructed room 0 used octets more read.tagged (within_of b.0 room p.part p.rest (octets ++ more) p.parts p.fits b.2)).tag in
+          absurd (none (subst (Contains (first_tags a.type)) (sym same) b.1))
+    ]
+
+-- or it is one
+pub this_one : (rule : Rule) (a : AlternativeView) (left : List AlternativeView) (room : ℕ) (octets more : List ℕ) (tag : Tag) (constructed : Bool) (used : ℕ) → AreDistinct (tags_of_alternatives (alternatives_of (a ∷ left))) → IsReadTag tag room 0 octets constructed used → Contains (first_tags a.type) tag
+    → HasChoice rule (a ∷ left) room (octets ++ more) → HasPart rule a.type room (octets ++ more)
+this_one rule a left room octets more tag constructed used distinct read here h =
+    elim (next_choice rule a left room (octets ++ more) h) [
+      | inl p ↦ p
+      | inr later ↦
+          let tags = tags_of_alternatives (alternatives_of left) in
+          let b = alternative_begins rule (alternatives_of left) later.which later.value later.part later.chosen in
+          let same = (tag_of_front tag b.0 constructed room 0 used octets more read.tagged (within_of b.0 room later.part later.rest (octets ++ more) later.parts later.fits b.2)).tag in
+          absurd (distinct_apart (first_tags a.type) tags distinct tag here (subst (Contains tags) (sym same) b.1))
+    ]
+
+pub none_left : (rule : Rule) (room : ℕ) (octets : List ℕ) → HasChoice rule [] room octets → ⊥
+none_left rule room octets h = elim h.chosen [ ]
+
+pub distinct_from : (xs : List AlternativeView) (i : ℕ) → AreDistinct (tags_of_alternatives (alternatives_of xs)) → AreDistinct (tags_of_alternatives (alternatives_of (drop i xs)))
+distinct_from xs zero h = h
+distinct_from [] (suc i) h = h
+distinct_from (x ∷ xs) (suc i) h = distinct_from xs i (distinct_right (first_tags x.type) (tags_of_alternatives (alternatives_of xs)) h)
+
+pub here_of : (xs : List Alternative) (i : ℕ) (a : Alternative) → i < length xs → a ≡ get_or xs i a → map alternative_view (drop i xs) ≡ alternative_view a ∷ map alternative_view (drop (i + 1) xs)
+here_of [] i a below is = absurd (omega (arith, below))
+here_of (x ∷ xs) zero a below is = ap (λ (b : Alternative). alternative_view b ∷ map alternative_view xs) (sym is)
+here_of (x ∷ xs) (suc i) a below is = let next : suc i + 1 ≡ suc (i + 1) = omega arith in here_of xs i a (omega (arith, below)) is ∙ ap (λ n. alternative_view a ∷ map alternative_view (drop n (x ∷ xs))) (sym next)
+
+-- what is said of each node is said of those of each alternative
+pub nodes_at : (P : Shape → Type 0) (xs : List Alternative) (i : ℕ) (a : Alternative) → i < length xs → a ≡ get_or xs i a → AllByRecursion P (nodes_of_alternatives (alternatives_view xs)) → AllByRecursion P (nodes_of (alternative_view a).type)
+nodes_at P [] i a below is h = absurd (omega (arith, below))
+nodes_at P (x ∷ xs) zero a below is h = subst (λ (b : Alternative). AllByRecursion P (nodes_of (alternative_view b).type)) (sym is) (all_append P (nodes_of (alternative_view x).type) (nodes_of_alternatives (alternatives_view xs)) h).0
+nodes_at P (x ∷ xs) (suc i) a below is h = nodes_at P xs i a (omega (arith, below)) is (all_append P (nodes_of (alternative_view x).type) (nodes_of_alternatives (alternatives_view xs)) h).1
+
+pub good_at : (xs : List Alternative) (i : ℕ) (a : Alternative) → i < length xs → a ≡ get_or xs i a → IsGoodType (Shape.choice (alternatives_view xs)) → IsGoodType (alternative_view a).type
+good_at xs i a below is good = record { within = nodes_at _ xs i a below is good.within.1; tags = nodes_at _ xs i a below is good.tags.1; defaults = nodes_at _ xs i a below is good.defaults.1 }
+
+alternative_encodes : (rule : Rule) (xs : List Alternative) (which : ℕ) (a : Alternative) (v : Val) (octets : List ℕ) → which < length xs → a ≡ get_or xs which a → IsEncoding rule (alternative_view a).type v octets → IsAlternativeEncoding rule (alternatives_view xs) which v octets
+alternative_encodes rule [] which a v octets below is e = absurd (omega (arith, below))
+alternative_encodes rule (x ∷ xs) zero a v octets below is e = subst (λ (b : Alternative). IsEncoding rule (alternative_view b).type v octets) is e
+alternative_encodes rule (x ∷ xs) (suc which) a v octets below is e = alternative_encodes rule xs which a v octets (omega (arith, below)) is e
+
+pub chosen_read : (rule : Rule) (xs : List Alternative) (which : ℕ) (a : Alternative) (room : ℕ) (octets : List ℕ) (v : Value) (inner : Box Value Global) (used : ℕ) → which < length xs → a ≡ get_or xs which a → inner.value ≡ v
+    → IsRead rule (ty_view a.ty) room octets (Some v) used → IsRead rule (Shape.choice (alternatives_view xs)) room octets (Some (value.Chosen which inner)) used
+chosen_read rule xs which a room octets v inner used below is boxed h =
+    let shape = Shape.choice (alternatives_view xs) in
+    let viewed : value_view (value.Chosen which inner) ≡ Val.chosen which (value_view v) = value-Chosen which inner ∙ ap (λ (w : Value). Val.chosen which (value_view w)) boxed in
+    let here : IsEncoding rule (alternative_view a).type (value_view v) (take used octets) = subst (λ t. IsEncoding rule t (value_view v) (take used octets)) (sym (alternative_type a)) h.2 in
+    let encodes : IsEncoding rule shape (Val.chosen which (value_view v)) (take used octets) = record { which = which; value = value_view v; is = refl; chosen = alternative_encodes rule xs which a (value_view v) (take used octets) below is here } in
+    (h.0, h.1, subst (λ w. IsEncoding rule shape w (take used octets)) (sym viewed) encodes)

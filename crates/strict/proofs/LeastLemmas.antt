@@ -1,0 +1,107 @@
+-- Lemmas on the least tags of types.
+use Rattle.std.proofs.Common.{◌≡◌, ◌+◌, ◌⊎◌, inl, inr, ◌<◌, ◌≤◌, ℕ, zero, suc, List, [], ◌∷◌, ◌++◌, Vec, Global, length, drop, get_or, refl, sym, ap, ◌∙◌, subst, arith, append-nil}
+use Rattle.octets.specs.declared.tag.Tag.{Tag}
+use Rattle.octets.specs.Tag.{ComesBefore}
+use Rattle.strings.specs.declared.text.TextKind.{TextKind}
+use Rattle.strings.specs.declared.time.TimeKind.{TimeKind}
+use Rattle.types.specs.declared.ty.Alternative.{Alternative}
+use Rattle.types.specs.declared.ty.Item.{Item}
+use Rattle.types.specs.declared.ty.NamedBit.{NamedBit}
+use Rattle.types.specs.declared.ty.Ty.{Ty}
+use Rattle.types.specs.declared.ty.Ty as node
+use Rattle.types.specs.Shape.{Shape}
+use Rattle.types.specs.FirstTags.{first_tags, tags_of_alternatives}
+use Rattle.types.specs.Order.{IsLeast}
+use Rattle.types.specs.View.{ty_view, alternative_view, alternatives_view}
+use Rattle.types.specs.WellFormed.{count_of_alternatives}
+use Rattle.types.proofs.ListLemmas.{not_in_nil, contains_first, contains_cases, contains_left, contains_right}
+use Rattle.types.proofs.TagLemmas.{contains_either}
+use Rattle.types.proofs.LimitLemmas.{alternative_type}
+use Rattle.types.proofs.LoopLemmas.{left_at}
+use Rattle.types.proofs.OrderLemmas.{ComesBefore-total, ComesBefore-trans, ComesBefore-irrefl}
+use Rattle.types.proofs.ViewLemmas.{ty-Boolean, ty-Integer, ty-Enumerated, ty-Null, ty-Oid, ty-RelativeOid, ty-Bits, ty-NamedBits, ty-Octets, ty-Text, ty-Time}
+
+pub alone_least : (tag : Tag) → IsLeast (tag ∷ []) tag
+alone_least tag = (
+  contains_first tag tag [] refl,
+  λ other c before. elim (contains_cases tag other [] c) [
+    | inl same ↦ ComesBefore-irrefl tag (subst (λ t. ComesBefore t tag) (sym same) before)
+    | inr later ↦ not_in_nil other later
+  ],
+)
+
+of_first : (ty : Ty) (tag : Tag) {shape : Shape} → ty_view ty ≡ shape → first_tags shape ≡ tag ∷ [] → IsLeast (first_tags (ty_view ty)) tag
+of_first ty tag is first = subst (λ tags. IsLeast tags tag) (sym (ap first_tags is ∙ first)) (alone_least tag)
+
+pub leaf_least : (ty : Ty) (tag : Tag)
+    → (ty ≡ node.Boolean tag) ⊎ ((ty ≡ node.Integer tag) ⊎ (((items : Vec Item Global) × (ty ≡ node.Enumerated tag items)) ⊎ ((ty ≡ node.Null tag) ⊎ ((ty ≡ node.Oid tag) ⊎ ((ty ≡ node.RelativeOid tag)
+    ⊎ ((ty ≡ node.Bits tag) ⊎ (((bits : Vec NamedBit Global) × (ty ≡ node.NamedBits tag bits)) ⊎ ((ty ≡ node.Octets tag) ⊎ (((kind : TextKind) × (ty ≡ node.Text tag kind)) ⊎ ((kind : TimeKind) × (ty ≡ node.Time tag kind)))))))))))
+    → IsLeast (first_tags (ty_view ty)) tag
+leaf_least ty tag (inl is) = of_first ty tag (ap ty_view is ∙ ty-Boolean tag) refl
+leaf_least ty tag (inr (inl is)) = of_first ty tag (ap ty_view is ∙ ty-Integer tag) refl
+leaf_least ty tag (inr (inr (inl h))) = of_first ty tag (ap ty_view h.1 ∙ ty-Enumerated tag h.0) refl
+leaf_least ty tag (inr (inr (inr (inl is)))) = of_first ty tag (ap ty_view is ∙ ty-Null tag) refl
+leaf_least ty tag (inr (inr (inr (inr (inl is))))) = of_first ty tag (ap ty_view is ∙ ty-Oid tag) refl
+leaf_least ty tag (inr (inr (inr (inr (inr (inl is)))))) = of_first ty tag (ap ty_view is ∙ ty-RelativeOid tag) refl
+leaf_least ty tag (inr (inr (inr (inr (inr (inr (inl is))))))) = of_first ty tag (ap ty_view is ∙ ty-Bits tag) refl
+leaf_least ty tag (inr (inr (inr (inr (inr (inr (inr (inl h)))))))) = of_first ty tag (ap ty_view h.1 ∙ ty-NamedBits tag h.0) refl
+leaf_least ty tag (inr (inr (inr (inr (inr (inr (inr (inr (inl is))))))))) = of_first ty tag (ap ty_view is ∙ ty-Octets tag) refl
+leaf_least ty tag (inr (inr (inr (inr (inr (inr (inr (inr (inr (inl h)))))))))) = of_first ty tag (ap ty_view h.1 ∙ ty-Text tag h.0) refl
+leaf_least ty tag (inr (inr (inr (inr (inr (inr (inr (inr (inr (inr h)))))))))) = of_first ty tag (ap ty_view h.1 ∙ ty-Time tag h.0) refl
+
+-- of two least tags the one that comes first
+least_before : (xs ys : List Tag) (a b : Tag) → IsLeast xs a → IsLeast ys b → ComesBefore a b → IsLeast (xs ++ ys) a
+least_before xs ys a b h g before = (
+  contains_left xs ys a h.0,
+  λ other c less. elim (contains_either xs ys other c) [
+    | inl left ↦ h.1 other left less
+    | inr right ↦ g.1 other right (ComesBefore-trans other a b less before)
+  ],
+)
+
+least_after : (xs ys : List Tag) (a b : Tag) → IsLeast xs a → IsLeast ys b → (ComesBefore a b → ⊥) → IsLeast (xs ++ ys) b
+least_after xs ys a b h g not = (
+  contains_right xs ys b g.0,
+  λ other c less. elim (contains_either xs ys other c) [
+    | inl left ↦ elim (ComesBefore-total a b) [
+      | inl before ↦ not before
+      | inr rest ↦ elim rest [ inl same ↦ h.1 other left (subst (ComesBefore other) (sym same) less) | inr after ↦ h.1 other left (ComesBefore-trans other b a less after) ]
+    ]
+    | inr right ↦ g.1 other right less
+  ],
+)
+
+drop_one : (xs : List Alternative) (i : ℕ) (a : Alternative) → i < length xs → a ≡ get_or xs i a → drop i xs ≡ a ∷ drop (suc i) xs
+drop_one xs i a l at = let next : i + 1 ≡ suc i = omega arith in left_at xs i a l at ∙ ap (λ n. a ∷ drop n xs) next
+
+module _ (xs : List Alternative) where
+  abbrev pub LeastFrom : ℕ → Tag → Type 0
+  LeastFrom i tag = IsLeast (tags_of_alternatives (alternatives_view (drop i xs))) tag
+
+  pub least_last : (i : ℕ) (a : Alternative) (tag : Tag) → i < length xs → length xs ≤ suc i → a ≡ get_or xs i a → IsLeast (first_tags (ty_view a.ty)) tag → LeastFrom i tag
+  least_last i a tag l all at h =
+      let none_left : drop (suc i) xs ≡ [] = beyond xs (suc i) all in
+      let only : drop i xs ≡ a ∷ [] = drop_one xs i a l at ∙ ap (λ r. a ∷ r) none_left in
+      let here : IsLeast (first_tags (alternative_view a).type) tag = subst (λ s. IsLeast (first_tags s) tag) (sym (alternative_type a)) h in
+      subst (λ (as' : List Alternative). IsLeast (tags_of_alternatives (alternatives_view as')) tag) (sym only) (subst (λ ts. IsLeast ts tag) (sym (append-nil (first_tags (alternative_view a).type))) here)
+    where
+      beyond : (ys : List Alternative) (n : ℕ) → length ys ≤ n → drop n ys ≡ []
+      beyond [] zero m = refl
+      beyond [] (suc n) m = refl
+      beyond (y ∷ ys) zero m = absurd (omega arith)
+      beyond (y ∷ ys) (suc n) m = beyond ys n (omega arith)
+
+  least_step : (i : ℕ) (a : Alternative) (tag : Tag) → i < length xs → a ≡ get_or xs i a → IsLeast (first_tags (alternative_view a).type ++ tags_of_alternatives (alternatives_view (drop (suc i) xs))) tag → LeastFrom i tag
+  least_step i a tag l at h = subst (λ (as' : List Alternative). IsLeast (tags_of_alternatives (alternatives_view as')) tag) (sym (drop_one xs i a l at)) h
+
+  pub least_sooner : (i j : ℕ) (a : Alternative) (tag least : Tag) → i < length xs → j ≡ suc i → a ≡ get_or xs i a → IsLeast (first_tags (ty_view a.ty)) tag → LeastFrom j least → ComesBefore tag least → LeastFrom i tag
+  least_sooner i j a tag least l next at h g before =
+      least_step i a tag l at (least_before _ _ tag least (subst (λ s. IsLeast (first_tags s) tag) (sym (alternative_type a)) h) (subst (λ k. LeastFrom k least) next g) before)
+
+  pub least_stays : (i j : ℕ) (a : Alternative) (tag least : Tag) → i < length xs → j ≡ suc i → a ≡ get_or xs i a → IsLeast (first_tags (ty_view a.ty)) tag → LeastFrom j least → (ComesBefore tag least → ⊥) → LeastFrom i least
+  least_stays i j a tag least l next at h g not =
+      least_step i a least l at (least_after _ _ tag least (subst (λ s. IsLeast (first_tags s) tag) (sym (alternative_type a)) h) (subst (λ k. LeastFrom k least) next g) not)
+
+pub as_many_alternatives : (xs : List Alternative) → count_of_alternatives (alternatives_view xs) ≡ length xs
+as_many_alternatives [] = refl
+as_many_alternatives (x ∷ xs) = ap suc (as_many_alternatives xs)

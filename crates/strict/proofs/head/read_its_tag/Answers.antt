@@ -1,0 +1,18 @@
+use Rattle.std.proofs.Common.{◌≡◌, Err, ap, rules}
+use Rattle.contents.specs.Head.{IsTagWithin}
+use Rattle.contents.proofs.HeadLemmas.{tag_of_front}
+use Rattle.strict.proofs.BarsLemmas.{bars_of, bars_through}
+use Rattle.strict.proofs.head.read_its_tag.Goals as goal
+
+pub returns-in_err-found-clause-refused : goal.returns-in_err-found-clause-refused
+returns-in_err-found-clause-refused c =
+    let octets = c.args.octets.now in
+    let Q = IsTagWithin c.args.tag c.args.room 0 in
+    bars_through c.from_residual.result _ Q octets c.from_residual.ensures.1
+    (bars_of _ Q octets (λ same. c.in_err-found.ensures.truncated (ap Err same) c.args.tag c.requires) (λ final more. c.in_err-found.ensures.never final more c.args.tag c.requires))
+
+pub returns-then-ne-clause-refused : goal.returns-then-ne-clause-refused
+returns-then-ne-clause-refused c = λ more may h.
+    let different : c.in_ok-found.found ≡ c.args.tag → ⊥ = search rules in
+    let read = c.in_ok-found.ensures.value in
+    different (tag_of_front c.in_ok-found.found c.args.tag c.in_ok-found.constructed c.args.room 0 c.in_ok-found.used c.args.octets.now more read.tagged h).tag

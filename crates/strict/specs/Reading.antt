@@ -1,0 +1,40 @@
+-- A value that has been read at the front of some octets, and what can stand there.
+use Rattle.std.specs.Prelude.{◌≡◌, ◌≤◌, ℕ, Bool, List, ◌++◌, Option, length, take, MatchOption}
+use Rattle.octets.specs.Rule.{Rule}
+use Rattle.types.specs.declared.value.Value.{Value}
+use Rattle.types.specs.Shape.{Val, Shape}
+use Rattle.types.specs.View.{AlternativeView, alternatives_of, value_view}
+use Rattle.types.specs.Encoding.{IsEncoding, IsAlternativeEncoding}
+use Rattle.strict.specs.Head.{Fills, mark}
+
+-- so many octets are an encoding of the value in the slot
+abbrev pub IsRead : Rule → Shape → ℕ → List ℕ → Option Value → ℕ → Type 0
+IsRead rule type room octets slot used = (used ≤ length octets) × (used ≤ room) × MatchOption slot ⊥ (λ value. IsEncoding rule type (value_view value) (take used octets))
+
+-- the octets begin with an encoding of the type, of at most so many octets
+pub record HasPart (rule : Rule) (type : Shape) (room : ℕ) (octets : List ℕ) : Type 0 where
+  pub value : Val
+  pub part : List ℕ
+  pub rest : List ℕ
+  pub encoding : IsEncoding rule type value part
+  pub fits : length part ≤ room
+  pub parts : octets ≡ part ++ rest
+
+-- they begin with an encoding of one of the alternatives
+pub record HasChoice (rule : Rule) (left : List AlternativeView) (room : ℕ) (octets : List ℕ) : Type 0 where
+  pub which : ℕ
+  pub value : Val
+  pub part : List ℕ
+  pub rest : List ℕ
+  pub chosen : IsAlternativeEncoding rule (alternatives_of left) which value part
+  pub fits : length part ≤ room
+  pub parts : octets ≡ part ++ rest
+
+-- they begin with one encoding of the type up to an end
+pub record HasAlone (rule : Rule) (type : Shape) (definite : Bool) (room : ℕ) (octets : List ℕ) : Type 0 where
+  pub value : Val
+  pub part : List ℕ
+  pub rest : List ℕ
+  pub encoding : IsEncoding rule type value part
+  pub fills : Fills definite room part
+  pub parts : octets ≡ part ++ (mark definite ++ rest)

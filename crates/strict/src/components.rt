@@ -1,0 +1,158 @@
+//! SEQUENCEs: components in order of declaration (X.690 8.9 and 11.5).
+
+ghost use Rattle.std.specs.Prelude.{◌≡◌, ◌-◌, ◌≤◌, ℕ, [], None, map, drop, IfOk, IfErr};
+ghost use Rattle.std.specs.List.{AllByRecursion};
+ghost use Rattle.octets.specs.declared.TheConstants.{MAX_ENCODING};
+ghost use Rattle.types.specs.FirstTags.{RunsAreDistinct};
+ghost use Rattle.types.specs.Shape.{Shape};
+ghost use Rattle.types.specs.View.{components_view, field_view};
+ghost use Rattle.contents.specs.Parts.{IsGoodType, IsGoodComponent};
+ghost use Rattle.strict.specs.Canonical.{rule_of};
+ghost use Rattle.strict.specs.Bars.{Bars};
+ghost use Rattle.strict.specs.Head.{EndsHere};
+ghost use Rattle.strict.specs.Reading.{IsRead, HasPart};
+ghost use Rattle.strict.specs.Components.{IsFront, HasPresent, IsPresentRead, HasComponents, AreComponentsRead, IsComponentRead, BarsComponents};
+ghost use Rattle.strict.specs.Refusal.{IsOfStrictReading};
+
+use crate::canonical::Canonical;
+use crate::fronts::{front_tag, is_next, is_spelt_out, left_over, not_next};
+use crate::head::{Inside, named, opened};
+use crate::parts::read_one;
+use octets::{MAX_ENCODING, Tag};
+use std::alloc::Global;
+use types::{Field, Refusal, Value, may_be_absent};
+
+// Reads a SEQUENCE with these components at the front into the slot.
+#[cycle(reading)]
+#[inline(never)]
+pub fn read_sequence(
+    alloc: Global,
+    rule: Canonical,
+    tag: Tag,
+    fields: &[Field],
+    room: usize,
+    octets: &[u8],
+    slot: &mut Option<Value>,
+) -> Result<usize, Refusal>
+    requires good { IsGoodType (Shape.sequence tag (components_view fields.now)) }
+    requires room { room ≤ MAX_ENCODING }
+    ensures value { IfOk result (λ used. IsRead (rule_of rule) (Shape.sequence tag (components_view fields.now)) room octets.now slot.new used) }
+    ensures refused { IfErr result (λ refusal. Bars refusal (HasPart (rule_of rule) (Shape.sequence tag (components_view fields.now)) room) octets.now) }
+    ensures numbers { IfErr result IsOfStrictReading }
+{
+    let inside = opened(rule, tag, room, octets)?;
+    let behind = &octets[inside.start..];
+    let mut slots = Vec::new(alloc);
+    if slots.reserve_exact(fields.len()).is_err() {
+        return Err(Refusal::NoMemory);
+    }
+    match read_components(alloc, rule, fields, &inside, behind, &mut slots) {
+        Ok(used) => {
+            *slot = Some(Value::Fields(slots));
+            Ok(inside.close(used))
+        }
+        Err(refusal) => Err(named(rule, inside.room, refusal)),
+    }
+}
+
+// Reads the encodings of components at the front up to the end, and returns how many octets they have.
+#[cycle(reading)]
+fn read_components(
+    alloc: Global,
+    rule: Canonical,
+    fields: &[Field],
+    inside: &Inside,
+    octets: &[u8],
+    slots: &mut Vec<Option<Value>>,
+) -> Result<usize, Refusal>
+    requires good { AllByRecursion IsGoodComponent (map field_view fields.now) }
+    requires runs { RunsAreDistinct (components_view fields.now) }
+    requires room { inside.now.room ≤ MAX_ENCODING }
+    requires none { slots.old.items ≡ [] }
+    ensures value { IfOk result (λ used. AreComponentsRead (rule_of rule) (map field_view fields.now) [] inside.now.definite inside.now.room octets.now slots.new.items used
+        × EndsHere inside.now.definite (inside.now.room - used) (drop used octets.now)) }
+    ensures refused { IfErr result (λ refusal. Bars refusal (HasComponents (rule_of rule) (map field_view fields.now) inside.now.definite inside.now.room) octets.now) }
+    ensures numbers { IfErr result IsOfStrictReading }
+{
+    let mut at = 0;
+    let mut front = front_tag(inside.definite, inside.room, octets)?;
+    for (place, field) in fields.iter().enumerate() {
+        let mut slot = None;
+        at += read_component(
+            alloc,
+            rule,
+            field,
+            &fields[place + 1..],
+            inside.definite,
+            inside.room - at,
+            &octets[at..],
+            &mut front,
+            &mut slot,
+        )?;
+        if slots.reserve(1).is_err() {
+            return Err(Refusal::NoMemory);
+        }
+        slots.push_reserved(slot);
+    }
+    match front {
+        Some(tag) => Err(left_over(tag, slots)),
+        None => Ok(at),
+    }
+}
+
+// Reads the encoding of the component at the front, if it stands there, or none where it may be absent. The tag at the
+// front is then that of what stands behind it.
+#[cycle(reading)]
+fn read_component(
+    alloc: Global,
+    rule: Canonical,
+    field: &Field,
+    later: &[Field],
+    definite: bool,
+    room: usize,
+    octets: &[u8],
+    front: &mut Option<Tag>,
+    slot: &mut Option<Value>,
+) -> Result<usize, Refusal>
+    requires good { IsGoodComponent (field_view field.now) }
+    requires room { room ≤ MAX_ENCODING }
+    requires front { IsFront front.old definite room octets.now }
+    requires none { slot.old ≡ None }
+    ensures value { IfOk result (λ used. IsComponentRead (rule_of rule) (field_view field.now) definite room octets.now slot.new used
+        × IsFront front.new definite (room - used) (drop used octets.now)) }
+    ensures refused { IfErr result (λ refusal. BarsComponents (rule_of rule) (field_view field.now) definite room octets.now refusal) }
+    ensures numbers { IfErr result IsOfStrictReading }
+{
+    if !is_next(*front, &field.ty) {
+        if may_be_absent(&field.presence) {
+            return Ok(0);
+        }
+        return Err(not_next(*front, later));
+    }
+    let used = read_present(alloc, rule, field, room, octets, slot)?;
+    *front = front_tag(definite, room - used, &octets[used..])?;
+    Ok(used)
+}
+
+// Reads the encoding of the component at the front, which is not that of its default.
+#[cycle(reading)]
+pub fn read_present(
+    alloc: Global,
+    rule: Canonical,
+    field: &Field,
+    room: usize,
+    octets: &[u8],
+    slot: &mut Option<Value>,
+) -> Result<usize, Refusal>
+    requires good { IsGoodComponent (field_view field.now) }
+    requires room { room ≤ MAX_ENCODING }
+    ensures value { IfOk result (λ used. IsPresentRead (rule_of rule) (field_view field.now) room octets.now slot.new used) }
+    ensures refused { IfErr result (λ refusal. Bars refusal (HasPresent (rule_of rule) (field_view field.now) room) octets.now) }
+    ensures numbers { IfErr result IsOfStrictReading }
+{
+    let used = read_one(alloc, rule, &field.ty, room, octets, slot)?;
+    if is_spelt_out(&field.presence, slot) {
+        return Err(Refusal::NotCanonical);
+    }
+    Ok(used)
+}

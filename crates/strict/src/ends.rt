@@ -1,0 +1,32 @@
+//! Where the contents octets of a constructed encoding end.
+
+ghost use Rattle.std.specs.Prelude.{◌≡◌, ◌⊎◌, ◌≤◌, ◌++◌, ℕ, List, length, IfOk, IfErr};
+ghost use Rattle.contents.specs.Segments.{BeginsAboveZero};
+ghost use Rattle.strict.specs.Bars.{Bars};
+ghost use Rattle.strict.specs.Head.{EndsHere, IsEndKnown};
+ghost use Rattle.strict.specs.Refusal.{IsOfStrictReading};
+
+use types::Refusal;
+
+// Whether the contents octets end here, with room for so many more.
+pub fn ends(definite: bool, room: usize, octets: &[u8]) -> Result<bool, Refusal>
+    ensures value { IfOk result (λ ended. IsEndKnown ended definite room octets.now) }
+    ensures refused { IfErr result (λ refusal.
+        Bars refusal (λ o. EndsHere definite room o ⊎ BeginsAboveZero o) octets.now) }
+    ensures numbers { IfErr result IsOfStrictReading }
+{
+    if definite {
+        return Ok(room == 0);
+    }
+    let Some((&first, others)) = octets.split_first() else {
+        return Err(Refusal::Truncated);
+    };
+    if first != 0 {
+        return Ok(false);
+    }
+    match others.first() {
+        Some(0) => Ok(true),
+        Some(_) => Err(Refusal::EndOfContents),
+        None => Err(Refusal::Truncated),
+    }
+}

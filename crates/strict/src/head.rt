@@ -1,0 +1,193 @@
+//! Identifier octets and length octets as CER and DER have them (X.690 9.1 and 10.1).
+
+ghost use Rattle.std.specs.Prelude.{◌≡◌, ◌≢◌, ◌↔◌, ◌+◌, ◌^◌, ◌<◌, ◌≤◌, ◌++◌, ℕ, List, length, take, drop, true, false, IsTrue, IfOk, IfErr};
+ghost use Rattle.octets.specs.declared.TheConstants.{MAX_ENCODING, MAX_TAG_NUMBER};
+ghost use Rattle.octets.specs.declared.tag.Tag.{Tag};
+ghost use Rattle.octets.specs.Length.{IsLength, IsShortestLength};
+ghost use Rattle.octets.specs.Identifier.{IsIdentifier};
+ghost use Rattle.contents.specs.Head.{IsReadDefinite, IsReadTag, IsTagWithin};
+ghost use Rattle.strict.specs.Canonical.{rule_of};
+ghost use Rattle.strict.specs.Bars.{Bars, MayFollow};
+ghost use Rattle.strict.specs.Head.{IsDefiniteAt, HasDefinite, IsInsideDefinite, IsOpened, HasConstructed, mark};
+ghost use Rattle.strict.specs.Refusal.{IsOfStrictReading};
+
+use crate::canonical::Canonical;
+use contents::{Extent, not_due, read_extent, read_head_tag};
+use octets::{MAX_ENCODING, Tag};
+use types::Refusal;
+
+/// A constructed encoding of which the identifier octets and length octets have been read.
+#[derive(Clone, Copy)]
+pub struct Inside {
+    /// How many they are.
+    pub start: usize,
+    /// How many contents octets there can be; of the definite form, how many there are.
+    pub room: usize,
+    /// Whether the encoding has the definite form.
+    pub definite: bool,
+}
+
+// Whether the encoding at the front is constructed, and how many identifier octets it has, where they are those of the
+// tag.
+#[inline(always)]
+pub fn read_its_tag(tag: Tag, room: usize, octets: &[u8]) -> Result<(bool, usize), Refusal>
+    requires { tag.number ≤ MAX_TAG_NUMBER }
+    ensures value { IfOk result (λ p. IsReadTag tag room 0 octets.now p.0 p.1) }
+    ensures refused { IfErr result (λ refusal. Bars refusal (IsTagWithin tag room 0) octets.now) }
+    ensures numbers { IfErr result IsOfStrictReading }
+{
+    let (found, constructed, used) = read_head_tag(room, 0, octets)?;
+    if found != tag {
+        return Err(not_due(found));
+    }
+    Ok((constructed, used))
+}
+
+// How many octets stand before the contents octets of the constructed encoding of the definite form at the front, and
+// how many contents octets it has. The encoding has the tag, the shortest length, and at most `room` octets.
+fn definite(tag: Tag, room: usize, octets: &[u8]) -> Result<(usize, usize), Refusal>
+    requires tag { tag.number ≤ MAX_TAG_NUMBER }
+    requires room { room ≤ MAX_ENCODING }
+    ensures value { IfOk result (λ p. IsDefiniteAt tag true room octets.now p.0 p.1) }
+    ensures refused { IfErr result (λ refusal. Bars refusal (HasDefinite tag true room) octets.now) }
+    ensures numbers { IfErr result IsOfStrictReading }
+{
+    let (constructed, identifier) = read_its_tag(tag, room, octets)?;
+    if !constructed {
+        return Err(Refusal::Form);
+    }
+    match read_extent(true, room, identifier, &octets[identifier..])? {
+        Extent::Definite { octets: size, used } => {
+            if !is_shortest(size, used) {
+                return Err(Refusal::NotCanonical);
+            }
+            Ok((identifier + used, size))
+        }
+        Extent::Indefinite { .. } => Err(Refusal::NotCanonical),
+    }
+}
+
+// How many contents octets the primitive encoding at the front has, behind so many identifier octets, and how many
+// length octets say so.
+pub fn read_size(room: usize, identifier: usize, octets: &[u8]) -> Result<(usize, usize), Refusal>
+    requires there { identifier ≤ length octets.now }
+    requires room { room ≤ MAX_ENCODING }
+    ensures value { IfOk result (λ p. IsReadDefinite room identifier (drop identifier octets.now) p.0 p.1) }
+    ensures refused { IfErr result (λ refusal. (tag : Tag) → IsIdentifier tag false (take identifier octets.now) →
+        Bars refusal (HasDefinite tag false room) octets.now) }
+    ensures numbers { IfErr result IsOfStrictReading }
+{
+    match read_extent(false, room, identifier, &octets[identifier..])? {
+        Extent::Definite { octets: size, used } => Ok((size, used)),
+        Extent::Indefinite { .. } => Err(Refusal::Form),
+    }
+}
+
+// Whether so many length octets are as few as say this (X.690 10.1).
+pub fn is_shortest(size: usize, used: usize) -> bool
+    requires { size ≤ MAX_ENCODING }
+    ensures { (l : List ℕ) → IsLength size l → length l ≡ used → IsTrue result ↔ IsShortestLength size l }
+{
+    used == shortest(size)
+}
+
+// How many octets the shortest length has.
+fn shortest(size: usize) -> usize
+    requires { size ≤ MAX_ENCODING }
+    ensures { (l : List ℕ) → IsLength size l → IsShortestLength size l ↔ (length l ≡ result) }
+{
+    if size < 0x80 {
+        1
+    } else if size < 0x100 {
+        2
+    } else if size < 0x1_0000 {
+        3
+    } else {
+        4
+    }
+}
+
+// What stands inside the constructed encoding at the front, which has the tag and at most `room` octets.
+pub fn opened(rule: Canonical, tag: Tag, room: usize, octets: &[u8]) -> Result<Inside, Refusal>
+    requires tag { tag.number ≤ MAX_TAG_NUMBER }
+    requires room { room ≤ MAX_ENCODING }
+    ensures value { IfOk result (λ inside. IsOpened (rule_of rule) tag room octets.now inside) }
+    ensures refused { IfErr result (λ refusal. Bars refusal (HasConstructed (rule_of rule) tag room) octets.now) }
+    ensures numbers { IfErr result IsOfStrictReading }
+{
+    match rule {
+        Canonical::Der => match definite(tag, room, octets) {
+            Ok((start, size)) => Ok(Inside {
+                start,
+                room: size,
+                definite: true,
+            }),
+            Err(refusal) => Err(named(rule, room, refusal)),
+        },
+        Canonical::Cer => indefinite(tag, room, octets),
+    }
+}
+
+// The same under CER.
+pub fn indefinite(tag: Tag, room: usize, octets: &[u8]) -> Result<Inside, Refusal>
+    requires tag { tag.number ≤ MAX_TAG_NUMBER }
+    requires room { room ≤ MAX_ENCODING }
+    ensures value { IfOk result (λ inside. IsOpened (rule_of Canonical.Cer) tag room octets.now inside) }
+    ensures form { IfOk result (λ inside. inside.definite ≡ false) }
+    ensures refused { IfErr result (λ refusal. Bars refusal (HasConstructed (rule_of Canonical.Cer) tag room) octets.now) }
+    ensures numbers { IfErr result IsOfStrictReading }
+{
+    let (form, identifier) = read_its_tag(tag, room, octets)?;
+    if !form {
+        return Err(Refusal::Form);
+    }
+    match read_extent(true, room, identifier, &octets[identifier..])? {
+        Extent::Indefinite { used } => {
+            let start = identifier + used;
+            Ok(Inside {
+                start,
+                room: room - start - 2,
+                definite: false,
+            })
+        }
+        Extent::Definite { .. } => Err(Refusal::NotCanonical),
+    }
+}
+
+impl Inside {
+    // How many octets the encoding has if so many are its contents octets.
+    pub fn close(&self, used: usize) -> usize
+        requires { self.now.start + used + 2 < 2 ^ 64 }
+        ensures { result ≡ self.now.start + used + length (mark self.now.definite) }
+    {
+        if self.definite {
+            self.start + used
+        } else {
+            self.start + used + 2
+        }
+    }
+}
+
+// Whether what is around a part of at most so many octets has the definite form: under DER each encoding has it, and
+// nothing is around the outermost.
+pub fn is_inside_definite(rule: Canonical, room: usize) -> bool
+    ensures { IsTrue result ↔ IsInsideDefinite rule room }
+{
+    match rule {
+        Canonical::Cer => false,
+        Canonical::Der => room < MAX_ENCODING,
+    }
+}
+
+// Why a part is refused, by what is around it: one that goes on too long passes an end that length octets say, where
+// that has the definite form.
+pub fn named(rule: Canonical, room: usize, refusal: Refusal) -> Refusal
+    ensures follows { (more : List ℕ) → MayFollow result more → MayFollow refusal more }
+    ensures numbers { IsOfStrictReading refusal → IsOfStrictReading result }
+{
+    if refusal == Refusal::TooLong && is_inside_definite(rule, room) {
+        Refusal::Length
+    } else {
+        refusal
+    }
+}

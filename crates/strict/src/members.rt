@@ -1,0 +1,128 @@
+//! SETs: components in the order of their tags (X.690 8.11, 9.3 and 10.3).
+
+ghost use Rattle.std.specs.Prelude.{◌≡◌, ◌-◌, ◌≤◌, ℕ, Option, None, map, drop, IfOk, IfErr};
+ghost use Rattle.std.specs.List.{AllByRecursion};
+ghost use Rattle.octets.specs.declared.TheConstants.{MAX_ENCODING};
+ghost use Rattle.octets.specs.declared.tag.Tag.{Tag as TagOf};
+ghost use Rattle.types.specs.FirstTags.{AreDistinct, tags_of_components};
+ghost use Rattle.types.specs.Shape.{Shape};
+ghost use Rattle.types.specs.View.{field_view, components_view};
+ghost use Rattle.contents.specs.Parts.{IsGoodType, IsGoodComponent};
+ghost use Rattle.strict.specs.Canonical.{rule_of};
+ghost use Rattle.strict.specs.Bars.{Bars};
+ghost use Rattle.strict.specs.Head.{EndsHere};
+ghost use Rattle.strict.specs.Reading.{IsRead, HasPart};
+ghost use Rattle.strict.specs.Members.{HasMembers, AreMembersRead, AreFilled};
+ghost use Rattle.strict.specs.Refusal.{IsOfStrictReading};
+
+use crate::canonical::Canonical;
+use crate::components::read_present;
+use crate::fronts::front_tag;
+use crate::head::{Inside, named, opened};
+use crate::places::{are_filled, place_due};
+use crate::tags::{comes_behind, order_tag};
+use octets::{MAX_ENCODING, Tag};
+use std::alloc::Global;
+use types::{Field, Refusal, Value};
+
+// Reads a SET with these components at the front into the slot.
+#[cycle(reading)]
+#[inline(never)]
+pub fn read_set(
+    alloc: Global,
+    rule: Canonical,
+    tag: Tag,
+    fields: &[Field],
+    room: usize,
+    octets: &[u8],
+    slot: &mut Option<Value>,
+) -> Result<usize, Refusal>
+    requires good { IsGoodType (Shape.set tag (components_view fields.now)) }
+    requires room { room ≤ MAX_ENCODING }
+    ensures value { IfOk result (λ used. IsRead (rule_of rule) (Shape.set tag (components_view fields.now)) room octets.now slot.new used) }
+    ensures refused { IfErr result (λ refusal. Bars refusal (HasPart (rule_of rule) (Shape.set tag (components_view fields.now)) room) octets.now) }
+    ensures numbers { IfErr result IsOfStrictReading }
+{
+    let inside = opened(rule, tag, room, octets)?;
+    let Ok(empty) = empty_slots(alloc, fields) else {
+        return Err(Refusal::NoMemory);
+    };
+    let mut slots = empty;
+    match read_members(
+        alloc,
+        rule,
+        fields,
+        &inside,
+        &octets[inside.start..],
+        &mut slots,
+    ) {
+        Ok(used) => {
+            *slot = Some(Value::Fields(slots));
+            Ok(inside.close(used))
+        }
+        Err(refusal) => Err(named(rule, inside.room, refusal)),
+    }
+}
+
+// A slot for each component; all are empty.
+fn empty_slots(alloc: Global, fields: &[Field]) -> Result<Vec<Option<Value>>, Refusal>
+    ensures { IfOk result (λ slots. slots.items ≡ map (λ c. None) (map field_view fields.now)) }
+{
+    let mut slots = Vec::new(alloc);
+    if slots.reserve_exact(fields.len()).is_err() {
+        return Err(Refusal::NoMemory);
+    }
+    for _ in fields {
+        if slots.push(None).is_err() {
+            return Err(Refusal::NoMemory);
+        }
+    }
+    Ok(slots)
+}
+
+// Reads the encodings of components at the front up to the end, and returns how many octets they have.
+#[cycle(reading)]
+fn read_members(
+    alloc: Global,
+    rule: Canonical,
+    fields: &[Field],
+    inside: &Inside,
+    octets: &[u8],
+    slots: &mut Vec<Option<Value>>,
+) -> Result<usize, Refusal>
+    requires good { AllByRecursion IsGoodComponent (map field_view fields.now) }
+    requires distinct { AreDistinct (tags_of_components (components_view fields.now)) }
+    requires room { inside.now.room ≤ MAX_ENCODING }
+    requires none { slots.old.items ≡ map (λ c. None) (map field_view fields.now) }
+    ensures value { IfOk result (λ used. AreFilled (map field_view fields.now) slots.new.items
+        × ((last : Option TagOf) × AreMembersRead (rule_of rule) (map field_view fields.now) slots.new.items last inside.now.definite inside.now.room octets.now used)
+        × EndsHere inside.now.definite (inside.now.room - used) (drop used octets.now)) }
+    ensures refused { IfErr result (λ refusal. Bars refusal (HasMembers (rule_of rule) (map field_view fields.now) (map (λ c. None) (map field_view fields.now)) None inside.now.definite inside.now.room) octets.now) }
+    ensures numbers { IfErr result IsOfStrictReading }
+{
+    let mut at = 0;
+    let mut behind = 0;
+    let mut last = None;
+    while let Some(tag) = front_tag(inside.definite, inside.room - at, &octets[at..])? {
+        let place = place_due(fields, slots, behind, tag)?;
+        let field = &fields[place];
+        let order = order_tag(rule, &field.ty, tag);
+        if !comes_behind(last, order) {
+            return Err(Refusal::NotCanonical);
+        }
+        at += read_present(
+            alloc,
+            rule,
+            field,
+            inside.room - at,
+            &octets[at..],
+            &mut slots[place],
+        )?;
+        last = Some(order);
+        behind = place + 1;
+    }
+    if !are_filled(fields, slots) {
+        return Err(Refusal::Missing);
+    }
+    Ok(at)
+}

@@ -1,0 +1,119 @@
+//! Values of the contents octets of primitive encodings.
+
+ghost use Rattle.std.specs.Prelude.{◌≡◌, ◌↔◌, ◌≤◌, ◌-◌, ◌++◌, Bool, List, false, take, replicate, IsTrue, IsErr, IfOk, IfErr};
+ghost use Rattle.octets.specs.Rule.{ber, der};
+ghost use Rattle.primitives.specs.Bits.{IsBits, bits_of_octet};
+ghost use Rattle.types.specs.Conforms.{Conforms};
+ghost use Rattle.types.specs.Leaf.{IsLeaf};
+ghost use Rattle.types.specs.Refusal.{IsFinal};
+ghost use Rattle.types.specs.Shape.{Val};
+ghost use Rattle.types.specs.View.{ty_view, value_view};
+ghost use Rattle.contents.specs.Contents.{HoldsContents};
+ghost use Rattle.strict.specs.Leaf.{IsBitString, IsBooleanOf, IsOfSpelling, bits_view};
+
+use contents::read_contents;
+use primitives::{Bits, Fault, read_bits};
+use std::alloc::Global;
+use types::{Refusal, Ty, Value, conforms};
+
+// The value of a type without parts that the contents octets are, as CER and DER have them (X.690 11.1 and 11.2).
+//
+// Refused as `contents::read_contents` does where they are those of no value, and with `NotCanonical` where they are,
+// but not as the rules have them.
+pub fn read_value(alloc: Global, ty: &Ty, contents: &[u8]) -> Result<Value, Refusal>
+    requires { IsLeaf (ty_view ty.now) }
+    ensures value { IfOk result (λ value. Conforms (ty_view ty.now) (value_view value)
+        × HoldsContents der (ty_view ty.now) (value_view value) contents.now) }
+    ensures none { IfErr result (λ refusal. IsFinal refusal → (v : Val) → Conforms (ty_view ty.now) v →
+        ¬ HoldsContents der (ty_view ty.now) v contents.now) }
+    ensures numbers { IfErr result IsOfSpelling }
+{
+    match ty {
+        Ty::Boolean(_) => read_truth(contents),
+        Ty::Bits(_) | Ty::NamedBits(_, _) => read_bit_string(alloc, ty, contents),
+        Ty::Integer(_)
+        | Ty::Enumerated(_, _)
+        | Ty::Null(_)
+        | Ty::Oid(_)
+        | Ty::RelativeOid(_)
+        | Ty::Octets(_)
+        | Ty::Text(_, _)
+        | Ty::Time(_, _)
+        | Ty::Sequence(_, _)
+        | Ty::Set(_, _)
+        | Ty::SequenceOf(_, _)
+        | Ty::SetOf(_, _)
+        | Ty::Choice(_)
+        | Ty::Explicit(_, _) => read_contents(alloc, ty, contents),
+    }
+}
+
+// The truth value: TRUE is FF (X.690 11.1).
+fn read_truth(contents: &[u8]) -> Result<Value, Refusal>
+    ensures value { IfOk result (λ value. IsBooleanOf (value_view value) contents.now) }
+    ensures none { IsErr result → (v : Val) → ¬ IsBooleanOf v contents.now }
+    ensures numbers { IfErr result IsOfSpelling }
+{
+    match contents {
+        [0x00] => Ok(Value::Boolean(false)),
+        [0xFF] => Ok(Value::Boolean(true)),
+        [_] => Err(Refusal::NotCanonical),
+        _ => Err(Refusal::Contents),
+    }
+}
+
+// The bits: unused ones are 0 (X.690 11.2.1).
+fn read_bit_string(alloc: Global, ty: &Ty, contents: &[u8]) -> Result<Value, Refusal>
+    requires { IsBitString (ty_view ty.now) }
+    ensures value { IfOk result (λ value. Conforms (ty_view ty.now) (value_view value)
+        × HoldsContents der (ty_view ty.now) (value_view value) contents.now) }
+    ensures none { IfErr result (λ refusal. IsFinal refusal → (v : Val) → Conforms (ty_view ty.now) v →
+        ¬ HoldsContents der (ty_view ty.now) v contents.now) }
+    ensures numbers { IfErr result IsOfSpelling }
+{
+    match read_bits(alloc, contents) {
+        Ok(bits) => {
+            if has_zeros_unused(contents) {
+                bits_value(ty, bits)
+            } else {
+                Err(Refusal::NotCanonical)
+            }
+        }
+        Err(Fault::Contents) => Err(Refusal::Contents),
+        Err(Fault::NoMemory) => Err(Refusal::NoMemory),
+    }
+}
+
+// Whether the unused bits in these contents octets of a BIT STRING are 0.
+pub fn has_zeros_unused(contents: &[u8]) -> bool
+    requires { (bits : List Bool) × IsBits ber bits contents.now }
+    ensures { (bits : List Bool) → IsBits ber bits contents.now → IsTrue result ↔ IsBits der bits contents.now }
+{
+    match contents {
+        [unused, .., last] => ends_with_zeros(*last, *unused),
+        _ => true,
+    }
+}
+
+fn ends_with_zeros(octet: u8, bits: u8) -> bool
+    requires { bits ≤ 7 }
+    ensures { IsTrue result ↔ (bits_of_octet octet ≡ take (8 - bits) (bits_of_octet octet) ++ replicate bits false) }
+{
+    octet >> bits << bits == octet
+}
+
+// The value of these bits: named ones end with a bit 1 (X.690 11.2.2).
+pub fn bits_value(ty: &Ty, bits: Bits) -> Result<Value, Refusal>
+    requires { IsBitString (ty_view ty.now) }
+    ensures value { IfOk result (λ value. (value_view value ≡ bits_view bits)
+        × Conforms (ty_view ty.now) (value_view value)) }
+    ensures none { IsErr result → ¬ Conforms (ty_view ty.now) (bits_view bits) }
+    ensures numbers { IfErr result (λ refusal. refusal ≡ Refusal.NotCanonical) }
+{
+    let value = Value::Bits(bits);
+    if conforms(ty, &value) {
+        Ok(value)
+    } else {
+        Err(Refusal::NotCanonical)
+    }
+}
