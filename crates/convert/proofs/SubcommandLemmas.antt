@@ -20,8 +20,8 @@ use Rattle.convert.specs.Program.{IsNames, canonical_names, from_option, hex_opt
 use Rattle.convert.specs.CommandLine.{word_of_canonical, word_of_rule}
 use Rattle.engine.specs.declared.rule.Rule.{Rule as ReadRule}
 use Rattle.engine.specs.declared.rule.Rule.TheVariants.{Ber, Cer as ReadCer, Der as ReadDer}
-use Rattle.engine.specs.declared.rule.Canonical.{Canonical}
-use Rattle.engine.specs.declared.rule.Canonical.TheVariants.{Cer, Der}
+use Rattle.engine.specs.Canonical.{Canonical}
+use Rattle.engine.specs.Canonical.TheVariants.{Cer, Der}
 use Rattle.convert.specs.declared.command_line.Verb.{Verb}
 use Rattle.convert.specs.declared.command_line.Verb.TheVariants.{Convert}
 use Rattle.convert.proofs.WalkedLemmas.{Keeps, none_of}

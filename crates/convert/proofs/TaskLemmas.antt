@@ -8,7 +8,7 @@ use Rattle.types.specs.Shape.{Shape}
 use Rattle.types.specs.Encoding.{IsAccepted}
 use Rattle.engine.specs.Rule.{canonical_rule_of}
 use Rattle.engine.specs.Stream.{IsChecked, IsCheckStopped, IsStopped, OfStream}
-use Rattle.engine.specs.declared.rule.Canonical.{Canonical}
+use Rattle.engine.specs.Canonical.{Canonical}
 use Rattle.convert.specs.Task.{IsTextStopped}
 
 all_read : (from : Rule) (shape : Shape) (count : ℕ) (stream : List ℕ) → IsChecked from shape count stream → IsCheckStopped from shape count SinkFault stream
@@ -22,6 +22,7 @@ all_read from shape count stream h = record {
     none = λ b. absurd b;
     never = λ b. absurd b;
     strict = λ e. absurd (cc e);
+    by_ber = λ e. absurd (cc e);
     stream_limit = λ e. absurd (cc e);
   };
 }
@@ -43,6 +44,7 @@ text_read from to shape done refusal stream written h = record {
       none = λ b. absurd b;
       never = λ b. absurd b;
       strict = λ e. absurd (cc e);
+      by_ber = λ e. absurd (cc e);
       stream_limit = λ e. absurd (cc e);
     };
   };

@@ -12,7 +12,7 @@ use Rattle.std.specs.Box.{box_value}
 use Rattle.convert.specs.declared.command_line.Line.{Line}
 use Rattle.convert.specs.declared.command_line.Verb.{Verb}
 use Rattle.convert.specs.declared.command_line.Verb.TheVariants.{Show, Check, Convert}
-use Rattle.engine.specs.declared.rule.Canonical.{Canonical}
+use Rattle.engine.specs.Canonical.{Canonical}
 use Rattle.engine.specs.declared.rule.Rule.{Rule}
 use Rattle.convert.specs.CommandLine.{word_of_canonical, word_of_rule, word_of_verb}
 use Rattle.convert.specs.Entries.{HasEntries, HasWords, IsLineOf}

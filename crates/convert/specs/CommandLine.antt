@@ -5,8 +5,8 @@ use Rattle.convert.specs.declared.command_line.Verb.{Verb}
 use Rattle.convert.specs.declared.command_line.Verb.TheVariants.{Show, Check, Convert}
 use Rattle.engine.specs.declared.rule.Rule.{Rule}
 use Rattle.engine.specs.declared.rule.Rule.TheVariants.{Ber, Cer as ReadCer, Der as ReadDer}
-use Rattle.engine.specs.declared.rule.Canonical.{Canonical}
-use Rattle.engine.specs.declared.rule.Canonical.TheVariants.{Cer, Der}
+use Rattle.engine.specs.Canonical.{Canonical}
+use Rattle.engine.specs.Canonical.TheVariants.{Cer, Der}
 
 -- the octets of each word
 abbrev pub texts_of : List (Bor (List ℕ)) → List (List ℕ)

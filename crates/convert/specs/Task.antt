@@ -8,7 +8,7 @@ use Rattle.types.specs.Shape.{Shape}
 use Rattle.texts.specs.Shown.{IsShown}
 use Rattle.engine.specs.Rule.{canonical_rule_of}
 use Rattle.engine.specs.Stream.{IsChecked, IsCheckStopped, IsConverted, IsLine, IsListed, IsStopped, OfStream}
-use Rattle.engine.specs.declared.rule.Canonical.{Canonical}
+use Rattle.engine.specs.Canonical.{Canonical}
 use Rattle.convert.specs.declared.fault.Fault.{Fault}
 use Rattle.convert.specs.declared.fault.Fault.TheVariants.{Refused}
 use Rattle.convert.specs.declared.tasks.Task.{Task}

@@ -1,28 +1,27 @@
 -- A call over a stream, read by read, and what it then has done.
 use Rattle.std.proofs.Common.{◌≡◌, ◌≢◌, ℕ, ◌+◌, ◌≤◌, ◌<◌, List, [], ◌++◌, length, Option, None, Some, refl, sym, ap, ◌∙◌, arith, length-append, append-nil, subst}
-use Rattle.std.specs.Prelude.{IfSome, IfOk, Result, Ok, Err}
-use Rattle.octets.proofs.RuleLemmas.{cer_is_canonical, der_is_canonical}
-use Rattle.engine.specs.declared.rule.Canonical.{Canonical}
-use Rattle.engine.specs.declared.rule.Canonical.TheVariants.{Cer, Der}
+use Rattle.std.specs.Prelude.{IfSome, IfOk, IfErr, Result, Ok, Err}
+use Rattle.strict.specs.declared.canonical.Canonical.{Canonical}
 use Rattle.engine.specs.Rule.{canonical_rule_of}
+use Rattle.engine.specs.declared.stopped.Stopped.{Stopped}
 use Rattle.std.specs.Io.KnownBytes.{Appends, Consumes, Keeps, IsAtEnd}
 use Rattle.octets.specs.Front.{HasFront}
 use Rattle.octets.specs.Rule.{Rule, ber, IsCanonical}
 use Rattle.types.specs.declared.refusal.Refusal.{Refusal}
 use Rattle.types.specs.declared.refusal.Refusal.TheVariants.{Truncated, NotCanonical, StreamTooLong, OutputTooLong, SourceFault, SinkFault}
 use Rattle.types.specs.Encoding.{Meaning, IsAccepted, IsSomeAccepted}
-use Rattle.types.specs.Shape.{Shape, Val}
+use Rattle.types.specs.Shape.{Shape}
 use Rattle.types.specs.Stream.{IsStream}
 use Rattle.types.specs.WellFormed.{IsWellFormed}
-use Rattle.types.proofs.BeginningLemmas.{nested_plus}
-use Rattle.types.proofs.DepthLemmas.{canonical_are_ber}
 use Rattle.types.proofs.ZipLemmas.{zip_map}
+use Rattle.strict.proofs.StrictLemmas.{as_ber}
 use Rattle.devices.proofs.DeviceLemmas.{appends_none, consumes_none, appends_more, consumes_more, consumes_keeps}
 use Rattle.engine.specs.Stream.{most_streamed, AreWritten, IsLine, IsConverted, IsChecked, IsListed, IsStopped, IsCheckStopped, Refuses, RefusesToWrite, OfStream}
 use Rattle.engine.specs.Feeding.{IsUnfinished}
 use Rattle.engine.specs.Given.{HasGiven}
 use Rattle.engine.specs.Passing.{Writes, PassesOn, StopsPassing, StandsAfter}
 use Rattle.engine.proofs.StreamLemmas.{written_is_stream}
+use Rattle.engine.proofs.TranscodingLemmas.{to_is_canonical}
 use Rattle.engine.proofs.PassingLemmas.{writes_none, writes_on, writes_before, refuses_plainly, other}
 
 -- before the first read
@@ -121,6 +120,7 @@ too_long StandsAt rule shape Stands done total left left_old left_new taken take
       none = λ h. absurd h;
       never = λ h. absurd h;
       strict = λ h. absurd (other StreamTooLong NotCanonical (λ n. omega (arith, n)) h);
+      by_ber = λ h. absurd (other StreamTooLong NotCanonical (λ n. omega (arith, n)) h);
       stream_limit = λ _. omega (arith, past, s.size, length-append (s.given ++ piece) more, length-append s.given piece);
     })
     (λ more _. writes_no_part rule shape Stands StreamTooLong ((s.rest ++ piece) ++ more) (other StreamTooLong OutputTooLong (λ h. omega (arith, h))) (other StreamTooLong SinkFault (λ h. omega (arith, h))))
@@ -139,6 +139,7 @@ ends_early StandsAt rule shape Stands done total left left_old left_new taken ta
       none = λ _. subst (λ octets. ¬ HasFront (IsSomeAccepted rule shape) octets) (sym (all_is more told)) o.1;
       never = λ h. absurd h;
       strict = λ h. absurd (other Truncated NotCanonical (λ n. omega (arith, n)) h);
+      by_ber = λ h. absurd (other Truncated NotCanonical (λ n. omega (arith, n)) h);
       stream_limit = λ h. absurd (other Truncated StreamTooLong (λ n. omega (arith, n)) h);
     })
     (λ more _. writes_no_part rule shape Stands Truncated (s.rest ++ more) (other Truncated OutputTooLong (λ h. omega (arith, h))) (other Truncated SinkFault (λ h. omega (arith, h))))
@@ -172,12 +173,6 @@ pub of_source : (P : List ℕ → List ℕ → Type 0) (Q : List ℕ → Type 0)
 of_source P Q None taken taken_new follows h = tt
 of_source P Q (Some stream) taken taken_new follows h = follows stream h.0 h.2
 
--- BER accepts what a canonical rule does
-pub accepted_by_ber : (rule : Rule) (shape : Shape) (v : Val) (octets : List ℕ) → IsWellFormed shape → IsCanonical rule → IsAccepted rule shape v octets → IsAccepted ber shape v octets
-accepted_by_ber rule shape v octets well canonical h =
-    let by_ber = canonical_are_ber rule shape v octets well canonical h.encoding in
-    record { encoding = by_ber.encoding; depth = nested_plus 3 61 octets by_ber.depth; size = h.size }
-
 -- what was done of a whole stream
 abbrev pub checked : (rule : Rule) (shape : Shape) (Stands : Meaning) (count : ℕ) (stream written : List ℕ) → Writes rule shape Stands count stream [] written [] → length stream ≤ most_streamed → IsChecked rule shape count stream
 checked rule shape Stands count stream written w within =
@@ -199,7 +194,7 @@ converted from to shape count stream written well canonical w within =
       counted = w.counted;
       read = all.read;
       put = put;
-      again = record { encodings = put.encodings; each = zip_map (IsAccepted to shape) (IsAccepted ber shape) (λ v octets. accepted_by_ber to shape v octets well canonical) w.values put.encodings put.each; whole = put.whole };
+      again = record { encodings = put.encodings; each = zip_map (IsAccepted to shape) (IsAccepted ber shape) (λ v octets. as_ber to shape v octets well canonical) w.values put.encodings put.each; whole = put.whole };
       size = within;
     }
 
@@ -207,17 +202,13 @@ converted from to shape count stream written well canonical w within =
 pub check_stopped : (Stands : Meaning) (rule : Rule) (shape : Shape) (done : ℕ) (refusal : Refusal) (stream written : List ℕ) → IsStopped Stands rule shape done refusal stream written → IsCheckStopped rule shape done refusal stream
 check_stopped Stands rule shape done refusal stream written h = record { values = h.values; counted = h.counted; rest = h.rest; read = h.read; refused = h.refused }
 
--- the canonical rules by their names in code
-canonical_is : (to : Canonical) → IsCanonical (canonical_rule_of to)
-canonical_is Cer = cer_is_canonical
-canonical_is Der = der_is_canonical
-
+-- of what was returned
 pub all_converted : (from : Rule) (to : Canonical) (shape : Shape) {E : Type 0} (r : Result ℕ E) (left taken taken_new : Option (List ℕ)) → IsWellFormed shape
     → IfOk r (λ done. OfStream left taken taken_new (λ stream written. Writes from shape (IsAccepted (canonical_rule_of to) shape) done stream [] written [] × (length stream ≤ most_streamed)))
     → IfOk r (λ done. OfStream left taken taken_new (IsConverted from (canonical_rule_of to) shape done))
 all_converted from to shape (Err e) left taken taken_new well h = tt
 all_converted from to shape (Ok done) left taken taken_new well h =
-    of_stream _ (IsConverted from (canonical_rule_of to) shape done) left taken taken_new (λ stream written w. converted from (canonical_rule_of to) shape done stream written well (canonical_is to) w.0 w.1) h
+    of_stream _ (IsConverted from (canonical_rule_of to) shape done) left taken taken_new (λ stream written w. converted from (canonical_rule_of to) shape done stream written well (to_is_canonical to) w.0 w.1) h
 
 pub all_listed : (IsText : Meaning) (from : Rule) (shape : Shape) {E : Type 0} (r : Result ℕ E) (left taken taken_new : Option (List ℕ))
     → IfOk r (λ done. OfStream left taken taken_new (λ stream written. Writes from shape (IsLine IsText) done stream [] written [] × (length stream ≤ most_streamed)))
@@ -225,3 +216,17 @@ pub all_listed : (IsText : Meaning) (from : Rule) (shape : Shape) {E : Type 0} (
 all_listed IsText from shape (Err e) left taken taken_new h = tt
 all_listed IsText from shape (Ok done) left taken taken_new h =
     of_stream _ (IsListed IsText from shape done) left taken taken_new (λ stream written w. listed IsText from shape done stream written w.0 w.1) h
+
+pub all_checked : (Stands : Meaning) (from : Rule) (shape : Shape) {E : Type 0} (r : Result ℕ E) (left taken taken_new : Option (List ℕ))
+    → IfOk r (λ done. OfStream left taken taken_new (λ stream written. Writes from shape Stands done stream [] written [] × (length stream ≤ most_streamed)))
+    → IfOk r (λ done. IfSome left (IsChecked from shape done))
+all_checked Stands from shape (Err e) left taken taken_new h = tt
+all_checked Stands from shape (Ok done) left taken taken_new h =
+    of_source _ (IsChecked from shape done) left taken taken_new (λ stream written w. checked from shape Stands done stream written w.0 w.1) h
+
+pub all_check_stopped : (Stands : Meaning) (from : Rule) (shape : Shape) (r : Result ℕ Stopped) (left taken taken_new : Option (List ℕ))
+    → IfErr r (λ stopped. OfStream left taken taken_new (IsStopped Stands from shape stopped.done stopped.refusal))
+    → IfErr r (λ stopped. IfSome left (IsCheckStopped from shape stopped.done stopped.refusal))
+all_check_stopped Stands from shape (Ok done) left taken taken_new h = tt
+all_check_stopped Stands from shape (Err stopped) left taken taken_new h =
+    of_source _ (IsCheckStopped from shape stopped.done stopped.refusal) left taken taken_new (λ stream written w. check_stopped Stands from shape stopped.done stopped.refusal stream written w) h

@@ -42,13 +42,13 @@ gathered_all StandsAt rule shape Stands octets batch lengths now left none unfin
 
 -- a piece of which the rest was refused
 pub feed_refused : (rule : Rule) (shape : Shape) (Stands : Meaning) (refusal : Refusal) (octets batch lengths now left : List ℕ) → 0 < length left
-    → IsOfFeeding rule refusal → (IsFinal refusal → (more : List ℕ) → ¬ HasFront (IsSomeAccepted rule shape) ((now ++ left) ++ more)) → Gathers rule shape Stands octets (now ++ left) batch lengths
+    → IsOfFeeding rule shape (now ++ left) refusal → (IsFinal refusal → (more : List ℕ) → ¬ HasFront (IsSomeAccepted rule shape) ((now ++ left) ++ more)) → Gathers rule shape Stands octets (now ++ left) batch lengths
     → StopsGathering rule shape Stands refusal octets batch lengths
 feed_refused rule shape Stands refusal octets batch lengths now left some numbers never g = record {
   rest = now ++ left;
   gathers = g;
   stops = elim numbers.number [
-    | inl final ↦ refused_further rule shape Stands refusal (now ++ left) final numbers.strict (not_nothing now left some) (never final)
+    | inl final ↦ refused_further rule shape Stands refusal (now ++ left) final numbers.strict numbers.by_ber (not_nothing now left some) (never final)
     | inr memory ↦ subst (λ r. StopsAnyway rule shape Stands r (now ++ left) []) (sym memory) (memory_refused rule shape Stands (now ++ left))
   ];
 }

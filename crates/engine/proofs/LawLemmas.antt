@@ -1,8 +1,6 @@
 -- The laws of conversions of one value.
-use Rattle.std.proofs.Common.{◌≡◌, ℕ, List, [], refl}
+use Rattle.std.proofs.Common.{ℕ, List, [], refl}
 use Rattle.octets.specs.Rule as encoding
-use Rattle.octets.specs.Rule.{IsCanonical}
-use Rattle.octets.proofs.RuleLemmas.{cer_is_canonical, der_is_canonical}
 use Rattle.types.specs.Encoding.{IsAccepted}
 use Rattle.types.specs.Same.{IsSame}
 use Rattle.types.specs.Shape.{Shape, Val}
@@ -12,16 +10,11 @@ use Rattle.types.proofs.OneEncodingLemmas.{one_canonical}
 use Rattle.types.proofs.SameExactlyLemmas.{equal_exactly_if_same as equal_encodings}
 use Rattle.strict.proofs.StrictLemmas.{as_ber as accepted_as_ber}
 use Rattle.engine.specs.declared.rule.Rule.{Rule}
-use Rattle.engine.specs.declared.rule.Canonical.{Canonical}
-use Rattle.engine.specs.declared.rule.Canonical.TheVariants.{Cer, Der}
+use Rattle.strict.specs.declared.canonical.Canonical.{Canonical}
 use Rattle.engine.specs.Rule.{rule_of, canonical_rule_of}
 use Rattle.engine.specs.Laws.{EqualExactlyIfSame, StayAsTheyAre, WrittenOctetsStay}
 use Rattle.engine.specs.Transcoding.{IsTranscoded}
-use Rattle.engine.proofs.TranscodingLemmas.{as_ber, accepted_as}
-
-pub to_is_canonical : (to : Canonical) → IsCanonical (canonical_rule_of to)
-to_is_canonical Cer = cer_is_canonical
-to_is_canonical Der = der_is_canonical
+use Rattle.engine.proofs.TranscodingLemmas.{to_is_canonical, as_ber, accepted_as}
 
 -- octets have one value
 pub one_value : (shape : Shape) (v w : Val) (octets : List ℕ) → IsWellFormed shape → IsAccepted encoding.ber shape v octets → IsAccepted encoding.ber shape w octets → IsSame shape v w

@@ -5,7 +5,7 @@ use Rattle.std.specs.List.{AllZip, concat}
 use Rattle.std.proofs.lemmas.List.{map-append}
 use Rattle.std.proofs.lemmas.List.Folds.{concat-append}
 use Rattle.octets.specs.Front.{HasFront}
-use Rattle.octets.specs.Rule.{Rule, IsCanonical}
+use Rattle.octets.specs.Rule.{Rule, ber, IsCanonical}
 use Rattle.octets.proofs.FrontLemmas.{HasFront-from_parts, front_of_more}
 use Rattle.types.specs.declared.refusal.Refusal.{Refusal}
 use Rattle.types.specs.declared.refusal.Refusal.TheVariants.{Truncated, NotCanonical, StreamTooLong, OutputTooLong, SinkFault, NoMemory}
@@ -172,6 +172,7 @@ refuses_plainly rule shape refusal stream rest of_octets too_long = record {
   none = λ h. absurd (of_octets h);
   never = λ h. absurd (of_octets (final_of_octets refusal h));
   strict = λ h. absurd (of_octets (subst IsOfOctets (sym h) tt));
+  by_ber = λ h. absurd (of_octets (subst IsOfOctets (sym h) tt));
   stream_limit = λ h. absurd (too_long h);
 }
 
@@ -213,14 +214,15 @@ memory_refused rule shape Stands rest = record {
 }
 
 -- a refusal for good of octets is one of all that begin so
-pub refused_further : (rule : Rule) (shape : Shape) (Stands : Meaning) (refusal : Refusal) (rest : List ℕ) → IsFinal refusal → (refusal ≡ NotCanonical → IsCanonical rule) → rest ≢ []
+pub refused_further : (rule : Rule) (shape : Shape) (Stands : Meaning) (refusal : Refusal) (rest : List ℕ) → IsFinal refusal → (refusal ≡ NotCanonical → IsCanonical rule) → (refusal ≡ NotCanonical → HasFront (IsSomeAccepted ber shape) rest) → rest ≢ []
     → ((more : List ℕ) → ¬ HasFront (IsSomeAccepted rule shape) (rest ++ more)) → StopsAnyway rule shape Stands refusal rest []
-refused_further rule shape Stands refusal rest final strict begun never = record {
+refused_further rule shape Stands refusal rest final strict by_ber begun never = record {
   refused = λ stream behind. record {
     begun = λ _ h. begun (front_of_nothing rest behind h);
     none = λ _. never behind;
     never = λ _ more. subst (λ octets. ¬ HasFront (IsSomeAccepted rule shape) octets) (sym (append_assoc rest behind more)) (never (behind ++ more));
     strict = strict;
+    by_ber = λ h. front_before (IsSomeAccepted ber shape) rest behind (by_ber h);
     stream_limit = λ h. absurd (subst IsFinal h final);
   };
   unwritten = λ behind. record { too_long = λ h. absurd (subst IsFinal h final); cut = λ h. absurd (subst IsFinal h final); whole = λ h. refl };

@@ -54,7 +54,7 @@ open_fed shape old new before piece (Ok (Done v used)) s type value never number
     )
 open_fed shape old new before piece (Err refusal) s type value never numbers =
     let number = cases_of_feeding refusal numbers in (
-      record { number = number; strict = λ is. absurd (subst reader.IsOfFeeding is numbers) },
+      record { number = number; strict = λ is. absurd (subst reader.IsOfFeeding is numbers); by_ber = λ is. absurd (subst reader.IsOfFeeding is numbers) },
       λ final more. subst (λ t. ¬ reader.HasValue t ((before ++ piece) ++ more)) s.type (never s.fed.accepts final before more s.fed),
     )
 

@@ -75,6 +75,7 @@ one_and_a_part = record {
     none = λ _. cut_short;
     never = λ h. absurd h;
     strict = λ h. absurd (other Truncated NotCanonical (λ n. omega (arith, n)) h);
+    by_ber = λ h. absurd (other Truncated NotCanonical (λ n. omega (arith, n)) h);
     stream_limit = λ h. absurd (other Truncated StreamTooLong (λ n. omega (arith, n)) h);
   };
   unwritten = writes_no_part ber boolean (IsAccepted der boolean) Truncated (0x01 ∷ 0x01 ∷ []) (other Truncated OutputTooLong (λ n. omega (arith, n))) (other Truncated SinkFault (λ n. omega (arith, n)));

@@ -1,105 +1,148 @@
--- What a reader of a canonical rule takes: a BER encoding that is the one the rule gives its value.
-use Rattle.std.proofs.Common.{◌≡◌, ℕ, ◌+◌, ◌≤◌, inl, inr, List, [], ◌++◌, length, take, drop, Result, Ok, Err, refl, sym, ap, ◌∙◌, subst, arith, append_assoc, length-append}
+-- What a reader of a canonical rule takes: the encoding that the rule gives a value, which BER takes too.
+use Rattle.std.proofs.Common.{◌≡◌, ◌≢◌, ℕ, zero, suc, ◌≤◌, ◌⊎◌, inl, inr, List, [], ◌++◌, length, take, drop, Ok, Err, refl, sym, ap, ◌∙◌, subst, arith, append_assoc, append-nil}
 use Rattle.std.proofs.lemmas.List.{take-append-drop}
-use Rattle.std.proofs.Math.Seq.{take-append-add}
-use Rattle.octets.specs.Front.{Appends, HasFront}
+use Rattle.octets.specs.Front.{HasFront}
 use Rattle.octets.specs.Rule.{Rule, ber, IsCanonical}
-use Rattle.octets.proofs.FrontLemmas.{front_of_more, whole_front}
+use Rattle.octets.proofs.FrontLemmas.{whole_front, HasFront-whole, HasFront-from_parts}
 use Rattle.types.specs.declared.refusal.Refusal.{Refusal}
-use Rattle.types.specs.declared.refusal.Refusal.TheVariants.{NotCanonical, NoMemory}
+use Rattle.types.specs.declared.refusal.Refusal.TheVariants.{Truncated, NotCanonical, NoMemory}
 use Rattle.types.specs.declared.value.Value.{Value}
-use Rattle.types.specs.Encoding.{IsEncoding, IsAccepted, IsSomeAccepted}
+use Rattle.types.specs.Encoding.{IsAccepted, IsSomeAccepted}
 use Rattle.types.specs.Refusal.{IsFinal}
 use Rattle.types.specs.Shape.{Shape, Val}
-use Rattle.types.specs.View.{value_view}
+use Rattle.types.specs.View.{ty_view, value_view}
 use Rattle.types.specs.WellFormed.{IsWellFormed}
+use Rattle.types.proofs.ApartInstances.{of_no_octets}
 use Rattle.types.proofs.EncodingLemmas.{encoding_unique}
-use Rattle.types.proofs.OneEncodingLemmas.{one_canonical}
-use Rattle.types.proofs.SameLemmas.{same_encodings}
+use Rattle.strict.specs.Refusal.{IsOfStrictReading}
+use Rattle.strict.proofs.StrictLemmas.{as_ber}
 use Rattle.berreader.specs.declared.pieces.Pieces.{Pieces}
-use Rattle.berreader.specs.declared.reader.Step.{Step}
 use Rattle.berreader.specs.declared.reader.Step.TheVariants.{More, Done}
-use Rattle.engine.specs.Feeding.{IsDone, IsFed, IsOfFeeding, StandsOpen}
+use Rattle.engine.specs.declared.strict_reader.StrictReader.{StrictReader}
+use Rattle.engine.specs.Feeding.{IsFed, IsOfFeeding, StandsOpen}
 use Rattle.engine.specs.StrictReader.{IsOfJudging, StandsStrictly}
-use Rattle.engine.proofs.CallLemmas.{accepted_by_ber}
 use Rattle.engine.proofs.FeedingLemmas.{cut_piece}
 use Rattle.engine.proofs.PassingLemmas.{other}
 
 -- a front that a canonical rule takes, BER takes
 front_by_ber : (rule : Rule) (shape : Shape) (octets : List ℕ) → IsWellFormed shape → IsCanonical rule → HasFront (IsSomeAccepted rule shape) octets → HasFront (IsSomeAccepted ber shape) octets
-front_by_ber rule shape octets well canonical f = (f.0, f.1, (f.2.0, accepted_by_ber rule shape f.2.0 (take f.0 octets) well canonical f.2.1))
+front_by_ber rule shape octets well canonical f = (f.0, f.1, (f.2.0, as_ber rule shape f.2.0 (take f.0 octets) well canonical f.2.1))
 
 -- octets that BER takes as a value, and that begin with what a canonical rule takes, are what the rule gives it
-only_front : (rule : Rule) (shape : Shape) (v : Val) (octets more : List ℕ) → IsWellFormed shape → IsCanonical rule → IsAccepted ber shape v octets → HasFront (IsSomeAccepted rule shape) (octets ++ more) → IsAccepted rule shape v octets
+only_front : (rule : Rule) (shape : Shape) (v : Val) (octets more : List ℕ) → IsWellFormed shape → IsCanonical rule → IsAccepted ber shape v octets → HasFront (IsSomeAccepted rule shape) (octets ++ more) → IsSomeAccepted rule shape octets
 only_front rule shape v octets more well canonical read f =
     let n = f.0 in
-    let w = f.2.0 in
-    let h = f.2.1 in
     let front = take n (octets ++ more) in
-    let other = accepted_by_ber rule shape w front well canonical h in
-    let unique = encoding_unique shape v w octets front more (drop n (octets ++ more)) well read.encoding other.encoding (whole_front n (octets ++ more)) in
-    let here : IsAccepted rule shape w octets = subst (IsAccepted rule shape w) (sym unique.octets) h in
-    record { encoding = (same_encodings rule shape v w octets well unique.values).1 here.encoding; depth = here.depth; size = here.size }
+    let other = as_ber rule shape f.2.0 front well canonical f.2.1 in
+    let unique = encoding_unique shape v f.2.0 octets front more (drop n (octets ++ more)) well read.encoding other.encoding (whole_front n (octets ++ more)) in
+    (f.2.0, subst (IsAccepted rule shape f.2.0) (sym unique.octets) f.2.1)
+
+-- what the rule takes at the front of octets that BER takes is all of them
+pub whole_read : (rule : Rule) (shape : Shape) (v : Val) (n : ℕ) (octets : List ℕ) → IsWellFormed shape → IsCanonical rule → IsSomeAccepted ber shape octets → IsAccepted rule shape v (take n octets) → IsAccepted rule shape v octets
+whole_read rule shape v n octets well canonical by_ber read =
+    let front = as_ber rule shape v (take n octets) well canonical read in
+    let unique = encoding_unique shape v by_ber.0 (take n octets) octets (drop n octets) [] well front.encoding by_ber.1.encoding (take-append-drop n octets ∙ sym (append-nil octets)) in
+    subst (IsAccepted rule shape v) unique.octets read
+
+-- what a strict reader refuses with says that octets are missing, that they are wrong, or that memory was refused
+cases_of_strict : (refusal : Refusal) → IsOfStrictReading refusal → (refusal ≡ Truncated) ⊎ (IsFinal refusal ⊎ (refusal ≡ NoMemory))
+cases_of_strict Truncated h = inl refl
+cases_of_strict NoMemory h = inr (inr refl)
+cases_of_strict refusal h = inr (inl h)
+
+-- refused for another reason than memory, they are none of the rule
+pub none_read : (rule : Rule) (shape : Shape) (octets : List ℕ) (refusal : Refusal) → IsOfStrictReading refusal → (refusal ≡ Truncated → ¬ HasFront (IsSomeAccepted rule shape) octets) → (IsFinal refusal → (more : List ℕ) → ¬ HasFront (IsSomeAccepted rule shape) (octets ++ more))
+    → refusal ≢ NoMemory → ¬ IsSomeAccepted rule shape octets
+none_read rule shape octets refusal numbers truncated never memory h =
+    let front = HasFront-whole (IsSomeAccepted rule shape) octets h in
+    elim (cases_of_strict refusal numbers) [
+      | inl is ↦ truncated is front
+      | inr rest ↦ elim rest [
+        | inl final ↦ never final [] (subst (HasFront (IsSomeAccepted rule shape)) (sym (append-nil octets)) front)
+        | inr is ↦ absurd (memory is)
+      ]
+    ]
+
+some_taken : (rule : Rule) (shape : Shape) (v : Val) (n : ℕ) (octets : List ℕ) → IsAccepted rule shape v (take n octets) → 1 ≤ n
+some_taken rule shape v zero octets read = absurd (of_no_octets rule shape v read.encoding)
+some_taken rule shape v (suc n) octets read = omega arith
+
+-- a value that is whole in the piece was read there, and the reader stands as it was
+pub strict_at_once : (rule : Rule) (shape : Shape) (strict : StrictReader) (before piece : List ℕ) (value : Value) (used : ℕ) → StandsStrictly shape strict before → strict.begun.items ≡ []
+    → used ≤ length piece → IsAccepted rule (ty_view strict.ty.now) (value_view value) (take used piece) → IsFed (StandsStrictly shape strict) rule shape (Ok (Done value used)) before piece
+strict_at_once rule shape strict before piece value used s none there read =
+    let nothing : before ≡ [] = sym s.kept_are ∙ none in
+    let here = subst (λ t. IsAccepted rule t (value_view value) (take used piece)) s.type_is read in (
+      record { some = some_taken rule shape (value_view value) used piece here; there = there; accepted = subst (λ x. IsAccepted rule shape (value_view value) (x ++ take used piece)) (sym nothing) here },
+      subst (StandsStrictly shape strict) nothing s,
+    )
 
 -- the piece was taken whole
-pub strict_more : (rule : Rule) (shape type : Shape) (old_reader new_reader : Pieces) (kept kept_new old piece : List ℕ) → StandsStrictly rule shape type old_reader kept old
-    → IsFed (StandsOpen shape new_reader) ber shape (Ok More) old piece → kept_new ≡ kept ++ piece → IsFed (StandsStrictly rule shape type new_reader kept_new) rule shape (Ok More) old piece
-strict_more rule shape type old_reader new_reader kept kept_new old piece s fed kept_is = (
-  record { type_is = s.type_is; well_formed = s.well_formed; canonical = s.canonical; reader_stands = fed.0; kept_are = kept_is ∙ ap (λ x. x ++ piece) s.kept_are },
-  λ f. fed.1 (front_by_ber rule shape (old ++ piece) s.well_formed s.canonical f),
+pub strict_more : (rule : Rule) (shape : Shape) (old new : StrictReader) (before piece : List ℕ) → IsCanonical rule → StandsStrictly shape old before → ty_view new.ty.now ≡ ty_view old.ty.now
+    → IsFed (StandsOpen shape new.reader) ber shape (Ok More) before piece → new.begun.items ≡ old.begun.items ++ piece → IsFed (StandsStrictly shape new) rule shape (Ok More) before piece
+strict_more rule shape old new before piece canonical s type fed kept = (
+  record { type_is = type ∙ s.type_is; well_formed = s.well_formed; reader_stands = fed.0; kept_are = kept ∙ ap (λ x. x ++ piece) s.kept_are },
+  λ f. fed.1 (front_by_ber rule shape (before ++ piece) s.well_formed canonical f),
+)
+
+-- the octets kept and the last ones
+all_kept : (shape : Shape) (old : StrictReader) (before piece last : List ℕ) (used : ℕ) → StandsStrictly shape old before → last ≡ take used piece → old.begun.items ++ last ≡ before ++ take used piece
+all_kept shape old before piece last used s last_is = ap (λ x. x ++ last) s.kept_are ∙ ap (λ x. before ++ x) last_is
+
+-- BER takes them
+pub kept_by_ber : (shape : Shape) (old : StrictReader) (new_reader : Pieces) (before piece last : List ℕ) (read : Value) (used : ℕ) → StandsStrictly shape old before
+    → IsFed (StandsOpen shape new_reader) ber shape (Ok (Done read used)) before piece → last ≡ take used piece → IsSomeAccepted ber (ty_view old.ty.now) (old.begun.items ++ last)
+kept_by_ber shape old new_reader before piece last read used s fed last_is = (
+  value_view read,
+  subst (λ t. IsAccepted ber t (value_view read) (old.begun.items ++ last)) (sym s.type_is) (subst (IsAccepted ber shape (value_view read)) (sym (all_kept shape old before piece last used s last_is)) fed.0.accepted),
 )
 
 -- a value is complete, and its octets are what the rule gives it
-pub strict_done : (rule : Rule) (shape type : Shape) (old_reader new_reader : Pieces) (kept kept_new old piece front : List ℕ) (value value_new : Value) (used : ℕ) → StandsStrictly rule shape type old_reader kept old
-    → IsFed (StandsOpen shape new_reader) ber shape (Ok (Done value used)) old piece → front ≡ take used piece → IsAccepted rule type (value_view value) (kept ++ front) → value_new ≡ value → kept_new ≡ []
-    → IsFed (StandsStrictly rule shape type new_reader kept_new) rule shape (Ok (Done value_new used)) old piece
-strict_done rule shape type old_reader new_reader kept kept_new old piece front value value_new used s fed front_is accepted same none =
-    let octets_are : kept ++ front ≡ old ++ take used piece = ap (λ x. x ++ front) s.kept_are ∙ ap (λ x. old ++ x) front_is in
-    let here = subst (IsAccepted rule shape (value_view value)) octets_are (subst (λ t. IsAccepted rule t (value_view value) (kept ++ front)) s.type_is accepted) in (
-      record { some = fed.0.some; there = fed.0.there; accepted = subst (λ (v : Value). IsAccepted rule shape (value_view v) (old ++ take used piece)) (sym same) here },
-      record { type_is = s.type_is; well_formed = s.well_formed; canonical = s.canonical; reader_stands = fed.1; kept_are = none },
+pub strict_done : (rule : Rule) (shape : Shape) (old new : StrictReader) (before piece last : List ℕ) (read value : Value) (used : ℕ) → StandsStrictly shape old before → ty_view new.ty.now ≡ ty_view old.ty.now
+    → IsFed (StandsOpen shape new.reader) ber shape (Ok (Done read used)) before piece → last ≡ take used piece → IsAccepted rule (ty_view old.ty.now) (value_view value) (old.begun.items ++ last) → new.begun.items ≡ []
+    → IsFed (StandsStrictly shape new) rule shape (Ok (Done value used)) before piece
+strict_done rule shape old new before piece last read value used s type fed last_is accepted none =
+    let typed = subst (λ t. IsAccepted rule t (value_view value) (old.begun.items ++ last)) s.type_is accepted in
+    let here = subst (IsAccepted rule shape (value_view value)) (all_kept shape old before piece last used s last_is) typed in (
+      record { some = fed.0.some; there = fed.0.there; accepted = here },
+      record { type_is = type ∙ s.type_is; well_formed = s.well_formed; reader_stands = fed.1; kept_are = none },
     )
 
 -- no memory says nothing of the octets
 pub memory_ran_out : (rule : Rule) (shape : Shape) (octets : List ℕ) (refusal : Refusal) → refusal ≡ NoMemory
-    → IsOfFeeding rule refusal × (IsFinal refusal → (more : List ℕ) → ¬ HasFront (IsSomeAccepted rule shape) (octets ++ more))
-memory_ran_out rule shape octets refusal memory = (
-  record { number = inr memory; strict = λ is. absurd (other NotCanonical NoMemory (λ n. omega (arith, n)) (sym is ∙ memory)) },
-  λ final. absurd (subst IsFinal memory final),
-)
+    → IsOfFeeding rule shape octets refusal × (IsFinal refusal → (more : List ℕ) → ¬ HasFront (IsSomeAccepted rule shape) (octets ++ more))
+memory_ran_out rule shape octets refusal memory =
+    let differs : refusal ≢ NotCanonical = λ is. other NotCanonical NoMemory (λ n. omega (arith, n)) (sym is ∙ memory) in (
+      record { number = inr memory; strict = λ is. absurd (differs is); by_ber = λ is. absurd (differs is) },
+      λ final. absurd (subst IsFinal memory final),
+    )
 
 -- a value is complete, and its octets are not what the rule gives it, or memory ran out
-pub strict_refused : (rule : Rule) (shape type : Shape) (old_reader new_reader : Pieces) (kept old piece front : List ℕ) (value : Value) (used : ℕ) (refusal : Refusal) → StandsStrictly rule shape type old_reader kept old
-    → IsFed (StandsOpen shape new_reader) ber shape (Ok (Done value used)) old piece → front ≡ take used piece → IsOfJudging refusal → (refusal ≡ NotCanonical → ¬ IsAccepted rule type (value_view value) (kept ++ front))
-    → IsOfFeeding rule refusal × (IsFinal refusal → (more : List ℕ) → ¬ HasFront (IsSomeAccepted rule shape) ((old ++ piece) ++ more))
-strict_refused rule shape type old_reader new_reader kept old piece front value used refusal s fed front_is numbers never =
-    let v = value_view value in
-    let octets = old ++ take used piece in
-    let octets_are : kept ++ front ≡ octets = ap (λ x. x ++ front) s.kept_are ∙ ap (λ x. old ++ x) front_is in
+pub strict_refused : (rule : Rule) (shape : Shape) (old : StrictReader) (new_reader : Pieces) (before piece last : List ℕ) (read : Value) (used : ℕ) (refusal : Refusal) → IsCanonical rule → StandsStrictly shape old before
+    → IsFed (StandsOpen shape new_reader) ber shape (Ok (Done read used)) before piece → last ≡ take used piece → IsOfJudging refusal → (refusal ≡ NotCanonical → ¬ IsSomeAccepted rule (ty_view old.ty.now) (old.begun.items ++ last))
+    → IsOfFeeding rule shape (before ++ piece) refusal × (IsFinal refusal → (more : List ℕ) → ¬ HasFront (IsSomeAccepted rule shape) ((before ++ piece) ++ more))
+strict_refused rule shape old new_reader before piece last read used refusal canonical s fed last_is numbers never =
+    let octets = before ++ take used piece in
+    let parts = cut_piece before piece (drop used piece) used refl in
     elim numbers [
       | inl is ↦ (
-        record { number = inl (subst IsFinal (sym is) tt); strict = λ _. s.canonical },
+        record {
+          number = inl (subst IsFinal (sym is) tt);
+          strict = λ _. canonical;
+          by_ber = λ _. HasFront-from_parts (IsSomeAccepted ber shape) octets (drop used piece) (before ++ piece) parts (value_view read, fed.0.accepted);
+        },
         λ _ more f.
-            let all_is : (old ++ piece) ++ more ≡ octets ++ (drop used piece ++ more) = ap (λ x. x ++ more) (cut_piece old piece (drop used piece) used refl) ∙ append_assoc octets (drop used piece) more in
-            let here = only_front rule shape v octets (drop used piece ++ more) s.well_formed s.canonical fed.0.accepted (subst (HasFront (IsSomeAccepted rule shape)) all_is f) in
-            never is (subst (λ t. IsAccepted rule t v (kept ++ front)) (sym s.type_is) (subst (IsAccepted rule shape v) (sym octets_are) here)),
+            let all_is : (before ++ piece) ++ more ≡ octets ++ (drop used piece ++ more) = ap (λ x. x ++ more) parts ∙ append_assoc octets (drop used piece) more in
+            let here = only_front rule shape (value_view read) octets (drop used piece ++ more) s.well_formed canonical fed.0.accepted (subst (HasFront (IsSomeAccepted rule shape)) all_is f) in
+            never is (subst (λ t. IsSomeAccepted rule t (old.begun.items ++ last)) (sym s.type_is) (subst (IsSomeAccepted rule shape) (sym (all_kept shape old before piece last used s last_is)) here)),
       )
-      | inr memory ↦ memory_ran_out rule shape (old ++ piece) refusal memory
+      | inr memory ↦ memory_ran_out rule shape (before ++ piece) refusal memory
     ]
 
 -- the piece was refused under BER
-pub strict_error : (rule : Rule) (shape type : Shape) (old_reader new_reader : Pieces) (kept kept_new old piece : List ℕ) (refusal : Refusal) → StandsStrictly rule shape type old_reader kept old
-    → IsFed (StandsOpen shape new_reader) ber shape (Err refusal) old piece → IsFed (StandsStrictly rule shape type new_reader kept_new) rule shape (Err refusal) old piece
-strict_error rule shape type old_reader new_reader kept kept_new old piece refusal s fed = (
-  record { number = fed.0.number; strict = λ _. s.canonical },
-  λ final more f. fed.1 final more (front_by_ber rule shape ((old ++ piece) ++ more) s.well_formed s.canonical f),
+pub strict_error : (rule : Rule) (shape : Shape) (old : StrictReader) (new_reader : Pieces) (before piece : List ℕ) (refusal : Refusal) → IsCanonical rule → StandsStrictly shape old before
+    → IsFed (StandsOpen shape new_reader) ber shape (Err refusal) before piece → IsOfFeeding rule shape (before ++ piece) refusal × (IsFinal refusal → (more : List ℕ) → ¬ HasFront (IsSomeAccepted rule shape) ((before ++ piece) ++ more))
+strict_error rule shape old new_reader before piece refusal canonical s fed = (
+  record { number = fed.0.number; strict = λ _. canonical; by_ber = fed.0.by_ber },
+  λ final more f. fed.1 final more (front_by_ber rule shape ((before ++ piece) ++ more) s.well_formed canonical f),
 )
-
--- what the writer gives a value is the octets that the rule takes as it
-pub written_is : (rule : Rule) (shape : Shape) (v : Val) (octets old new : List ℕ) → IsWellFormed shape → IsCanonical rule → old ≡ [] → Appends (IsAccepted rule shape v) old new → IsAccepted rule shape v octets → new ≡ octets
-written_is rule shape v octets old new well canonical empty (added, is, h) g =
-    is ∙ ap (λ o. o ++ added) empty ∙ one_canonical rule shape v added octets well canonical h.encoding g.encoding
-
--- and the octets that it gives are taken
-pub written_taken : (rule : Rule) (shape : Shape) (v : Val) (octets old new : List ℕ) → old ≡ [] → Appends (IsAccepted rule shape v) old new → new ≡ octets → IsAccepted rule shape v octets
-written_taken rule shape v octets old new empty (added, is, h) same = subst (IsAccepted rule shape v) (sym (ap (λ o. o ++ added) empty) ∙ sym is ∙ same) h

@@ -6,7 +6,7 @@ use Rattle.types.specs.Same.{IsSame}
 use Rattle.types.specs.Shape.{Shape, Val}
 use Rattle.types.specs.WellFormed.{IsWellFormed}
 use Rattle.engine.specs.declared.rule.Rule.{Rule}
-use Rattle.engine.specs.declared.rule.Canonical.{Canonical}
+use Rattle.strict.specs.declared.canonical.Canonical.{Canonical}
 use Rattle.engine.specs.Rule.{rule_of, canonical_rule_of}
 use Rattle.engine.specs.Transcoding.{IsTranscoded}
 

@@ -1,3 +1,4 @@
+pub use Rattle.strict.specs.declared.canonical.Canonical
 pub mod Rule
 pub mod Transcoding
 pub mod Refusal
@@ -7,3 +8,4 @@ pub mod Passing
 pub mod Feeding
 pub mod Given
 pub mod StrictReader
+pub mod AnyReader

@@ -84,19 +84,20 @@ impl Batch {
         writer: &P,
         piece: &[u8],
     ) -> Result<(), Refusal>
-        requires { (old : List ℕ) × IsUnfinished (F.stands_at (P.shape writer.now) reader.old) F.rule (P.shape writer.now) old }
+        requires { (old : List ℕ) × IsUnfinished (F.stands_at (P.shape writer.now) reader.old) (F.rule reader.old) (P.shape writer.now) old }
+        ensures rule_stays { OnOk result (F.rule reader.new ≡ F.rule reader.old) }
         ensures gathered { OnOk result ((old : List ℕ) →
-            IsUnfinished (F.stands_at (P.shape writer.now) reader.old) F.rule (P.shape writer.now) old →
-            HasGathered (IsUnfinished (F.stands_at (P.shape writer.now) reader.new) F.rule (P.shape writer.now))
-            F.rule (P.shape writer.now) (P.stands writer.now)
+            IsUnfinished (F.stands_at (P.shape writer.now) reader.old) (F.rule reader.old) (P.shape writer.now) old →
+            HasGathered (IsUnfinished (F.stands_at (P.shape writer.now) reader.new) (F.rule reader.old) (P.shape writer.now))
+            (F.rule reader.old) (P.shape writer.now) (P.stands writer.now)
             (old ++ piece.now) self.new.octets.items self.new.lengths.items) }
         ensures refused { IfErr result (λ refusal. (old : List ℕ) →
-            IsUnfinished (F.stands_at (P.shape writer.now) reader.old) F.rule (P.shape writer.now) old →
-            StopsGathering F.rule (P.shape writer.now) (P.stands writer.now) refusal
+            IsUnfinished (F.stands_at (P.shape writer.now) reader.old) (F.rule reader.old) (P.shape writer.now) old →
+            StopsGathering (F.rule reader.old) (P.shape writer.now) (P.stands writer.now) refusal
             (old ++ piece.now) self.new.octets.items self.new.lengths.items) }
         ensures long { result ≡ Err Refusal.OutputTooLong → P.can_be_too_long }
         ensures few { length self.new.lengths.items ≤ length piece.now }
-        ensures numbers { IfErr result (IsOfGathering F.rule) }
+        ensures numbers { IfErr result (IsOfGathering (F.rule reader.old)) }
     {
         self.octets.clear();
         self.lengths.clear();

@@ -1,6 +1,6 @@
 //! Readers that are given octets piece by piece.
 
-ghost use Rattle.std.specs.Prelude.{ℕ, List, IfOk, length};
+ghost use Rattle.std.specs.Prelude.{◌≡◌, ℕ, List, OnOk, IfOk, length};
 ghost use Rattle.octets.specs.Rule.{Rule, ber};
 ghost use Rattle.types.specs.Shape.{Shape};
 ghost use Rattle.berreader.specs.Feeding.{EndsStepWithin};
@@ -11,8 +11,8 @@ use types::Refusal;
 
 /// A reader of values of one type by one rule, which is given octets piece by piece.
 pub trait Feed {
-    // The rule.
-    ghost rule: { Rule };
+    // The rule that it reads by.
+    ghost rule: { Self → Rule };
 
     // The reader is of this type, has refused nothing, and took these octets since it was fresh.
     ghost stands_at: { Shape → Self → List ℕ → Type 0 };
@@ -21,8 +21,9 @@ pub trait Feed {
     fn feed(&mut self, piece: &[u8]) -> Result<Step, Refusal>
         requires { (shape : Shape) × (old : List ℕ) × stands_at shape self.old old }
         ensures used { IfOk result (EndsStepWithin (length piece.now)) }
+        ensures rule_stays { OnOk result (rule self.new ≡ rule self.old) }
         ensures fed { (shape : Shape) (old : List ℕ) → stands_at shape self.old old →
-            IsFed (stands_at shape self.new) rule shape result old piece.now };
+            IsFed (stands_at shape self.new) (rule self.old) shape result old piece.now };
 
     /// Tells whether no value is begun.
     fn finish(&self) -> Result<(), Refusal>
@@ -30,7 +31,7 @@ pub trait Feed {
 }
 
 impl Feed for Reader<'_> {
-    ghost rule = { ber };
+    ghost rule = { λ _. ber };
 
     ghost stands_at = { StandsOpen };
 

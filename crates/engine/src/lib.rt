@@ -2,13 +2,11 @@
 //! of a canonical one, or text, out. The source is read piece by piece, and is never held.
 #![tactic(auto)]
 
+mod any_reader;
 mod batch;
-mod checking;
-mod converting;
 mod feeding;
 mod laws;
 mod lines;
-mod listing;
 mod passing;
 mod putting;
 mod rule;
@@ -18,7 +16,8 @@ mod strict_reader;
 mod transcoding;
 
 pub use laws::{equal_results_exactly_if_same_values, written_octets_stay};
-pub use rule::{Canonical, Rule};
+pub use rule::Rule;
 pub use stopped::Stopped;
 pub use streams::{check, convert, list};
+pub use strict::Canonical;
 pub use transcoding::transcode;

@@ -1,6 +1,6 @@
 //! A stream passed on piece by piece, from a source through a reader and a writer to a sink.
 
-ghost use Rattle.std.specs.Prelude.{◌≡◌, ◌≤◌, ◌+◌, ◌++◌, ℕ, List, [], length, IfOk, IfErr, MatchResult};
+ghost use Rattle.std.specs.Prelude.{◌≡◌, ◌≤◌, ◌+◌, ◌++◌, ℕ, List, [], length, OnOk, IfOk, IfErr, MatchResult};
 ghost use Rattle.engine.specs.Feeding.{IsUnfinished};
 ghost use Rattle.engine.specs.Given.{HasGiven};
 ghost use Rattle.engine.specs.Passing.{Writes, PassesOn, StopsPassing};
@@ -27,24 +27,25 @@ fn pass<F: Feed, P: Put, K: Sink>(
     piece: &[u8],
     done: u64,
 ) -> Result<u64, Stopped>
-    requires stands { (old : List ℕ) × IsUnfinished (F.stands_at (P.shape writer.now) reader.old) F.rule (P.shape writer.now) old }
+    requires stands { (old : List ℕ) × IsUnfinished (F.stands_at (P.shape writer.now) reader.old) (F.rule reader.old) (P.shape writer.now) old }
     requires sink { K.failures sink.old ≡ 0 }
     requires room { done + length piece.now ≤ most_streamed }
+    ensures rule_stays { OnOk result (F.rule reader.new ≡ F.rule reader.old) }
     ensures passed { IfOk result (λ now. (old : List ℕ) →
-        IsUnfinished (F.stands_at (P.shape writer.now) reader.old) F.rule (P.shape writer.now) old →
-        PassesOn (IsUnfinished (F.stands_at (P.shape writer.now) reader.new) F.rule (P.shape writer.now))
-        F.rule (P.shape writer.now) (P.stands writer.now) done now
+        IsUnfinished (F.stands_at (P.shape writer.now) reader.old) (F.rule reader.old) (P.shape writer.now) old →
+        PassesOn (IsUnfinished (F.stands_at (P.shape writer.now) reader.new) (F.rule reader.old) (P.shape writer.now))
+        (F.rule reader.old) (P.shape writer.now) (P.stands writer.now) done now
         (old ++ piece.now) (K.taken sink.old) (K.taken sink.new)) }
     ensures stopped { IfErr result (λ stopped. (old : List ℕ) →
-        IsUnfinished (F.stands_at (P.shape writer.now) reader.old) F.rule (P.shape writer.now) old →
-        StopsPassing F.rule (P.shape writer.now) (P.stands writer.now) done stopped.done stopped.refusal
+        IsUnfinished (F.stands_at (P.shape writer.now) reader.old) (F.rule reader.old) (P.shape writer.now) old →
+        StopsPassing (F.rule reader.old) (P.shape writer.now) (P.stands writer.now) done stopped.done stopped.refusal
         (old ++ piece.now) (K.taken sink.old) (K.taken sink.new)) }
     ensures few { IfOk result (λ now. now ≤ done + length piece.now) }
     ensures sink { MatchResult result (λ _. K.failures sink.new ≡ 0)
         (λ stopped. K.failures sink.new ≡ sink_failures stopped.refusal) }
     ensures source { IfErr result (λ stopped. source_failures stopped.refusal ≡ 0) }
     ensures long { IfErr result (λ stopped. stopped.refusal ≡ Refusal.OutputTooLong → P.can_be_too_long) }
-    ensures numbers { IfErr result (λ stopped. IsOfConverting F.rule stopped.refusal) }
+    ensures numbers { IfErr result (λ stopped. IsOfConverting (F.rule reader.old) stopped.refusal) }
 {
     let gathered = batch.gather(reader, writer, piece);
     let lengths = batch.lengths.as_slice();
@@ -77,18 +78,18 @@ pub fn pass_all<F: Feed, P: Put, S: Source, K: Sink>(
     requires source { S.failures source.old ≡ 0 }
     requires sink { K.failures sink.old ≡ 0 }
     ensures done { IfOk result (λ done. OfStream (S.left source.old) (K.taken sink.old) (K.taken sink.new)
-        (λ stream written. Writes F.rule (P.shape writer.now) (P.stands writer.now) done stream [] written []
+        (λ stream written. Writes (F.rule reader.old) (P.shape writer.now) (P.stands writer.now) done stream [] written []
         × (length stream ≤ most_streamed))) }
     ensures stopped { IfErr result (λ stopped. OfStream (S.left source.old) (K.taken sink.old) (K.taken sink.new)
-        (IsStopped (P.stands writer.now) F.rule (P.shape writer.now) stopped.done stopped.refusal)) }
+        (IsStopped (P.stands writer.now) (F.rule reader.old) (P.shape writer.now) stopped.done stopped.refusal)) }
     ensures given { IfErr result (λ stopped. stopped.refusal ≡ Refusal.SourceFault →
-        HasGiven F.rule (P.shape writer.now) stopped.done (S.left source.old) (S.left source.new)) }
+        HasGiven (F.rule reader.old) (P.shape writer.now) stopped.done (S.left source.old) (S.left source.new)) }
     ensures source { MatchResult result (λ _. S.failures source.new ≡ 0)
         (λ stopped. S.failures source.new ≡ source_failures stopped.refusal) }
     ensures sink { MatchResult result (λ _. K.failures sink.new ≡ 0)
         (λ stopped. K.failures sink.new ≡ sink_failures stopped.refusal) }
     ensures long { IfErr result (λ stopped. stopped.refusal ≡ Refusal.OutputTooLong → P.can_be_too_long) }
-    ensures numbers { IfErr result (λ stopped. IsOfConverting F.rule stopped.refusal) }
+    ensures numbers { IfErr result (λ stopped. IsOfConverting (F.rule reader.old) stopped.refusal) }
 {
     let mut piece = Piece::new();
     let mut done = 0;

@@ -1,19 +1,10 @@
-//! The rules that octets are read and written by.
+//! The rules that octets are read by.
 
 /// The rule that octets are read by.
 #[derive(Clone, Copy, Debug, PartialEq, Eq)]
 pub enum Rule {
     /// The basic encoding rules (X.690 clause 8).
     Ber,
-    /// The canonical encoding rules (X.690 clause 9).
-    Cer,
-    /// The distinguished encoding rules (X.690 clause 10).
-    Der,
-}
-
-/// The rule that octets are written by: it gives each value one encoding.
-#[derive(Clone, Copy, Debug, PartialEq, Eq)]
-pub enum Canonical {
     /// The canonical encoding rules (X.690 clause 9).
     Cer,
     /// The distinguished encoding rules (X.690 clause 10).

@@ -3,7 +3,7 @@
 //! Each reads a piece, does all values that it completes, and writes what stands for them before it reads
 //! the next one. It asks for devices that have not failed.
 
-ghost use Rattle.std.specs.Prelude.{◌≡◌, IfOk, IfErr, IfSome, MatchResult};
+ghost use Rattle.std.specs.Prelude.{◌≡◌, None, IfOk, IfErr, IfSome, MatchResult};
 ghost use Rattle.texts.specs.Shown.{IsShown};
 ghost use Rattle.types.specs.Encoding.{IsAccepted};
 ghost use Rattle.types.specs.View.{ty_view};
@@ -12,14 +12,13 @@ ghost use Rattle.engine.specs.Rule.{rule_of, canonical_rule_of};
 ghost use Rattle.engine.specs.Refusal.{IsOfChecking, IsOfConverting, IsOfListing};
 ghost use Rattle.engine.specs.Stream.{IsChecked, IsCheckStopped, IsConverted, IsLine, IsListed, IsStopped, OfStream, source_failures, sink_failures};
 
-use crate::checking::check_by;
-use crate::converting::convert_by;
-use crate::listing::list_by;
-use crate::strict_reader::StrictReader;
+use crate::any_reader::AnyReader;
+use crate::batch::Batch;
+use crate::lines::Lines;
+use crate::passing::pass_all;
+use crate::putting::{Encodings, Nothing};
 use crate::{Canonical, Rule, Stopped};
-use berreader::Reader;
-use canon::{Cer, Der};
-use devices::{Sink, Source};
+use devices::{Failed, Sink, Source};
 use std::alloc::Global;
 use types::{Refusal, WellTyped};
 
@@ -51,17 +50,10 @@ pub fn convert<S: Source, K: Sink>(
         (λ stopped. K.failures sink.new ≡ sink_failures stopped.refusal) }
     ensures numbers { IfErr result (λ stopped. IsOfConverting (rule_of from) stopped.refusal) }
 {
-    match from {
-        Rule::Ber => convert_by(alloc, &mut Reader::new(alloc, ty), ty, to, source, sink),
-        Rule::Cer => {
-            let mut reader = StrictReader::new(alloc, Cer, ty);
-            convert_by(alloc, &mut reader, ty, to, source, sink)
-        }
-        Rule::Der => {
-            let mut reader = StrictReader::new(alloc, Der, ty);
-            convert_by(alloc, &mut reader, ty, to, source, sink)
-        }
-    }
+    let mut reader = AnyReader::new(alloc, from, ty);
+    let writer = Encodings { alloc, ty, to };
+    let mut batch = Batch::new(alloc);
+    pass_all(&mut reader, &writer, &mut batch, source, sink)
 }
 
 /// Reads values as `convert` does, writes nothing, and returns how many there were.
@@ -82,17 +74,10 @@ pub fn check<S: Source>(
         (λ stopped. S.failures source.new ≡ source_failures stopped.refusal) }
     ensures numbers { IfErr result (λ stopped. IsOfChecking (rule_of from) stopped.refusal) }
 {
-    match from {
-        Rule::Ber => check_by(alloc, &mut Reader::new(alloc, ty), ty, source),
-        Rule::Cer => {
-            let mut reader = StrictReader::new(alloc, Cer, ty);
-            check_by(alloc, &mut reader, ty, source)
-        }
-        Rule::Der => {
-            let mut reader = StrictReader::new(alloc, Der, ty);
-            check_by(alloc, &mut reader, ty, source)
-        }
-    }
+    let mut reader = AnyReader::new(alloc, from, ty);
+    let writer = Nothing { ty };
+    let mut batch = Batch::new(alloc);
+    pass_all(&mut reader, &writer, &mut batch, source, &mut Nowhere)
 }
 
 /// Reads values as `convert` does, writes the text of each and a line feed, and returns how many there
@@ -118,15 +103,25 @@ pub fn list<S: Source, K: Sink>(
         (λ stopped. K.failures sink.new ≡ sink_failures stopped.refusal) }
     ensures numbers { IfErr result (λ stopped. IsOfListing (rule_of from) stopped.refusal) }
 {
-    match from {
-        Rule::Ber => list_by(alloc, &mut Reader::new(alloc, ty), ty, source, sink),
-        Rule::Cer => {
-            let mut reader = StrictReader::new(alloc, Cer, ty);
-            list_by(alloc, &mut reader, ty, source, sink)
-        }
-        Rule::Der => {
-            let mut reader = StrictReader::new(alloc, Der, ty);
-            list_by(alloc, &mut reader, ty, source, sink)
-        }
+    let mut reader = AnyReader::new(alloc, from, ty);
+    let mut batch = Batch::new(alloc);
+    pass_all(&mut reader, &Lines { alloc, ty }, &mut batch, source, sink)
+}
+
+// A sink that takes all and tells nothing.
+#[derive(Drop)]
+struct Nowhere;
+
+impl Sink for Nowhere {
+    ghost taken = { λ _. None };
+
+    ghost failures = { λ _. 0 };
+
+    fn failed(&self) -> bool {
+        false
+    }
+
+    fn write(&mut self, octets: &[u8]) -> Result<usize, Failed> {
+        Ok(octets.len())
     }
 }

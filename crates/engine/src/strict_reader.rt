@@ -1,74 +1,90 @@
 //! A reader over pieces that takes the one encoding which CER or DER gives a value.
 
-ghost use Rattle.std.specs.Prelude.{◌≡◌, ◌++◌, ℕ, List, [], OnOk, IfOk, IfErr};
-ghost use Rattle.octets.specs.Rule.{IsCanonical};
-ghost use Rattle.types.specs.Conforms.{Conforms};
-ghost use Rattle.types.specs.Encoding.{IsAccepted};
+ghost use Rattle.std.specs.Prelude.{◌≡◌, ◌++◌, ℕ, List, [], OnOk, IfOk, IfErr, length};
+ghost use Rattle.octets.specs.Rule.{ber};
+ghost use Rattle.types.specs.Encoding.{IsAccepted, IsSomeAccepted};
+ghost use Rattle.types.specs.Shape.{Shape};
 ghost use Rattle.types.specs.View.{ty_view, value_view};
 ghost use Rattle.types.specs.WellFormed.{IsWellFormed};
+ghost use Rattle.berreader.specs.Feeding.{EndsStepWithin};
+ghost use Rattle.engine.specs.Feeding.{IsFed};
+ghost use Rattle.engine.specs.Rule.{canonical_rule_of};
 ghost use Rattle.engine.specs.StrictReader.{IsOfJudging, StandsStrictly};
 
+use crate::Canonical;
 use crate::feeding::Feed;
 use berreader::{Reader, Step};
-use canon::Canon;
 use std::alloc::Global;
+use strict::read_canonical;
 use types::{Refusal, Value, WellTyped};
 
-/// A reader of the one encoding that the rule of `C` gives each value. It reads under BER, keeps the octets
-/// of the value that is begun, and compares them with what the rule gives the value.
+/// A reader of the one encoding that the rule gives each value. A value that is whole in a piece it reads there. Of
+/// one that a piece cuts it keeps the octets until the BER reader finds its end, and then reads them.
 #[derive(Drop)]
-pub struct StrictReader<'a, C> {
+pub struct StrictReader<'a> {
     pub alloc: Global,
-    pub canon: C,
+    pub rule: Canonical,
     pub ty: &'a WellTyped,
     pub reader: Reader<'a>,
     pub begun: Vec<u8>,
 }
 
-impl<'a, C: Canon> StrictReader<'a, C> {
+impl<'a> StrictReader<'a> {
     /// A reader of values of the type, to which no octet has come.
-    pub fn new(alloc: Global, canon: C, ty: &'a WellTyped) -> Self
-        requires { IsCanonical C.rule }
-        ensures { StandsStrictly C.rule (ty_view ty.now) (ty_view result.ty.now) result.reader result.begun.items [] }
+    pub fn new(alloc: Global, rule: Canonical, ty: &'a WellTyped) -> Self
+        ensures rule { result.rule ≡ rule }
+        ensures fresh { StandsStrictly (ty_view ty.now) result [] }
+        ensures well_formed { IsWellFormed (ty_view ty.now) }
     {
-        let _well_formed = ty.as_type();
         StrictReader {
             alloc,
-            canon,
+            rule,
             ty,
             reader: Reader::new(alloc, ty),
             begun: Vec::new(alloc),
         }
     }
-}
 
-impl<C: Canon> Feed for StrictReader<'_, C> {
-    ghost rule = { C.rule };
-
-    ghost stands_at = { λ shape strict octets. StandsStrictly C.rule shape (ty_view strict.ty.now) strict.reader strict.begun.items octets };
-
-    fn feed(&mut self, piece: &[u8]) -> Result<Step, Refusal> {
+    // Takes octets as `feed` does, by the BER reader. A refusal of BER is named as such, whatever the rule says.
+    fn feed_begun(&mut self, piece: &[u8]) -> Result<Step, Refusal>
+        requires { (shape : Shape) × (old : List ℕ) × StandsStrictly shape self.old old }
+        ensures used { IfOk result (EndsStepWithin (length piece.now)) }
+        ensures rule_stays { OnOk result (self.new.rule ≡ self.old.rule) }
+        ensures fed { (shape : Shape) (old : List ℕ) → StandsStrictly shape self.old old →
+            IsFed (StandsStrictly shape self.new) (canonical_rule_of self.old.rule) shape result old piece.now }
+    {
         match self.reader.feed(piece) {
             Ok(Step::More) => match keep(&mut self.begun, piece) {
                 Ok(()) => Ok(Step::More),
                 Err(refusal) => Err(refusal),
             },
             Ok(Step::Done { value, used }) => {
-                let (front, _) = piece.split_at(used);
-                match accept(
-                    self.alloc,
-                    &self.canon,
-                    self.ty,
-                    value,
-                    &mut self.begun,
-                    front,
-                ) {
+                drop(value);
+                let (last, _) = piece.split_at(used);
+                match judge(self.alloc, self.rule, self.ty, &mut self.begun, last) {
                     Ok(value) => Ok(Step::Done { value, used }),
                     Err(refusal) => Err(refusal),
                 }
             }
             Err(refusal) => Err(refusal),
         }
+    }
+}
+
+impl Feed for StrictReader<'_> {
+    ghost rule = { λ strict. canonical_rule_of strict.rule };
+
+    ghost stands_at = { StandsStrictly };
+
+    fn feed(&mut self, piece: &[u8]) -> Result<Step, Refusal> {
+        if self.begun.is_empty() {
+            match read_canonical(self.alloc, self.rule, self.ty, piece) {
+                Ok((value, used)) => return Ok(Step::Done { value, used }),
+                Err(Refusal::NoMemory) => return Err(Refusal::NoMemory),
+                Err(_) => {}
+            }
+        }
+        self.feed_begun(piece)
     }
 
     fn finish(&self) -> Result<(), Refusal> {
@@ -87,81 +103,43 @@ fn keep(begun: &mut Vec<u8>, octets: &[u8]) -> Result<(), Refusal>
     }
 }
 
-// The value, where the octets kept and the last ones are its encoding by the rule. No octet is kept then.
-fn accept<C: Canon>(
+// The value whose encoding by the rule the octets kept and the last ones are, which BER takes. No octet is kept then.
+fn judge(
     alloc: Global,
-    canon: &C,
+    rule: Canonical,
     ty: &WellTyped,
-    value: Value,
     begun: &mut Vec<u8>,
     last: &[u8],
 ) -> Result<Value, Refusal>
-    requires conforms { Conforms (ty_view ty.now) (value_view value) }
-    requires well_formed { IsWellFormed (ty_view ty.now) }
-    requires canonical { IsCanonical C.rule }
-    ensures same { IfOk result (λ v. v ≡ value) }
-    ensures accepted { OnOk result (IsAccepted C.rule (ty_view ty.now) (value_view value) (begun.old.items ++ last.now)) }
+    requires { IsSomeAccepted ber (ty_view ty.now) (begun.old.items ++ last.now) }
+    ensures accepted { IfOk result (λ value.
+        IsAccepted (canonical_rule_of rule) (ty_view ty.now) (value_view value) (begun.old.items ++ last.now)) }
     ensures none_kept { OnOk result (begun.new.items ≡ []) }
-    ensures never { result ≡ Err Refusal.NotCanonical → ¬ IsAccepted C.rule (ty_view ty.now) (value_view value) (begun.old.items ++ last.now) }
-    ensures numbers { IfErr result IsOfJudging }
-{
-    match judge(alloc, canon, ty, &value, begun, last) {
-        Ok(()) => Ok(value),
-        Err(refusal) => Err(refusal),
-    }
-}
-
-// Whether the octets kept and the last ones are a value's encoding by the rule. No octet is kept then.
-fn judge<C: Canon>(
-    alloc: Global,
-    canon: &C,
-    ty: &WellTyped,
-    value: &Value,
-    begun: &mut Vec<u8>,
-    last: &[u8],
-) -> Result<(), Refusal>
-    requires conforms { Conforms (ty_view ty.now) (value_view value.now) }
-    requires well_formed { IsWellFormed (ty_view ty.now) }
-    requires canonical { IsCanonical C.rule }
-    ensures accepted { OnOk result (IsAccepted C.rule (ty_view ty.now) (value_view value.now) (begun.old.items ++ last.now)) }
-    ensures none_kept { OnOk result (begun.new.items ≡ []) }
-    ensures never { result ≡ Err Refusal.NotCanonical → ¬ IsAccepted C.rule (ty_view ty.now) (value_view value.now) (begun.old.items ++ last.now) }
+    ensures never { result ≡ Err Refusal.NotCanonical →
+        ¬ IsSomeAccepted (canonical_rule_of rule) (ty_view ty.now) (begun.old.items ++ last.now) }
     ensures numbers { IfErr result IsOfJudging }
 {
     match keep(begun, last) {
         Ok(()) => {}
         Err(refusal) => return Err(refusal),
     }
-    let judged = compare(alloc, canon, ty, value, begun.as_slice());
+    let judged = read_all(alloc, rule, ty, begun.as_slice());
     begun.clear();
     judged
 }
 
-// Whether octets are the value's encoding by the rule.
-fn compare<C: Canon>(
-    alloc: Global,
-    canon: &C,
-    ty: &WellTyped,
-    value: &Value,
-    octets: &[u8],
-) -> Result<(), Refusal>
-    requires conforms { Conforms (ty_view ty.now) (value_view value.now) }
-    requires well_formed { IsWellFormed (ty_view ty.now) }
-    requires canonical { IsCanonical C.rule }
-    ensures accepted { OnOk result (IsAccepted C.rule (ty_view ty.now) (value_view value.now) octets.now) }
-    ensures never { result ≡ Err Refusal.NotCanonical → ¬ IsAccepted C.rule (ty_view ty.now) (value_view value.now) octets.now }
+// The value whose encoding by the rule the octets are, which BER takes.
+fn read_all(alloc: Global, rule: Canonical, ty: &WellTyped, octets: &[u8]) -> Result<Value, Refusal>
+    requires { IsSomeAccepted ber (ty_view ty.now) octets.now }
+    ensures accepted { IfOk result (λ value. IsAccepted (canonical_rule_of rule) (ty_view ty.now) (value_view value) octets.now) }
+    ensures never { result ≡ Err Refusal.NotCanonical → ¬ IsSomeAccepted (canonical_rule_of rule) (ty_view ty.now) octets.now }
     ensures numbers { IfErr result IsOfJudging }
 {
-    let mut encoding = Vec::new(alloc);
-    match canon.put(alloc, ty, value, &mut encoding) {
-        Ok(()) => {
-            if encoding.as_slice() == octets {
-                Ok(())
-            } else {
-                Err(Refusal::NotCanonical)
-            }
-        }
-        Err(Refusal::OutputTooLong) => Err(Refusal::NotCanonical),
-        Err(_) => Err(Refusal::NoMemory),
+    match read_canonical(alloc, rule, ty, octets) {
+        Ok((value, _)) => Ok(value),
+        Err(refusal) => match refusal {
+            Refusal::NoMemory => Err(Refusal::NoMemory),
+            _ => Err(Refusal::NotCanonical),
+        },
     }
 }

@@ -11,9 +11,9 @@ ghost use Rattle.engine.specs.Refusal.{IsOfReadingBy, IsOfTranscoding};
 ghost use Rattle.engine.specs.Rule.{rule_of, canonical_rule_of};
 ghost use Rattle.engine.specs.Transcoding.{IsTranscoded, HasNoShortEncoding};
 
+use crate::putting::{Encodings, Put};
 use crate::{Canonical, Rule};
 use berreader::read;
-use canon::{Canon, Cer, Der};
 use std::alloc::Global;
 use strict::{read_cer, read_der};
 use types::{Refusal, Value, WellTyped};
@@ -44,7 +44,7 @@ pub fn transcode(
         return Err(Refusal::Identifier);
     }
     let mut out = Vec::new(alloc);
-    put(alloc, to, ty, &value, &mut out)?;
+    Encodings { alloc, ty, to }.put(&value, &mut out)?;
     Ok(out)
 }
 
@@ -68,26 +68,5 @@ fn read_by(
         Rule::Ber => read(alloc, ty, octets),
         Rule::Cer => read_cer(alloc, ty, octets),
         Rule::Der => read_der(alloc, ty, octets),
-    }
-}
-
-// Appends the encoding of `value` by the rule `to`.
-fn put(
-    alloc: Global,
-    to: Canonical,
-    ty: &WellTyped,
-    value: &Value,
-    out: &mut Vec<u8>,
-) -> Result<(), Refusal>
-    requires { Conforms (ty_view ty.now) (value_view value.now) }
-    ensures appended { OnOk result (Appends
-        (IsAccepted (canonical_rule_of to) (ty_view ty.now) (value_view value.now)) out.old.items out.new.items) }
-    ensures too_long { result ≡ Err Refusal.OutputTooLong →
-        (b : List ℕ) → ¬ IsAccepted (canonical_rule_of to) (ty_view ty.now) (value_view value.now) b }
-    ensures numbers { IfErr result IsOfWriting }
-{
-    match to {
-        Canonical::Cer => Cer.put(alloc, ty, value, out),
-        Canonical::Der => Der.put(alloc, ty, value, out),
     }
 }

@@ -39,7 +39,7 @@ fn converted_by_octets(
 #[test]
 fn converted_streams(rt: HostRuntime) -> Result<(), Fail> {
     // (type, rule, octets, what is written, how many values are done, the refusal's number)
-    let cases: [(u8, Rule, &[u8], &[u8], u64, u8); 11] = [
+    let cases: [(u8, Rule, &[u8], &[u8], u64, u8); 14] = [
         (b'b', Rule::Ber, &[], &[], 0, 0),
         (
             b'b',
@@ -113,6 +113,17 @@ fn converted_streams(rt: HostRuntime) -> Result<(), Fail> {
             &[0x01, 0x01, 0xFF],
             1,
             1,
+        ),
+        // The long form of a length is 12, but not before BER has the value: it refuses one of two octets with 6.
+        (b'o', Rule::Der, &[0x04, 0x81, 0x01, 0x41], &[], 0, 12),
+        (b'o', Rule::Der, &[0x04, 0x81, 0x02, 0x41], &[], 0, 1),
+        (
+            b'b',
+            Rule::Der,
+            &[0x01, 0x01, 0xFF, 0x01, 0x81, 0x02, 0xFF, 0xFF],
+            &[0x01, 0x01, 0xFF],
+            1,
+            6,
         ),
     ];
     for (letter, from, octets, want, done, number) in cases {

@@ -8,7 +8,7 @@ use Rattle.engine.proofs.passing.pass.Goals as goal
 
 pub returns-in-Err-clause-stopped : goal.returns-in-Err-clause-stopped
 returns-in-Err-clause-stopped g c = λ old unfinished.
-    let rule = g.F.Feed.rule in
+    let rule = g.F.Feed.rule c.args.reader.now in
     let shape = g.P.Put.shape c.args.writer.now in
     let Stands = g.P.Put.stands c.args.writer.now in
     let octets = c.gather-gathered.new.self.octets.items in
@@ -42,7 +42,7 @@ returns-in-Ok-gathered-clause-passed g c = λ old unfinished.
       count = length c.as_slice-lengths.result.now;
       counted = refl;
       takes = subst (Appends (g.K.Sink.taken c.args.sink.now) (g.K.Sink.taken c.write_all.new.sink)) c.as_slice.ensures.value c.in-Ok.ensures.written;
-      writes = writes_all g.F.Feed.rule (g.P.Put.shape c.args.writer.now) (g.P.Put.stands c.args.writer.now) _ n.rest octets _ _ n.gathers (ap length (sym c.as_slice-lengths.ensures.value));
+      writes = writes_all (g.F.Feed.rule c.args.reader.now) (g.P.Put.shape c.args.writer.now) (g.P.Put.stands c.args.writer.now) _ n.rest octets _ _ n.gathers (ap length (sym c.as_slice-lengths.ensures.value));
       stands = n.stands;
     }
 
@@ -57,6 +57,6 @@ returns-in-Err-gathered-clause-stopped g c = λ old unfinished.
       count = length c.as_slice-lengths.result.now;
       counted = refl;
       takes = subst (Appends (g.K.Sink.taken c.args.sink.now) (g.K.Sink.taken c.write_all.new.sink)) c.as_slice.ensures.value c.in-Ok.ensures.written;
-      writes = writes_all g.F.Feed.rule (g.P.Put.shape c.args.writer.now) (g.P.Put.stands c.args.writer.now) _ n.rest octets _ _ n.gathers (ap length (sym c.as_slice-lengths.ensures.value));
+      writes = writes_all (g.F.Feed.rule c.args.reader.now) (g.P.Put.shape c.args.writer.now) (g.P.Put.stands c.args.writer.now) _ n.rest octets _ _ n.gathers (ap length (sym c.as_slice-lengths.ensures.value));
       stops = n.stops;
     }

@@ -7,9 +7,10 @@ use Rattle.engine.proofs.passing.pass_all.Goals as goal
 
 pub loop-piece-init : goal.loop-piece-init
 loop-piece-init g c =
-    let rule = g.F.Feed.rule in
+    let rule = g.F.Feed.rule c.args.reader.now in
     let shape = g.P.Put.shape c.args.writer.now in
     record {
+      same_rule = refl;
       stands = starts _ rule shape (g.P.Put.stands c.args.writer.now) _ _ (record { stands = c.requires.fresh; none = none_begun rule shape });
       source = c.requires.source;
       sink = c.requires.sink;
@@ -40,7 +41,7 @@ returns-in-Err-finish-clause-stopped g c =
     let gives = subst (Consumes (g.S.Source.left c.loop-piece.source) (g.S.Source.left c.read_from.new.source)) none c.in-Ok.ensures.given in
     let cut = (c.in-Err-finish.ensures shape s.rest s.stands.stands).0 in
     subst (λ refusal. OfStream (g.S.Source.left c.args.source.now) (g.K.Sink.taken c.args.sink.now) (g.K.Sink.taken c.loop-piece.sink)
-    (IsStopped (g.P.Put.stands c.args.writer.now) g.F.Feed.rule shape c.loop-piece.done refusal)) (sym cut)
+    (IsStopped (g.P.Put.stands c.args.writer.now) (g.F.Feed.rule c.args.reader.now) shape c.loop-piece.done refusal)) (sym cut)
     (ends_early _ _ _ _ _ _ _ _ _ _ _ s gives (c.in-Ok.ensures.end none) (λ old unfinished. ((c.in-Err-finish.ensures shape old unfinished.stands).1, unfinished.none)))
 
 pub returns-then-octets-total-clause-stopped : goal.returns-then-octets-total-clause-stopped
@@ -52,7 +53,8 @@ pub loop-piece-preserved : goal.loop-piece-preserved
 loop-piece-preserved g c =
     let gives = subst (Consumes (g.S.Source.left c.loop-piece.source) (g.S.Source.left c.read_from.new.source)) (sym c.octets-octets.ensures) c.in-Ok.ensures.given in
     record {
-      stands = goes_on _ _ _ _ _ _ _ _ _ _ _ _ _ _ _ c.octets-octets.result.now c.loop-piece.invariant.stands gives refl c.in-Ok-pass.ensures.passed;
+      same_rule = c.in-Ok-pass.ensures.rule_stays ∙ c.loop-piece.invariant.same_rule;
+      stands = goes_on _ _ _ _ _ _ _ _ _ _ _ _ _ _ _ c.octets-octets.result.now c.loop-piece.invariant.stands gives refl (rw c.loop-piece.invariant.same_rule at c.in-Ok-pass.ensures.passed);
       source = c.in-Ok.ensures.count;
       sink = c.in-Ok-pass.ensures.sink;
       few = omega (arith, c.in-Ok-pass.ensures.few, c.loop-piece.invariant.few);
@@ -62,4 +64,12 @@ loop-piece-preserved g c =
 pub returns-in-Err-pass-clause-stopped : goal.returns-in-Err-pass-clause-stopped
 returns-in-Err-pass-clause-stopped g c =
     let gives = subst (Consumes (g.S.Source.left c.loop-piece.source) (g.S.Source.left c.read_from.new.source)) (sym c.octets-octets.ensures) c.in-Ok.ensures.given in
-    stops _ _ _ _ _ _ _ _ _ _ _ _ _ _ c.octets-octets.result.now c.loop-piece.invariant.stands gives c.in-Err-pass.ensures.stopped
+    stops _ _ _ _ _ _ _ _ _ _ _ _ _ _ c.octets-octets.result.now c.loop-piece.invariant.stands gives (rw c.loop-piece.invariant.same_rule at c.in-Err-pass.ensures.stopped)
+
+pub pass-requires-clause-stands : goal.pass-requires-clause-stands
+pass-requires-clause-stands g c =
+    let s = c.loop-piece.invariant.stands in
+    (s.rest, rw (sym c.loop-piece.invariant.same_rule) at s.stands)
+
+pub returns-in-Err-pass-clause-numbers : goal.returns-in-Err-pass-clause-numbers
+returns-in-Err-pass-clause-numbers g c = rw c.loop-piece.invariant.same_rule at c.in-Err-pass.ensures.numbers

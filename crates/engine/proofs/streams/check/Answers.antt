@@ -1,21 +1,17 @@
-use Rattle.std.proofs.Common.{◌≡◌, IfErr, sym, subst}
-use Rattle.types.specs.declared.refusal.Refusal.TheVariants.{SourceFault}
+use Rattle.std.proofs.Common.{◌≡◌, [], None, IfOk, IfErr, subst}
+use Rattle.std.specs.Prelude.{IfSome}
 use Rattle.types.specs.View.{ty_view}
-use Rattle.engine.specs.declared.rule.Rule.{Rule}
-use Rattle.engine.specs.Given.{HasGiven}
-use Rattle.engine.specs.Rule.{rule_of}
-use Rattle.engine.proofs.ReaderLemmas.{stands_fresh}
+use Rattle.engine.specs.AnyReader.{read_rule}
+use Rattle.engine.specs.Stream.{IsChecked, IsCheckStopped}
+use Rattle.engine.proofs.CallLemmas.{all_checked, all_check_stopped}
 use Rattle.engine.proofs.streams.check.Goals as goal
 
-pub check_by-requires-clause-fresh : goal.check_by-requires-clause-fresh
-check_by-requires-clause-fresh g c = stands_fresh (ty_view c.args.ty.now) c.new.result c.new.ensures.shape c.new.ensures.fresh
+pub returns-clause-checked : goal.returns-clause-checked
+returns-clause-checked g c =
+    subst (λ rule. IfOk c.pass_all.result (λ done. IfSome (g.S.Source.left c.args.source.now) (IsChecked rule (ty_view c.args.ty.now) done)))
+    c.new-reader.ensures.rule (all_checked (λ _ octets. octets ≡ []) (read_rule c.new-reader.result) (ty_view c.args.ty.now) c.pass_all.result (g.S.Source.left c.args.source.now) None None c.pass_all.ensures.done)
 
-pub returns-in-Cer-clause-given : goal.returns-in-Cer-clause-given
-returns-in-Cer-clause-given g c =
-    let call = c.check_by-in-Cer in
-    subst (λ (rule : Rule). IfErr call.result (λ stopped. stopped.refusal ≡ SourceFault → HasGiven (rule_of rule) (ty_view c.args.ty.now) stopped.done (g.S.Source.left c.args.source.now) (g.S.Source.left call.new.source))) (sym c.in-Cer.is) call.ensures.given
-
-pub returns-in-Der-clause-given : goal.returns-in-Der-clause-given
-returns-in-Der-clause-given g c =
-    let call = c.check_by-in-Der in
-    subst (λ (rule : Rule). IfErr call.result (λ stopped. stopped.refusal ≡ SourceFault → HasGiven (rule_of rule) (ty_view c.args.ty.now) stopped.done (g.S.Source.left c.args.source.now) (g.S.Source.left call.new.source))) (sym c.in-Der.is) call.ensures.given
+pub returns-clause-stopped : goal.returns-clause-stopped
+returns-clause-stopped g c =
+    subst (λ rule. IfErr c.pass_all.result (λ stopped. IfSome (g.S.Source.left c.args.source.now) (IsCheckStopped rule (ty_view c.args.ty.now) stopped.done stopped.refusal)))
+    c.new-reader.ensures.rule (all_check_stopped (λ _ octets. octets ≡ []) (read_rule c.new-reader.result) (ty_view c.args.ty.now) c.pass_all.result (g.S.Source.left c.args.source.now) None None c.pass_all.ensures.stopped)

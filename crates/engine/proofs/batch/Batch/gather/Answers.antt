@@ -1,4 +1,4 @@
-use Rattle.std.proofs.Common.{rules, ◌≡◌, ◌++◌, [], length, take, drop, refl, ap, Err, arith, length-drop}
+use Rattle.std.proofs.Common.{rules, ◌≡◌, ◌++◌, [], length, take, drop, refl, ap, ◌∙◌, Err, arith, length-drop}
 use Rattle.std.proofs.lemmas.List.{length_push}
 use Rattle.types.specs.View.{value_view}
 use Rattle.types.proofs.EncodedLemmas.{encoded_conforms}
@@ -8,31 +8,33 @@ use Rattle.engine.proofs.batch.Batch.gather.Goals as goal
 
 pub loop-rest-init : goal.loop-rest-init
 loop-rest-init g c = record {
-  gathers = λ old unfinished. (old, unfinished, gathers_none g.F.Feed.rule (g.P.Put.shape c.args.writer.now) (g.P.Put.stands c.args.writer.now) (old ++ c.args.piece.now) _ _ c.clear.ensures.items c.clear-2.ensures.items);
+  same_rule = refl;
+  gathers = λ old unfinished. (old, unfinished, gathers_none (g.F.Feed.rule c.args.reader.now) (g.P.Put.shape c.args.writer.now) (g.P.Put.stands c.args.writer.now) (old ++ c.args.piece.now) _ _ c.clear.ensures.items c.clear-2.ensures.items);
   few = omega (arith, ap length c.clear-2.ensures.items);
 }
 
 pub add_last-requires : goal.add_last-requires
 add_last-requires g c =
     let shape = g.P.Put.shape c.args.writer.now in
-    let fed = rw c.in-Ok-Done.field-0-is at c.in-Ok-Done.ensures.fed in
+    let fed = rw c.loop-rest.invariant.same_rule at (rw c.in-Ok-Done.field-0-is at c.in-Ok-Done.ensures.fed) in
     let i = c.loop-rest.invariant.gathers c.requires.0 c.requires.1 in
     let f = fed shape i.0 i.1.stands in
-    encoded_conforms g.F.Feed.rule shape (value_view c.in-Ok-Done.value) _ f.0.accepted.encoding
+    encoded_conforms (g.F.Feed.rule c.args.reader.now) shape (value_view c.in-Ok-Done.value) _ f.0.accepted.encoding
 
 pub loop-rest-preserved : goal.loop-rest-preserved
 loop-rest-preserved g c =
-    let rule = g.F.Feed.rule in
+    let rule = g.F.Feed.rule c.args.reader.now in
     let shape = g.P.Put.shape c.args.writer.now in
     let Stands = g.P.Put.stands c.args.writer.now in
     let v = value_view c.in-Ok-Done.value in
     let left = c.loop-rest.rest.now in
     let used = c.in-Ok-Done.used in
-    let fed = rw c.in-Ok-Done.field-0-is at c.in-Ok-Done.ensures.fed in
+    let fed = rw c.loop-rest.invariant.same_rule at (rw c.in-Ok-Done.field-0-is at c.in-Ok-Done.ensures.fed) in
     let here = c.loop-rest.invariant.gathers c.requires.0 c.requires.1 in
     let done = (fed shape here.0 here.1.stands).0 in
     let added = c.in-Ok.ensures.added in
     record {
+      same_rule = c.in-Ok-Done.ensures.rule_stays ∙ c.loop-rest.invariant.same_rule;
       gathers = λ old unfinished.
           let i = c.loop-rest.invariant.gathers old unfinished in
           let f = fed shape i.0 i.1.stands in (
@@ -46,12 +48,12 @@ loop-rest-preserved g c =
 
 pub returns-in-Err-add_last-clause-refused : goal.returns-in-Err-add_last-clause-refused
 returns-in-Err-add_last-clause-refused g c = λ old unfinished.
-    let rule = g.F.Feed.rule in
+    let rule = g.F.Feed.rule c.args.reader.now in
     let shape = g.P.Put.shape c.args.writer.now in
     let Stands = g.P.Put.stands c.args.writer.now in
     let left = c.loop-rest.rest.now in
     let used = c.in-Ok-Done.used in
-    let fed = rw c.in-Ok-Done.field-0-is at c.in-Ok-Done.ensures.fed in
+    let fed = rw c.loop-rest.invariant.same_rule at (rw c.in-Ok-Done.field-0-is at c.in-Ok-Done.ensures.fed) in
     let i = c.loop-rest.invariant.gathers old unfinished in
     let f = fed shape i.0 i.1.stands in
     add_refused rule shape Stands c.in-Err-add_last.refusal (value_view c.in-Ok-Done.value) _ _ _ _ _ (i.0 ++ left) (i.0 ++ take used left) (drop used left)
@@ -60,18 +62,18 @@ returns-in-Err-add_last-clause-refused g c = λ old unfinished.
 
 pub returns-in-Err-clause-refused : goal.returns-in-Err-clause-refused
 returns-in-Err-clause-refused g c = λ old unfinished.
-    let rule = g.F.Feed.rule in
+    let rule = g.F.Feed.rule c.args.reader.now in
     let shape = g.P.Put.shape c.args.writer.now in
     let Stands = g.P.Put.stands c.args.writer.now in
     let i = c.loop-rest.invariant.gathers old unfinished in
-    let f = c.in-Err.ensures.fed shape i.0 i.1.stands in
+    let f = (rw c.loop-rest.invariant.same_rule at c.in-Err.ensures.fed) shape i.0 i.1.stands in
     feed_refused rule shape Stands c.in-Err.refusal _ _ _ i.0 c.loop-rest.rest.now (search rules) f.0 f.1 i.2
 
 pub returns-clause-gathered : goal.returns-clause-gathered
 returns-clause-gathered g c = λ old unfinished.
     let i = c.loop-rest.invariant.gathers old unfinished in
     let none : length c.loop-rest.rest.now ≡ 0 = search rules in
-    gathered_all _ g.F.Feed.rule (g.P.Put.shape c.args.writer.now) (g.P.Put.stands c.args.writer.now) _ _ _ i.0 c.loop-rest.rest.now none i.1 i.2
+    gathered_all _ (g.F.Feed.rule c.args.reader.now) (g.P.Put.shape c.args.writer.now) (g.P.Put.stands c.args.writer.now) _ _ _ i.0 c.loop-rest.rest.now none i.1 i.2
 
 pub feed-requires : goal.feed-requires
 feed-requires g c =
@@ -81,7 +83,14 @@ feed-requires g c =
 pub loop-rest-smaller : goal.loop-rest-smaller
 loop-rest-smaller g c =
     let shape = g.P.Put.shape c.args.writer.now in
-    let fed = rw c.in-Ok-Done.field-0-is at c.in-Ok-Done.ensures.fed in
+    let fed = rw c.loop-rest.invariant.same_rule at (rw c.in-Ok-Done.field-0-is at c.in-Ok-Done.ensures.fed) in
     let here = c.loop-rest.invariant.gathers c.requires.0 c.requires.1 in
     let done = (fed shape here.0 here.1.stands).0 in
     omega (arith, done.some, done.there, ap length c.split_at.ensures.back, length-drop c.in-Ok-Done.used c.loop-rest.rest.now)
+
+pub returns-in-Ok-More-clause-gathered : goal.returns-in-Ok-More-clause-gathered
+returns-in-Ok-More-clause-gathered g c = λ old unfinished.
+    let fed = rw c.loop-rest.invariant.same_rule at (rw c.in-Ok-More.field-0-is at c.in-Ok-More.ensures.fed) in
+    let i = c.loop-rest.invariant.gathers old unfinished in
+    let f = fed (g.P.Put.shape c.args.writer.now) i.0 i.1.stands in
+    record { rest = i.0 ++ c.loop-rest.rest.now; gathers = i.2; stands = record { stands = f.0; none = f.1 } }
