@@ -1,7 +1,7 @@
 //! What holds of the octets that BER accepts.
 
 use crate::answers::{convert_by, number_of, read_by, write_by};
-use crate::checks::{RULES, expect, expect_number, name_of, refused};
+use crate::checks::{RULES, expect, expect_by, expect_number, name_of, refused};
 use crate::pieces::{check_end_fed, check_front_fed, check_pieces};
 use crate::rows::{Becomes, Row};
 use crate::streamed;
@@ -109,10 +109,23 @@ fn check_strict(alloc: Global, row: &Row, to: Canonical, written: &[u8]) -> Resu
         check_not_canonical(alloc, row, rule)?;
         check_fronts(alloc, row, written)?;
     }
+    check_strict_fronts(alloc, row, rule, written)?;
     match read_by(alloc, rule, row.ty, written) {
         Ok((_, used)) => expect(used == written.len(), name_of(rule), row),
         Err(refusal) => refused(refusal, name_of(rule), row),
     }
+}
+
+// Checks that the reader of a rule wants more octets behind each front of what the rule writes.
+fn check_strict_fronts(alloc: Global, row: &Row, rule: Rule, written: &[u8]) -> Result<(), Fail> {
+    if row.is_long() {
+        return Ok(());
+    }
+    for end in 0..written.len() {
+        let answer = read_by(alloc, rule, row.ty, &written[..end]);
+        expect_number(number_of(answer), 1, "a strict front", row)?;
+    }
+    Ok(())
 }
 
 // Checks that a rule refuses octets that are not what it writes.
@@ -120,6 +133,7 @@ fn check_not_canonical(alloc: Global, row: &Row, rule: Rule) -> Result<(), Fail>
     let octets = row.octets.as_slice();
     let answer = read_by(alloc, rule, row.ty, octets);
     expect_number(number_of(answer), 12, name_of(rule), row)?;
+    streamed::check_one_number(alloc, row, rule, 12)?;
     if row.is_long() {
         return Ok(());
     }
@@ -164,7 +178,7 @@ fn check_fronts(alloc: Global, row: &Row, octets: &[u8]) -> Result<(), Fail> {
 fn check_front(alloc: Global, row: &Row, front: &[u8]) -> Result<(), Fail> {
     for rule in RULES {
         let answer = read_by(alloc, rule, row.ty, front);
-        expect_number(number_of(answer), 1, "a front", row)?;
+        expect_by(rule, number_of(answer), 1, "a front", row)?;
     }
     let answer = convert_by(alloc, (Rule::Ber, Canonical::Der), row.ty, front);
     expect_number(number_of(answer), 1, "a front converted", row)?;

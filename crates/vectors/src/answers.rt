@@ -5,18 +5,20 @@ ghost use Rattle.std.specs.Prelude.{◌≤◌};
 use berreader::{Reader, Step, read};
 use canon::{Canon, Cer, Der};
 use convert::{
-    Canonical, FromSlice, Line, LineFault, Refusal, Rule, Stopped, ToVec, Value, WellTyped, check,
-    conforms, convert, line, list, run, show, transcode,
+    Canonical, FromReader, FromSlice, Line, LineFault, Refusal, Rule, Stopped, ToVec, Value,
+    WellTyped, check, conforms, convert, line, list, run, show, transcode,
 };
 use std::alloc::Global;
+use std::io;
+use std::io::Read;
 use std::test::Fail;
 use strict::{read_cer, read_der};
 
 // What a reader of a front answers: a value and how many octets it has.
-type Read = Result<(Value, usize), Refusal>;
+type ReadFront = Result<(Value, usize), Refusal>;
 
 /// What the reader of a rule answers.
-pub fn read_by(alloc: Global, rule: Rule, ty: &WellTyped, octets: &[u8]) -> Read {
+pub fn read_by(alloc: Global, rule: Rule, ty: &WellTyped, octets: &[u8]) -> ReadFront {
     match rule {
         Rule::Ber => read(alloc, ty, octets),
         Rule::Cer => read_cer(alloc, ty, octets),
@@ -85,6 +87,39 @@ pub fn list_stream(alloc: Global, ty: &WellTyped, octets: &[u8]) -> Streamed {
 /// What the check of a stream answers.
 pub fn check_stream(alloc: Global, ty: &WellTyped, octets: &[u8]) -> Result<u64, Stopped> {
     check(alloc, ty, Rule::Ber, &mut FromSlice::new(octets))
+}
+
+/// What the check of a stream by a rule answers whose octets come so many at a time.
+pub fn check_parted(
+    alloc: Global,
+    ty: &WellTyped,
+    rule: Rule,
+    octets: &[u8],
+    most: usize,
+) -> Result<u64, Stopped> {
+    check(
+        alloc,
+        ty,
+        rule,
+        &mut FromReader::new(Parted { octets, most }),
+    )
+}
+
+// A reader that gives at most so many octets a call.
+#[derive(Drop)]
+struct Parted<'a> {
+    octets: &'a [u8],
+    most: usize,
+}
+
+impl Read for Parted<'_> {
+    fn read(&mut self, buf: &mut [u8]) -> io::Result<usize> {
+        let count = buf.len().min(self.most).min(self.octets.len());
+        let (front, rest) = self.octets.split_at(count);
+        buf[..count].copy_from_slice(front);
+        self.octets = rest;
+        Ok(count)
+    }
 }
 
 /// The command line of words with commas between them.

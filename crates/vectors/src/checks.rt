@@ -2,9 +2,10 @@
 
 use crate::accepted::check_accepted;
 use crate::answers::{convert_by, number_of, read_by};
+use crate::changed::check_changed;
 use crate::pieces::check_pieces;
 use crate::rows::{Becomes, Row, row_of};
-use crate::streamed::check_stopped;
+use crate::streamed::{check_one_number, check_stopped};
 use crate::types_by_name::type_of;
 use convert::{Canonical, Refusal, Rule, WellTyped};
 use std::alloc::Global;
@@ -34,6 +35,7 @@ pub fn check_line(alloc: Global, ty: &WellTyped, line: &str) -> Result<(), Fail>
 }
 
 fn check_row(alloc: Global, row: &Row) -> Result<(), Fail> {
+    check_changed(alloc, row)?;
     match row.der {
         Becomes::Refused(14) => check_accepted(alloc, row),
         Becomes::Refused(number) => check_refused(alloc, row, number),
@@ -68,6 +70,15 @@ pub fn expect_number(found: Option<u8>, want: u8, what: &str, row: &Row) -> Resu
     Err(Fail::new(format_args!("{found:?} and not {want}: {what} at {line}")))
 }
 
+/// Fails where the number of a refusal is neither this one nor 12: a strict reader names the first fault that it meets,
+/// which may be one against its rule alone, before the octets that BER refuses.
+pub fn expect_strict(found: Option<u8>, want: u8, what: &str, row: &Row) -> Result<(), Fail> {
+    if found == Some(12) {
+        return Ok(());
+    }
+    expect_number(found, want, what, row)
+}
+
 // Checks that all readers refuse octets.
 fn check_refused(alloc: Global, row: &Row, number: u8) -> Result<(), Fail> {
     let octets = row.octets.as_slice();
@@ -75,6 +86,9 @@ fn check_refused(alloc: Global, row: &Row, number: u8) -> Result<(), Fail> {
     check_pieces(alloc, row, octets, &read)?;
     expect_number(number_of(read), number, "read by BER", row)?;
     check_stopped(alloc, row, number)?;
+    for rule in [Rule::Cer, Rule::Der] {
+        check_one_number(alloc, row, rule, number)?;
+    }
     if row.is_long() {
         return Ok(());
     }
@@ -88,11 +102,25 @@ fn check_refused(alloc: Global, row: &Row, number: u8) -> Result<(), Fail> {
 fn check_not_taken(alloc: Global, row: &Row, rule: Rule, number: u8) -> Result<(), Fail> {
     let octets = row.octets.as_slice();
     let read = read_by(alloc, rule, row.ty, octets);
-    expect_number(number_of(read), number, name_of(rule), row)?;
+    expect_by(rule, number_of(read), number, name_of(rule), row)?;
     let der = convert_by(alloc, (rule, Canonical::Der), row.ty, octets);
-    expect_number(number_of(der), number, "converted to DER", row)?;
+    expect_by(rule, number_of(der), number, "converted to DER", row)?;
     let cer = convert_by(alloc, (rule, Canonical::Cer), row.ty, octets);
-    expect_number(number_of(cer), number, "converted to CER", row)
+    expect_by(rule, number_of(cer), number, "converted to CER", row)
+}
+
+/// Fails where the number of a refusal is not the one that BER names, and by CER and DER not 12 either.
+pub fn expect_by(
+    rule: Rule,
+    found: Option<u8>,
+    want: u8,
+    what: &str,
+    row: &Row,
+) -> Result<(), Fail> {
+    match rule {
+        Rule::Ber => expect_number(found, want, what, row),
+        Rule::Cer | Rule::Der => expect_strict(found, want, what, row),
+    }
 }
 
 // Checks that a value ends before the octets do.

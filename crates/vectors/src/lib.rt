@@ -13,6 +13,8 @@ mod arcs;
 #[cfg(test)]
 mod cer;
 #[cfg(test)]
+mod changed;
+#[cfg(test)]
 mod checks;
 #[cfg(test)]
 mod enumerated;

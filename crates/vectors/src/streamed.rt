@@ -1,6 +1,6 @@
 //! Streams of the octets of a row: what `convert`, `check` and `list` make of them.
 
-use crate::answers::{Streamed, check_stream, convert_stream, list_stream, text_of};
+use crate::answers::{Streamed, check_parted, check_stream, convert_stream, list_stream, text_of};
 use crate::checks::expect;
 use crate::rows::Row;
 use convert::{Canonical, Rule, Stopped, Value};
@@ -48,6 +48,22 @@ pub fn check_stopped(alloc: Global, row: &Row, number: u8) -> Result<(), Fail> {
     expect(is_stopped(&found, number), "a stream listed", row)?;
     let counted = check_stream(alloc, row.ty, octets);
     expect(told(&counted) == (0, number), "a stream checked", row)
+}
+
+/// Checks that a stream by a strict rule names this number, in whatever pieces its octets come.
+pub fn check_one_number(alloc: Global, row: &Row, rule: Rule, number: u8) -> Result<(), Fail> {
+    let octets = row.octets.as_slice();
+    let number = if octets.is_empty() { 0 } else { number };
+    let sizes: &[usize] = if row.is_long() {
+        &[4_096, 997]
+    } else {
+        &[4_096, 997, 1]
+    };
+    for size in sizes {
+        let counted = check_parted(alloc, row.ty, rule, octets, *size);
+        expect(told(&counted) == (0, number), "a strict stream", row)?;
+    }
+    Ok(())
 }
 
 /// Checks that nothing is written of a stream whose value a rule cannot write.

@@ -1,0 +1,97 @@
+//! The strict readers beside a plain way to decide what they take: read under BER, write the value again, compare. Each
+//! row is looked at as it stands, and with one octet changed, left out or doubled, and cut there.
+
+ghost use Rattle.std.specs.Prelude.{◌<◌, length};
+
+use crate::answers::{number_of, read_by, write_by};
+use crate::checks::{expect, expect_strict};
+use crate::rows::Row;
+use convert::{Canonical, Refusal, Rule, Value};
+use std::alloc::{AllocError, Global};
+use std::test::Fail;
+
+// Rows of more octets are looked at as they stand alone.
+const MOST: usize = 150;
+
+// What an octet is changed to.
+const OTHERS: [u8; 5] = [0x00, 0x01, 0x7F, 0x80, 0xFF];
+
+/// Checks that the strict readers take what the plain way takes, and else name its number or, of the octets that BER
+/// refuses, 12.
+pub fn check_changed(alloc: Global, row: &Row) -> Result<(), Fail> {
+    let octets = row.octets.as_slice();
+    check_plainly(alloc, row, octets)?;
+    if octets.len() > MOST {
+        return Ok(());
+    }
+    for place in 0..octets.len() {
+        check_changed_at(alloc, row, octets, place)?;
+    }
+    Ok(())
+}
+
+fn check_changed_at(alloc: Global, row: &Row, octets: &[u8], place: usize) -> Result<(), Fail>
+    requires { place < length octets.now }
+{
+    for other in OTHERS {
+        let changed = spliced(alloc, octets, place, &[other])?;
+        check_plainly(alloc, row, changed.as_slice())?;
+    }
+    let left_out = spliced(alloc, octets, place, &[])?;
+    check_plainly(alloc, row, left_out.as_slice())?;
+    let doubled = spliced(alloc, octets, place, &[octets[place], octets[place]])?;
+    check_plainly(alloc, row, doubled.as_slice())?;
+    check_plainly(alloc, row, &octets[..place])
+}
+
+// The octets, with these in place of the one at the place.
+fn spliced(alloc: Global, octets: &[u8], place: usize, others: &[u8]) -> Result<Vec<u8>, AllocError>
+    requires { place < length octets.now }
+{
+    let mut all = Vec::from_slice(alloc, &octets[..place])?;
+    all.extend_from_slice(others)?;
+    all.extend_from_slice(&octets[place + 1..])?;
+    Ok(all)
+}
+
+fn check_plainly(alloc: Global, row: &Row, octets: &[u8]) -> Result<(), Fail> {
+    for (rule, to) in [(Rule::Cer, Canonical::Cer), (Rule::Der, Canonical::Der)] {
+        let plain = read_plainly(alloc, to, row, octets);
+        let strict = read_by(alloc, rule, row.ty, octets);
+        check_same(row, plain, strict)?;
+    }
+    Ok(())
+}
+
+type Read = Result<(Value, usize), Refusal>;
+
+fn check_same(row: &Row, plain: Read, strict: Read) -> Result<(), Fail> {
+    match (plain, strict) {
+        (Ok(plain), strict) => expect(strict == Ok(plain), "the plain way takes more", row),
+        (Err(plain), strict) => {
+            let number = number_of(strict);
+            if is_an_end_begun(plain, number) {
+                return Ok(());
+            }
+            expect_strict(number, plain.number(), "the plain way refuses", row)
+        }
+    }
+}
+
+// Whether the octets end in a 00 where an identifier must stand: BER waits for a second one before it is refused.
+fn is_an_end_begun(plain: Refusal, strict: Option<u8>) -> bool {
+    plain == Refusal::Truncated && strict == Some(5)
+}
+
+// The value, where its encoding by the rule is the octets that BER reads it from.
+fn read_plainly(alloc: Global, to: Canonical, row: &Row, octets: &[u8]) -> Read {
+    let (value, used) = read_by(alloc, Rule::Ber, row.ty, octets)?;
+    match write_by(alloc, to, row.ty, &value) {
+        Ok(written) if written.len() == used && octets.starts_with(written.as_slice()) => {
+            Ok((value, used))
+        }
+        Ok(_) => Err(Refusal::NotCanonical),
+        Err(Refusal::OutputTooLong) => Err(Refusal::NotCanonical),
+        Err(refusal) => Err(refusal),
+    }
+}
