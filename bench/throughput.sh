@@ -17,6 +17,9 @@
 #                       the same with indefinite lengths                                               5.5
 #     booleans          2,000,000 BOOLEANs                                                             3
 #
+# What is written is converted and checked again. From DER, and from CER, records may take 0.8 times the time that the
+# same octets take from BER, and `check` 1.1 times.
+#
 # Of each, CER may take 1.5 times the time that DER takes, `check` no more than it, and `show` 3 times it.
 # A run over one NULL may take 2 ms. At most 3 MiB may be resident over values of at most 4 KiB, and 30 MiB over
 # a string or a SEQUENCE OF NULL of 1 MiB; a list of values that have parts takes more.
@@ -97,10 +100,28 @@ row() {
     hold "  show over convert" 300 "$took" "$der"
 }
 
+# Measures the strict reader of a rule on what the last work becomes under it, beside the reader of BER.
+strict_row() {
+    local rule=$1 ber
+    "$program" convert "${input[@]}" --to "$rule" >"$work/strict"
+    local -a again=("${input[@]:0:2}" "$work/strict")
+    measure $runs "$program" convert "${again[@]}" --to der
+    ber=$took
+    measure $runs "$program" convert "${again[@]}" --from "$rule" --to der
+    hold "  from $rule over from BER" 80 "$took" "$ber"
+    measure $runs "$program" check "${again[@]}"
+    ber=$took
+    measure $runs "$program" check "${again[@]}" --from "$rule"
+    hold "  check from $rule over from BER" 110 "$took" "$ber"
+    rm "$work/strict"
+}
+
 declare -a input=()
 declare -A residents=()
 echo 'microseconds:'
 row records 500
+strict_row der
+strict_row cer
 row segments_of_1000 300
 row segments_of_1 300
 row sets 400
