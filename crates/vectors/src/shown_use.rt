@@ -1,6 +1,6 @@
-//! The runs that `README.md` shows, and what it says that they print. A test reads no files, so the module and the
+//! The runs that `README.md` shows, some more, and what they print. A test reads no files, so the module and the
 //! values of its first example stand here too, word for word as in `examples/`. What `convert` writes of them is
-//! put together by X.690, clauses 8.1 and 10: the README shows its beginning alone.
+//! put together by X.690, clauses 8.1 and 10.
 
 use crate::runs::{check_run, check_runs};
 use std::alloc::Global;
