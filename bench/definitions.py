@@ -25,7 +25,7 @@ PAGE = TOP / "docs" / "DEFINITIONS.md"
 PARTS = {"contents", "whole", "builtin"}
 STATE = {
     ("berreader", name)
-    for name in ("HasBeenFed", "IsFresh", "IsFinished", "IsFedStep", "IsSoundReader", "open_encodings", "weight_held")
+    for name in ("HasBeenFed", "IsFresh", "IsFinished", "IsSoundReader", "open_encodings", "weight_held")
 }
 
 HEAD = re.compile(r"^(?:unfoldable |abbrev |def )?(?:pub )?(?:abbrev|record|data|def)?\s*(?:pub )?(\S+)")
