@@ -5,14 +5,14 @@
 
 Of each crate's specs/ three kinds are told apart:
 
-    public   what the clauses of the public functions of the crates cite, and what these definitions cite
+    public   what the clauses of public functions cite, and what these definitions cite
     state    what only the definitions of STATE cite, by which a reader says where it stands between two pieces
     private  all others: what private functions cite, and the public functions of the crates of PARTS, which
-             are called by other crates of this repository alone
+             other crates of this repository alone call
 
-A line is one of code: imports, comments, module lines and empty lines are left out. With --names each public
-definition is printed with its file. Ends with 1 where docs/DEFINITIONS.md does not have the table that is
-printed, or does not name a definition that a public clause cites itself.
+A line is one of code: imports, comments, lines of modules and empty ones are left out. With --names each public
+definition is printed first, with its file and its lines. The status is 1 where docs/DEFINITIONS.md does not have
+the table that is printed, or does not name a definition that a public clause cites itself.
 """
 
 import re
@@ -28,200 +28,168 @@ STATE = {
     for name in ("HasBeenFed", "IsFresh", "IsFinished", "IsSoundReader", "open_encodings", "weight_held")
 }
 
-HEAD = re.compile(r"^(?:unfoldable |abbrev |def )?(?:pub )?(?:abbrev|record|data|def)?\s*(?:pub )?(\S+)")
-STARTS = re.compile(r"^(?:unfoldable|abbrev|record|data|def|pub (?:record|data|abbrev))\b")
-INSIDE = re.compile(r"^  pub (?:data |record )?(\S+)")
-PASSED = re.compile(r"^(?:--|use\b|pub use\b|pub mod\b|mod\b|ghost use\b|\s*$)")
-USE = re.compile(r"(?:ghost )?use Rattle\.(\w+)\.specs\.([\w.]+?)(?:\.\{([^}]*)\}| as (\S+))?\s*;?$", re.M)
+NO_CODE = re.compile(r"\s*(--|(pub )?use |pub mod |$)")
+MUTUAL = re.compile(r"(abbrev )?mutual$")
+DEFINITION = re.compile(r"(?:unfoldable |abbrev )?pub (?:record |data )?(\S+)")
+IN_MUTUAL = re.compile(r"  pub (?:record |data )?(\S+)")
+IMPORT = re.compile(r"^\s*(?:ghost |pub )?use Rattle\.(\w+)\.specs\.([\w.]+?)(?:\.\{(.*)\}| as (\S+))?;?$", re.M)
 TOKEN = re.compile(r"[^\s(){}\[\],;]+")
 
 
-def imports(text):
-    """The names that a text imports: each with the definitions it may stand for, or the file that it names."""
-    names, files = {}, {}
-    for crate, path, listed, alias in USE.findall(text):
-        if path.startswith(("declared", "contracts")):
+def definitions_of(text):
+    """The lines of code of each definition of a file, by its name."""
+    found, lines, mutual = {}, [], False
+    for line in text.splitlines():
+        if NO_CODE.match(line):
             continue
-        if alias or not listed:
+        head = (IN_MUTUAL if mutual else DEFINITION).match(line)
+        if not line.startswith(" ") and (MUTUAL.match(line) or DEFINITION.match(line)):
+            mutual = bool(MUTUAL.match(line))
+            head = None if mutual else DEFINITION.match(line)
+        if head:
+            lines = found[head.group(1)] = []
+        if not MUTUAL.match(line):
+            lines.append(line)
+    return found
+
+
+def imports_of(text):
+    """What a text imports: definitions by the names that it gives them, and files likewise."""
+    names, files = {}, {}
+    for crate, path, listed, alias in IMPORT.findall(text):
+        if not path.startswith(("declared", "contracts")):
             files[alias or path] = (crate, path)
-        for name in filter(None, (part.strip() for part in listed.split(","))):
-            real, _, other = name.partition(" as ")
-            names[other or real] = (crate, path, real)
+            for item in filter(None, map(str.strip, listed.split(","))):
+                name, _, other = item.partition(" as ")
+                names[other or name] = (crate, path, name)
     return names, files
 
 
-def blocks(text):
-    """The definitions of a file: name, and lines of code. Those of a mutual block stand two spaces to the right."""
-    name, lines, mutual = None, [], False
-    for line in text.splitlines():
-        if PASSED.match(line.strip()):
-            continue
-        starts = STARTS.match(line) or line.startswith("mutual")
-        if starts:
-            mutual = "mutual" in line.split()
-        if starts or (mutual and INSIDE.match(line)):
-            if name:
-                yield name, lines
-            head = INSIDE.match(line) if not starts else None if mutual else HEAD.match(line)
-            name, lines = (head.group(1), []) if head else (None, [])
-        if name:
-            lines.append(line)
-    if name:
-        yield name, lines
+class Definitions:
+    """All definitions, each by crate, file and name."""
+
+    def __init__(self):
+        texts = {(path.parts[-3], path.stem): path.read_text() for path in TOP.glob("crates/*/specs/*.antt")}
+        self.lines = {(*at, name): lines for at, text in texts.items() for name, lines in definitions_of(text).items()}
+        self.passed_on = {}
+        for at, text in texts.items():
+            passed = "\n".join(line for line in text.splitlines() if line.startswith("pub use"))
+            self.passed_on |= {(*at, name): place for name, place in imports_of(passed)[0].items()}
+        self.cited = {at: self.cites("\n".join(lines), texts[at[:2]], at[:2]) for at, lines in self.lines.items()}
+
+    def cites(self, text, file, here=None):
+        """The definitions that a text cites, which stands in a file with imports."""
+        names, files = imports_of(file)
+        places = set()
+        for token in TOKEN.findall(text):
+            first, *rest = token.split(".")
+            place = names.get(first) or (here and (*here, first))
+            if first in files and rest:
+                place = (*files[first], rest[0])
+            places.add(self.passed_on.get(place, place))
+        return {place for place in places if place in self.lines}
+
+    def reach(self, roots, ends):
+        """All that the roots cite, but for what the ends alone cite."""
+        seen, left = set(), list(roots)
+        while left:
+            at = left.pop()
+            if at not in seen:
+                seen.add(at)
+                left += () if (at[0], at[2]) in ends else self.cited[at]
+        return seen
 
 
-def read_definitions():
-    """Each definition by crate, file and name: its lines, and the definitions that these cite."""
-    found, texts = {}, {}
-    for path in sorted(TOP.glob("crates/*/specs/*.antt")):
-        crate, file = path.parts[-3], path.stem
-        texts[crate, file] = path.read_text()
-        for name, lines in blocks(texts[crate, file]):
-            found[crate, file, name] = lines
-    passed_on = {}
-    for (crate, file), text in texts.items():
-        for name, place in imports("\n".join(l[4:] for l in text.splitlines() if l.startswith("pub use")))[0].items():
-            passed_on[crate, file, name] = place
-    cited = {}
-    for key, lines in found.items():
-        cited[key] = cites("\n".join(lines), texts[key[0], key[1]], found, passed_on, key[:2])
-    return found, cited, passed_on
-
-
-def cites(text, imported, found, passed_on, here=None):
-    """The definitions that a text cites, by the imports of the text that it stands in."""
-    names, files = imports(imported)
-    places = set()
-    for token in TOKEN.findall(text):
-        first, _, rest = token.partition(".")
-        if first in files and rest:
-            place = (*files[first], rest.split(".")[0])
-        elif first in names:
-            place = names[first]
-        elif here:
-            place = (*here, first)
-        else:
-            continue
-        place = passed_on.get(place, place)
-        if place in found:
-            places.add(place)
-    return places
-
-
-def exported(crate):
-    """The names that lib.rt of a crate passes on from its own modules."""
+def exports_of(crate):
+    """The names that a crate's lib.rt passes on."""
     text = (TOP / "crates" / crate / "src" / "lib.rt").read_text()
-    listed = re.findall(r"^pub use [\w:]+?(?:::\{([^}]*)\}|::(\w+));", text, re.M)
-    return {name.strip() for many, one in listed for name in (many or one).split(",") if name.strip()}
+    listed = re.findall(r"^pub use [\w:]+?::(?:\{([^}]*)\}|(\w+));", text, re.M)
+    return {name.strip() for many, one in listed for name in (many or one).split(",")}
 
 
-def items(text):
-    """The items of a source file: the first line, and all of its lines."""
+def items_of(text):
+    """The functions, traits and impls of a source file, each as its lines."""
     item = []
     for line in text.splitlines():
-        if item and (line.startswith(("}", "{}")) or (line and not line[0].isspace() and line[0] != "{" and ends(item))):
-            yield item + [line]
-            item = []
-        elif item or re.match(r"(pub )?(fn|trait|impl|struct|enum)\b", line):
+        if item or re.match(r"(pub )?(fn|trait|impl)\b", line):
             item.append(line)
+        if item and line in ("}", "{}"):
+            yield item
+            item = []
 
 
-def ends(item):
-    return item[-1].rstrip().endswith(";")
-
-
-def heads(lines, indent):
-    """What stands before the bodies of functions: their clauses."""
-    kept, inside = [], False
-    for line in lines:
-        if line.startswith(indent + "{"):
+def heads_of(item, indent):
+    """The lines of an item but for the bodies of its functions, which stand between braces at the indent."""
+    inside = False
+    for line in item:
+        if line == indent + "{":
             inside = True
-        elif line.startswith(indent + "}"):
+        elif line == indent + "}":
             inside = False
-        elif not inside:
-            kept.append(line)
-    return kept
+        elif not inside and not line.lstrip().startswith("//"):
+            yield line
 
 
-def clauses(item, names):
-    """The clauses of an item that are public, if it is one of the names."""
-    first = item[0]
-    function = re.match(r"pub fn (\w+)", first)
+def clauses_of(item, exports):
+    """The lines of an item in which its public clauses stand."""
+    function = re.match(r"pub fn (\w+)", item[0])
+    subject = re.match(r"(?:pub trait|impl(?:<[^>]*>)?) (?:.* for )?(\w+)", item[0])
     if function:
-        return heads(item, "") if function.group(1) in names else []
-    subject = re.match(r"(?:pub trait|impl(?:<[^>]*>)?) (?:.* for )?&?(?:'\w+ )?(\w+)", first)
-    if not subject or subject.group(1) not in names:
+        return list(heads_of(item, "")) if function.group(1) in exports else []
+    if not subject or subject.group(1) not in exports:
         return []
-    if first.startswith("pub trait") or " for " in first:
-        return heads(item, "    ")
-    kept, public = [], False
-    for line in heads(item, "    "):
-        if re.match(r"    (pub )?(const )?fn ", line):
+    kept, public = [], True
+    for line in heads_of(item, "    "):
+        if item[0].startswith("impl") and " for " not in item[0] and re.match(r"    (pub )?fn ", line):
             public = line.startswith("    pub ")
-        if public:
-            kept.append(line)
+        kept += [line] if public else []
     return kept
 
 
-def public_roots(found, passed_on):
-    """What the clauses of public functions cite."""
+def roots_in(definitions):
+    """The definitions that the clauses of public functions cite."""
     roots = set()
-    for source in sorted(TOP.glob("crates/*/src")):
-        crate = source.parts[-2]
-        if crate in PARTS or not (source / "lib.rt").exists():
+    for path in TOP.glob("crates/*/src/**/*.rt"):
+        crate = path.relative_to(TOP).parts[1]
+        if crate in PARTS or crate == "asn1x":
             continue
-        names = exported(crate)
-        for path in source.rglob("*.rt"):
-            text = path.read_text()
-            ghosts = re.sub(r"^\s*ghost ", "", text, flags=re.M)
-            for item in items(text):
-                stated = "\n".join(l for l in clauses(item, names) if not l.strip().startswith("//"))
-                roots |= cites(stated, ghosts, found, passed_on)
+        text = path.read_text()
+        for item in items_of(text):
+            roots |= definitions.cites("\n".join(clauses_of(item, exports_of(crate))), text)
     return roots
 
 
-def reach(roots, cited, stop):
-    """All that the roots cite, without going past what stops."""
-    seen, todo = set(), list(roots)
-    while todo:
-        key = todo.pop()
-        if key not in seen:
-            seen.add(key)
-            todo += [] if (key[0], key[2]) in stop else cited[key]
-    return seen
-
-
-def table(found, public, state):
-    """The lines of the table, a crate each, in the order of crates.txt."""
-    crates = [line.split(":")[0] for line in (TOP / "crates.txt").read_text().splitlines()]
-    counts = defaultdict(lambda: [0, 0, 0, 0, 0, 0])
-    for key, lines in found.items():
-        kind = 0 if key in public else 1 if key in state else 2
-        counts[key[0]][2 * kind] += 1
-        counts[key[0]][2 * kind + 1] += len(lines)
+def table_of(definitions, public, state):
+    """The lines of the table: one for each crate, in the order of crates.txt."""
+    counts = defaultdict(lambda: [0] * 6)
+    for at, lines in definitions.lines.items():
+        column = 0 if at in public else 2 if at in state else 4
+        counts[at[0]][column] += 1
+        counts[at[0]][column + 1] += len(lines)
+    rows = [(f"`{crate}`", counts[crate]) for crate in re.findall(r"^\w+", (TOP / "crates.txt").read_text(), re.M)]
+    rows.append(("all", [sum(column) for column in zip(*counts.values())]))
     yield "| Crate | Public definitions | Lines | Of a reader's state | Lines | Private | Lines |"
     yield "|---|---|---|---|---|---|---|"
-    for crate in crates:
-        if crate in counts:
-            yield f"| `{crate}` | " + " | ".join(map(str, counts[crate])) + " |"
-    sums = [sum(column) for column in zip(*counts.values())]
-    yield "| all | " + " | ".join(map(str, sums)) + " |"
+    for name, row in rows:
+        if any(row):
+            yield f"| {name} | {' | '.join(map(str, row))} |"
 
 
 def main():
-    found, cited, passed_on = read_definitions()
-    roots = public_roots(found, passed_on)
-    public = reach(roots, cited, STATE)
-    state = reach(roots, cited, set()) - public
-    printed = list(table(found, public, state))
+    definitions = Definitions()
+    roots = roots_in(definitions)
+    public = definitions.reach(roots, STATE)
+    state = definitions.reach(roots, set()) - public
     if "--names" in sys.argv[1:]:
-        for crate, file, name in sorted(public):
-            print(f"{crate}/specs/{file}.antt {name} {len(found[crate, file, name])}")
-    print("\n".join(printed))
+        for at in sorted(public):
+            print(f"{at[0]}/specs/{at[1]}.antt {at[2]} {len(definitions.lines[at])}")
+    table = "\n".join(table_of(definitions, public, state))
+    print(table)
     page = PAGE.read_text()
-    faults = ["the table is another one"] if "\n".join(printed) not in page else []
-    words = set(re.findall(r"[^\s`,;:().|]+", page))
-    faults += [f"{crate}/specs/{file}.antt: {name} is not named" for crate, file, name in sorted(roots) if name not in words]
+    words = set(re.findall(r"\w+", page))
+    faults = [f"{at[0]}/specs/{at[1]}.antt: {at[2]} is not named" for at in sorted(roots) if at[2] not in words]
+    if table not in page:
+        faults.insert(0, "the table is another one")
     for fault in faults:
         print(f"definitions: {PAGE.name}: {fault}", file=sys.stderr)
     return 1 if faults else 0
