@@ -1,6 +1,6 @@
 PREFIX ?= $(HOME)/.local
 
-.PHONY: demo test growths install clean rt
+.PHONY: demo examples test growths install clean rt
 
 # Converts 01 01 2a, a BOOLEAN under BER, to DER, then checks, shows and converts the values of examples/, by a
 # program that is compiled once, without a proof. examples/demo/ has the words of each run. Of the text of a
@@ -21,6 +21,11 @@ demo: rt
 	    esac; \
 	done
 	@echo '(compiled with run-time checks, and not yet proved: "make install" proves it)'
+
+# Runs the built or installed program over the values of examples/, and compares what it prints with what other tools
+# make of them.
+examples:
+	@examples/run.sh
 
 # Passes the gate: every proof, must-fail edit, test and stored run.
 test: rt

@@ -1,0 +1,72 @@
+#!/bin/sh
+# Runs asn1x over the values of this folder, and compares what it prints with what expected/ has.
+#
+#     examples/run.sh [PROGRAM]
+#
+# PROGRAM is crates/asn1x/out/asn1x unless given, or the asn1x on the path where that is not built. A line is printed for
+# each file of `rows`, which names what is as expected:
+#
+#     check     counts as many values as NAME.txt has lines
+#     show      prints NAME.txt
+#     to der    writes NAME.hex
+#     from der  reads NAME.hex by the strict rule, and writes it again
+#     by cer    writes CER, reads that by the strict rule, and writes NAME.hex
+#
+# expected.sh makes those files, by other tools. The status is 1 where anything differs, and 2 where something is missing.
+set -eu
+
+folder=$(cd "$(dirname "$0")" && pwd)
+program=${1-$folder/../crates/asn1x/out/asn1x}
+if [ $# = 0 ] && [ ! -x "$program" ]; then
+    program=$(command -v asn1x) || {
+        echo 'examples: asn1x is not built and not on the path: "make install" proves it and puts it there,' >&2
+        echo '"make try" builds it without a proof' >&2
+        exit 2
+    }
+fi
+command -v "$program" >/dev/null || { echo "examples: $program is missing" >&2; exit 2; }
+program=$(realpath "$(command -v "$program")")
+for tool in diff mktemp; do
+    command -v "$tool" >/dev/null || { echo "examples: $tool is missing" >&2; exit 2; }
+done
+
+work=$(mktemp -d)
+trap 'rm -rf "$work"' EXIT
+cd "$folder"
+echo "examples: $program"
+status=0
+
+# Compares standard input with the file $2, and says that $1 is as expected, or how it differs.
+compare() {
+    if diff - "$2" >"$work/differs" 2>&1; then
+        passed="$passed $1,"
+    else
+        echo "$name: $1 differs (< as printed, > as expected):" >&2
+        cut -c 1-240 "$work/differs" | head -n 8 >&2
+        status=1
+    fi
+}
+
+while read -r name module type file; do
+    for it in "$file" "expected/$name.hex" "expected/$name.txt"; do
+        [ -f "$it" ] || { echo "examples: $it is missing" >&2; exit 2; }
+    done
+    passed=
+    echo "ok $(wc -l <"expected/$name.txt")" >"$work/count"
+    { tr -d '\n' <"expected/$name.hex"; echo; } >"$work/der"
+    "$program" check "$module" "$type" "$file" --hex >"$work/said" 2>&1 || echo "status $?" >>"$work/said"
+    compare check "$work/count" <"$work/said"
+    "$program" show "$module" "$type" "$file" --hex >"$work/said" 2>&1 || echo "status $?" >>"$work/said"
+    compare show "expected/$name.txt" <"$work/said"
+    "$program" convert "$module" "$type" "$file" --hex --to der >"$work/said" 2>&1 || echo "status $?" >>"$work/said"
+    compare 'to der' "$work/der" <"$work/said"
+    "$program" convert "$module" "$type" "$work/der" --hex --from der --to der >"$work/said" 2>&1 || echo "status $?" >>"$work/said"
+    compare 'from der' "$work/der" <"$work/said"
+    "$program" convert "$module" "$type" "$file" --hex --to cer >"$work/cer" 2>&1 || :
+    "$program" convert "$module" "$type" "$work/cer" --hex --from cer --to der >"$work/said" 2>&1 || echo "status $?" >>"$work/said"
+    compare 'by cer' "$work/der" <"$work/said"
+    printf '%-14s %2d of %-16s %s\n' "$name" "$(wc -l <"expected/$name.txt")" "$type" "${passed%,}"
+done <rows
+
+[ $status = 0 ] && echo 'examples: all as expected'
+exit $status
