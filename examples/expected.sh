@@ -20,14 +20,12 @@ octets() {
     tr -d ' \n' | tr a-f A-F | basenc --base16 -d
 }
 
-# Holds each value in a file to what this command of openssl writes of it.
+# Holds a line of hexadecimal text, $2, to what a command of openssl writes of the octets that $1 spells.
 same() {
-    file=$1
-    shift
-    while read -r line; do
-        theirs=$(echo "$line" | octets | "$@" -inform DER -outform DER | od -An -v -tx1 | tr -d ' \n')
-        [ "$theirs" = "$line" ] || { echo "expected: openssl writes other octets than $file" >&2; exit 1; }
-    done <"$file"
+    from=$1 to=$2
+    shift 2
+    theirs=$(echo "$from" | octets | "$@" -inform DER -outform DER | od -An -v -tx1 | tr -d ' \n')
+    [ "$theirs" = "$to" ] || { echo "expected: $* writes other octets" >&2; exit 1; }
 }
 
 mkdir -p expected
@@ -37,6 +35,8 @@ while read -r name module type file; do
     echo "$name: $(wc -l <"expected/$name.txt") values of $type"
 done <rows
 
-same expected/certificates.hex openssl x509
-same expected/revoked.hex openssl crl
-same expected/cms.hex openssl cms -cmsout
+# The first value of cms.hex is in BER, the others are in DER as openssl made them.
+same "$(cat cms.hex)" "$(head -n 1 expected/cms.hex)" openssl cms -cmsout
+while read -r line; do same "$line" "$line" openssl cms -cmsout; done <expected/cms.hex
+while read -r line; do same "$line" "$line" openssl x509; done <expected/certificates.hex
+while read -r line; do same "$line" "$line" openssl crl; done <expected/revoked.hex

@@ -1,7 +1,7 @@
 #!/bin/sh
-# Makes ldap.hex and ldap_long.hex anew, in the folder that this script stands in: values of LDAPMessage of ldap.asn, one
-# behind another, as hexadecimal text. They are what the tools of OpenLDAP send to a server of theirs on this machine, and
-# what it sends back.
+# Makes ldap.hex and ldap_long.hex anew, in the folder that this script stands in: values of LDAPMessage of ldap.asn,
+# one behind another, as hexadecimal text. They are what the tools of OpenLDAP send to a server of theirs on this
+# machine, and what it sends back.
 #
 #     examples/ldap.sh
 #
@@ -12,8 +12,8 @@
 #     a bind, a search with a filter of four levels and two controls, its entries and result, and an end
 #     a bind, a change of an entry, its result, and an end
 #
-# ldap_long.hex has the same messages with each length in five octets, as some servers write them. No such server is asked:
-# the lengths are written anew by the python code below, which knows tags and lengths alone.
+# ldap_long.hex has the same messages with each length in five octets, as some servers write them. No such server is
+# asked: the lengths are written anew by the python code below, which knows tags and lengths alone.
 set -eu
 
 folder=$(cd "$(dirname "$0")" && pwd)
@@ -70,7 +70,8 @@ delete: telephoneNumber
 END
 
 cat >relay.py <<'END'
-# Carries octets between clients, one after another, and the server, and writes each message as a line of hexadecimal text.
+# Carries octets between clients, one after another, and the server, and writes a line of hexadecimal text for each
+# message.
 import selectors, socket, sys
 
 def whole(octets):

@@ -3,8 +3,8 @@
 #
 #     examples/run.sh [PROGRAM]
 #
-# PROGRAM is crates/asn1x/out/asn1x unless given, or the asn1x on the path where that is not built. A line is printed for
-# each file of `rows`, which names what is as expected:
+# PROGRAM is crates/asn1x/out/asn1x unless given, or the asn1x on the path where that is not built. A line is printed
+# for each file of `rows`, which names what is as expected:
 #
 #     check     counts as many values as NAME.txt has lines
 #     show      prints NAME.txt
@@ -12,7 +12,8 @@
 #     from der  reads NAME.hex by the strict rule, and writes it again
 #     by cer    writes CER, reads that by the strict rule, and writes NAME.hex
 #
-# expected.sh makes those files, by other tools. The status is 1 where anything differs, and 2 where something is missing.
+# expected.sh makes those files, by other tools. The status is 1 where anything differs, and 2 where something is
+# missing.
 set -eu
 
 folder=$(cd "$(dirname "$0")" && pwd)
@@ -36,15 +37,20 @@ cd "$folder"
 echo "examples: $program"
 status=0
 
-# Compares standard input with the file $2, and says that $1 is as expected, or how it differs.
+# Compares what the program said with the file $2, and says that $1 is as expected, or how it differs.
 compare() {
-    if diff - "$2" >"$work/differs" 2>&1; then
+    if diff "$work/said" "$2" >"$work/differs" 2>&1; then
         passed="$passed $1,"
     else
         echo "$name: $1 differs (< as printed, > as expected):" >&2
         cut -c 1-240 "$work/differs" | head -n 8 >&2
         status=1
     fi
+}
+
+# Runs the program, and keeps what it says, and its status where that is not 0.
+run() {
+    "$program" "$@" >"$work/said" 2>&1 || echo "status $?" >>"$work/said"
 }
 
 while read -r name module type file; do
@@ -54,17 +60,18 @@ while read -r name module type file; do
     passed=
     echo "ok $(wc -l <"expected/$name.txt")" >"$work/count"
     { tr -d '\n' <"expected/$name.hex"; echo; } >"$work/der"
-    "$program" check "$module" "$type" "$file" --hex >"$work/said" 2>&1 || echo "status $?" >>"$work/said"
-    compare check "$work/count" <"$work/said"
-    "$program" show "$module" "$type" "$file" --hex >"$work/said" 2>&1 || echo "status $?" >>"$work/said"
-    compare show "expected/$name.txt" <"$work/said"
-    "$program" convert "$module" "$type" "$file" --hex --to der >"$work/said" 2>&1 || echo "status $?" >>"$work/said"
-    compare 'to der' "$work/der" <"$work/said"
-    "$program" convert "$module" "$type" "$work/der" --hex --from der --to der >"$work/said" 2>&1 || echo "status $?" >>"$work/said"
-    compare 'from der' "$work/der" <"$work/said"
-    "$program" convert "$module" "$type" "$file" --hex --to cer >"$work/cer" 2>&1 || :
-    "$program" convert "$module" "$type" "$work/cer" --hex --from cer --to der >"$work/said" 2>&1 || echo "status $?" >>"$work/said"
-    compare 'by cer' "$work/der" <"$work/said"
+    run check "$module" "$type" "$file" --hex
+    compare check "$work/count"
+    run show "$module" "$type" "$file" --hex
+    compare show "expected/$name.txt"
+    run convert "$module" "$type" "$file" --hex --to der
+    compare 'to der' "$work/der"
+    run convert "$module" "$type" "$work/der" --hex --from der --to der
+    compare 'from der' "$work/der"
+    run convert "$module" "$type" "$file" --hex --to cer
+    mv "$work/said" "$work/cer"
+    run convert "$module" "$type" "$work/cer" --hex --from cer --to der
+    compare 'by cer' "$work/der"
     printf '%-14s %2d of %-16s %s\n' "$name" "$(wc -l <"expected/$name.txt")" "$type" "${passed%,}"
 done <rows
 
