@@ -1,6 +1,6 @@
 PREFIX ?= $(HOME)/.local
 
-.PHONY: demo examples test growths install clean rt
+.PHONY: demo examples test growths install try clean rt
 
 # Converts 01 01 2a, a BOOLEAN under BER, to DER, then checks, shows and converts the values of examples/, by a
 # program that is compiled once, without a proof. examples/demo/ has the words of each run. Of the text of a
@@ -41,15 +41,19 @@ growths: rt
 	fi
 	@bench/growths.sh
 
-# Proves the program and each library that it stands on, and puts it on the path.
+# Proves the program and each library that it stands on, and puts it on the path, with its manual page and completion.
 install: rt
-	@for crate in $(libraries); do \
-	    echo "proving $$crate"; \
-	    $(call quietly,cd crates/$$crate && rt lib >&2) || exit 1; \
-	done
-	@echo 'proving asn1x'
-	@$(call quietly,$(in_program) rt run -- $(stored_run) >/dev/null)
-	install -D -m 755 crates/asn1x/out/asn1x "$(DESTDIR)$(PREFIX)/bin/asn1x"
+	@install/proved.sh
+	@$(call put,crates/asn1x/out/asn1x)
+	@echo 'installed $(program), which is proved, and its manual page (man asn1x)'
+
+# Puts the program on the path as it is without a proof, compiled with run-time checks.
+try: rt
+	@echo 'compiling asn1x with run-time checks, and without a proof: one to two minutes'
+	@install/unproved.sh crates/asn1x/out/unproved
+	@$(call put,crates/asn1x/out/unproved)
+	@echo 'installed $(program), which is NOT PROVED and slower, and its manual page (man asn1x)'
+	@echo '"make install" proves it, and puts the proved one in its place'
 
 clean:
 	rm -rf crates/*/out
@@ -59,14 +63,16 @@ rt:
 
 in_program = cd crates/asn1x &&
 shown = calls.asn calls.hex certificates.asn certificates.hex revoked.hex usage.hex
-stored_run = convert @builtin BOOLEAN data/in.hex --hex --to der
 
 # A command whose standard error is shown only where it fails.
 define quietly
 ( said=$$(mktemp); trap 'rm -f "$$said"' EXIT; ( $(1) ) 2>"$$said" || { cat "$$said" >&2; exit 1; } )
 endef
 
-# The libraries that the program stands on, the lowest first, as crates.txt lists them.
-libraries = $(shell tac crates.txt | awk -F ':' \
-    '$$1 == "asn1x" || needed[$$1] { split($$2, names, " "); for (i in names) needed[names[i]] = 1; \
-     if ($$1 != "asn1x") print $$1 }' | tac)
+# Puts a built program, its manual page and its completion where they belong.
+program = $(DESTDIR)$(PREFIX)/bin/asn1x
+define put
+install -D -m 755 $(1) "$(program)" && \
+install -D -m 644 docs/asn1x.1 "$(DESTDIR)$(PREFIX)/share/man/man1/asn1x.1" && \
+install -D -m 644 docs/asn1x.bash "$(DESTDIR)$(PREFIX)/share/bash-completion/completions/asn1x"
+endef

@@ -3,8 +3,8 @@
 #
 #     examples/run.sh [PROGRAM]
 #
-# PROGRAM is crates/asn1x/out/asn1x unless given, or the asn1x on the path where that is not built. A line is printed
-# for each file of `rows`, which names what is as expected:
+# PROGRAM is crates/asn1x/out/asn1x unless given; where that is not built, the asn1x on the path, or else what `make try`
+# has built. A line is printed for each file of `rows`, which names what is as expected:
 #
 #     check     counts as many values as NAME.txt has lines
 #     show      prints NAME.txt
@@ -17,14 +17,16 @@
 set -eu
 
 folder=$(cd "$(dirname "$0")" && pwd)
-program=${1-$folder/../crates/asn1x/out/asn1x}
-if [ $# = 0 ] && [ ! -x "$program" ]; then
-    program=$(command -v asn1x) || {
-        echo 'examples: asn1x is not built and not on the path: "make install" proves it and puts it there,' >&2
-        echo '"make try" builds it without a proof' >&2
-        exit 2
-    }
-fi
+out=$folder/../crates/asn1x/out
+program=${1-}
+for it in "$out/asn1x" asn1x "$out/unproved"; do
+    [ -n "$program" ] || program=$(command -v "$it") || :
+done
+[ -n "$program" ] || {
+    echo 'examples: asn1x is not built and not on the path: "make install" proves it and puts it there,' >&2
+    echo '"make try" does so without a proof' >&2
+    exit 2
+}
 command -v "$program" >/dev/null || { echo "examples: $program is missing" >&2; exit 2; }
 program=$(realpath "$(command -v "$program")")
 for tool in diff mktemp; do

@@ -1,0 +1,52 @@
+#!/bin/sh
+# Proves asn1x and each library that it stands on, the lowest first, and builds it as crates/asn1x/out/asn1x.
+#
+#     install/proved.sh
+#
+# It needs rt. A line is printed for each crate: how many there are, what it took, and about how long the rest will take,
+# by the times so far and the minutes of processor time in docs/CONTRIBUTING.md. What an earlier check or install on this
+# machine proved of the same files is used again, and takes a second or two. Nothing is built where a proof fails.
+set -eu
+
+cd "$(dirname "$0")/.."
+command -v rt >/dev/null || { echo "proved: rt is missing: put the kit's bin folder on the path" >&2; exit 2; }
+said=$(mktemp)
+trap 'rm -f "$said"' EXIT
+
+# The libraries that asn1x stands on, as crates.txt lists them, and asn1x, each with its minutes.
+crates() {
+    tac crates.txt | awk -F ':' '
+        $1 == "asn1x" || needed[$1] { split($2, names, " "); for (i in names) needed[names[i]] = 1; print $1 }' | tac |
+        while read -r crate; do
+            echo "$crate $(awk -F '|' -v name="\`$crate\`" '{ gsub(" ", "") } $2 == name { print $3 + 0 }' docs/CONTRIBUTING.md)"
+        done | awk '{ print $1, ($2 > 0 ? $2 : 1) }'
+}
+
+# Seconds as words.
+words() {
+    if [ "$1" -lt 100 ]; then echo "$1 s"; else echo "$((($1 + 30) / 60)) min"; fi
+}
+
+# Proves a crate; of asn1x, which is a program, the run of its stored words builds it too.
+prove() {
+    cd "crates/$1"
+    case $1 in
+    asn1x) rt run -- convert @builtin BOOLEAN data/in.hex --hex --to der >/dev/null ;;
+    *) rt lib >&2 ;;
+    esac
+}
+
+list=$(crates)
+count=$(echo "$list" | wc -l)
+echo "proving $count crates, which takes minutes from nothing, and each but the last seconds where it was proved here before"
+begun=$(date +%s) number=0
+echo "$list" | while read -r crate minutes; do
+    number=$((number + 1)) since=$(date +%s)
+    printf '%2d of %d  %-12s' "$number" "$count" "$crate"
+    (prove "$crate") 2>"$said" || { echo ' NOT PROVED'; cat "$said" >&2; exit 1; }
+    now=$(date +%s)
+    left=$(echo "$list" | awk -v at="$number" -v took=$((now - begun)) '
+        { if (NR <= at) done += $2; else left += $2 } END { printf "%d", took * left / done }')
+    printf ' proved  %6s' "$(words $((now - since)))"
+    [ "$number" = "$count" ] && echo || echo "  about $(words "$left") left"
+done
