@@ -52,7 +52,7 @@ try: rt
 	@echo 'compiling asn1x with run-time checks, and without a proof: one to two minutes'
 	@install/unproved.sh crates/asn1x/out/unproved
 	@$(call put,crates/asn1x/out/unproved)
-	@echo 'installed $(program), which is NOT PROVED and slower, and its manual page (man asn1x)'
+	@echo 'installed $(program), which is NOT PROVED and many times slower, and its manual page (man asn1x)'
 	@echo '"make install" proves it, and puts the proved one in its place'
 
 clean:
