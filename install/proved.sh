@@ -40,7 +40,7 @@ list=$(crates)
 count=$(echo "$list" | wc -l)
 echo "proving $count crates, which takes minutes from nothing, and each but the last seconds where it was proved here before"
 begun=$(date +%s) number=0
-echo "$list" | while read -r crate minutes; do
+echo "$list" | while read -r crate _; do
     number=$((number + 1)) since=$(date +%s)
     printf '%2d of %d  %-12s' "$number" "$count" "$crate"
     (prove "$crate") 2>"$said" || { echo ' NOT PROVED'; cat "$said" >&2; exit 1; }
