@@ -4,8 +4,9 @@
 #     install/proved.sh
 #
 # It needs rt. A line is printed for each crate: how many there are, what it took, and about how long the rest will take,
-# by the times so far and the minutes of processor time in docs/CONTRIBUTING.md. What an earlier check or install on this
-# machine proved of the same files is used again, and takes a second or two. Nothing is built where a proof fails.
+# by the times so far and the minutes of processor time in docs/CONTRIBUTING.md, with a minute for the program. What an
+# earlier check or install on this machine proved of the same files is used again, and takes a second or two. Nothing is
+# built where a proof fails.
 set -eu
 
 cd "$(dirname "$0")/.."
@@ -19,7 +20,7 @@ crates() {
         $1 == "asn1x" || needed[$1] { split($2, names, " "); for (i in names) needed[names[i]] = 1; print $1 }' | tac |
         while read -r crate; do
             echo "$crate $(awk -F '|' -v name="\`$crate\`" '{ gsub(" ", "") } $2 == name { print $3 + 0 }' docs/CONTRIBUTING.md)"
-        done | awk '{ print $1, ($2 > 0 ? $2 : 1) }'
+        done | awk '{ print $1, ($2 > 0 ? $2 : $1 == "asn1x" ? 0 : 1) }'
 }
 
 # Seconds as words.
@@ -46,7 +47,7 @@ echo "$list" | while read -r crate _; do
     (prove "$crate") 2>"$said" || { echo ' NOT PROVED'; cat "$said" >&2; exit 1; }
     now=$(date +%s)
     left=$(echo "$list" | awk -v at="$number" -v took=$((now - begun)) '
-        { if (NR <= at) done += $2; else left += $2 } END { printf "%d", took * left / done }')
+        { if (NR <= at) done += $2; else left += $2 } END { printf "%d", 60 + took * left / done }')
     printf ' proved  %6s' "$(words $((now - since)))"
     [ "$number" = "$count" ] && echo || echo "  about $(words "$left") left"
 done
