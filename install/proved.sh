@@ -3,10 +3,10 @@
 #
 #     install/proved.sh
 #
-# It needs rt. A line is printed for each crate: how many there are, what it took, and about how long the rest will take,
-# by the times so far and the minutes of processor time in docs/CONTRIBUTING.md, with a minute for the program. What an
-# earlier check or install on this machine proved of the same files is used again, and takes a second or two. Nothing is
-# built where a proof fails.
+# It needs rt. A line is printed for each crate: how many there are, what it took, and about how long the rest will
+# take, by the times so far and the minutes of processor time in docs/CONTRIBUTING.md, with a minute for the program.
+# What an earlier check or install on this machine proved of the same files is used again, and takes a second or two.
+# Nothing is built where a proof fails.
 set -eu
 
 cd "$(dirname "$0")/.."
@@ -14,12 +14,17 @@ command -v rt >/dev/null || { echo "proved: rt is missing: put the kit's bin fol
 said=$(mktemp)
 trap 'rm -f "$said"' EXIT
 
+# The minutes of processor time that the proof of a crate takes, where that was timed.
+minutes_of() {
+    awk -F '|' -v name="\`$1\`" '{ gsub(" ", "") } $2 == name { print $3 + 0 }' docs/CONTRIBUTING.md
+}
+
 # The libraries that asn1x stands on, as crates.txt lists them, and asn1x, each with its minutes.
 crates() {
     tac crates.txt | awk -F ':' '
         $1 == "asn1x" || needed[$1] { split($2, names, " "); for (i in names) needed[names[i]] = 1; print $1 }' | tac |
         while read -r crate; do
-            echo "$crate $(awk -F '|' -v name="\`$crate\`" '{ gsub(" ", "") } $2 == name { print $3 + 0 }' docs/CONTRIBUTING.md)"
+            echo "$crate $(minutes_of "$crate")"
         done | awk '{ print $1, ($2 > 0 ? $2 : $1 == "asn1x" ? 0 : 1) }'
 }
 
@@ -39,7 +44,7 @@ prove() {
 
 list=$(crates)
 count=$(echo "$list" | wc -l)
-echo "proving $count crates, which takes minutes from nothing, and each but the last seconds where it was proved here before"
+echo "proving $count crates: minutes from nothing, and seconds for each library that was proved here before"
 begun=$(date +%s) number=0
 echo "$list" | while read -r crate _; do
     number=$((number + 1)) since=$(date +%s)
