@@ -124,3 +124,6 @@ AreFieldsFilled fields slots = AreFilled (map field_view fields) slots
 pub filled_first : (f : Field) (fields : List Field) (slot : Option Value) (slots : List (Option Value)) → AreFieldsFilled (f ∷ fields) (slot ∷ slots) ↔ (IsFilled f slot × AreFieldsFilled fields slots)
 filled_first f fields None slots = (λ h. (subst MayBeAbsent (field_requirement f) h.0, h.1), λ h. (subst MayBeAbsent (sym (field_requirement f)) h.0, h.1))
 filled_first f fields (Some value) slots = (λ h. (tt, h), λ h. h.1)
+
+pub empty_length : (fields : List Field) (slots : List (Option Value)) → slots ≡ map (λ (c : ComponentView). none_of) (map field_view fields) → length slots ≡ length fields
+empty_length fields slots is = ap length is ∙ (length-map (map field_view fields) (λ (c : ComponentView). none_of) ∙ length-map fields field_view)

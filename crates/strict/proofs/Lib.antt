@@ -6,6 +6,8 @@ pub mod UnusedLemmas
 pub mod KindLemmas
 pub mod LeafLemmas
 pub mod PlaceLemmas
+pub mod ShortLemmas
+pub mod FillLemmas
 pub mod SegmentLemmas
 pub mod JoiningLemmas
 pub mod CutLemmas

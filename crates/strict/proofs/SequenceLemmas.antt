@@ -1,8 +1,8 @@
 -- Lemmas on the components of a SEQUENCE that were read.
-use Rattle.std.proofs.Common.{◌≡◌, ℕ, ◌+◌, ◌-◌, List, [], ◌∷◌, ◌++◌, Bool, true, false, Option, Some, None, Vec, Global, length, take, drop, map, option_map, refl, sym, ◌∙◌, ap, ap₂, subst, subst₂, arith, append_assoc, append-nil}
+use Rattle.std.proofs.Common.{◌≡◌, ℕ, ◌+◌, ◌-◌, ◌≤◌, List, [], ◌∷◌, ◌++◌, Bool, true, false, Option, Some, None, Vec, Global, length, take, drop, map, option_map, refl, sym, ◌∙◌, ap, ap₂, subst, subst₂, arith, append_assoc, append-nil}
 use Rattle.std.specs.List.{AllByRecursion, concat}
 use Rattle.std.proofs.Math.Seq.{take-add}
-use Rattle.std.proofs.lemmas.List.{length-drop, drop-drop}
+use Rattle.std.proofs.lemmas.List.{length-drop, drop-drop, drop_all, take_all}
 use Rattle.octets.specs.declared.tag.Tag.{Tag}
 use Rattle.octets.specs.Rule.{Rule, ber, cer, der}
 use Rattle.types.specs.declared.value.Value.{Value}
@@ -138,8 +138,20 @@ nothing_of : (rule : Rule) (definite : Bool) (room : ℕ) (octets rest : List �
 nothing_of rule definite room octets rest no_slot [] each fills parts = subst (EndsHere definite room) (sym parts) (ends_here definite room rest fills)
 nothing_of rule definite room octets rest slots encodings each fills parts = elim each [ ]
 
-pub ends_behind : (rule : Rule) (definite : Bool) (room : ℕ) (octets : List ℕ) → HasComponents rule [] definite room octets → EndsHere definite room octets
+ends_behind : (rule : Rule) (definite : Bool) (room : ℕ) (octets : List ℕ) → HasComponents rule [] definite room octets → EndsHere definite room octets
 ends_behind rule definite room octets h = nothing_of rule definite room octets h.rest h.slots h.encodings h.each h.fills h.parts
+
+pub ends_behind_all : (rule : Rule) (components : List ComponentView) (definite : Bool) (room : ℕ) (octets more : List ℕ) (slots : List (Option Value)) (at : ℕ) → AreComponentsRead rule components [] definite room octets slots at → HasComponents rule components definite room (octets ++ more)
+    → EndsHere definite (room - at) (drop at octets ++ more)
+ends_behind_all rule components definite room octets more slots at read h =
+    ends_behind rule definite (room - at) (drop at octets ++ more) (read.forth more (subst (λ l. HasComponents rule l definite room (octets ++ more)) (sym (append-nil components)) h))
+
+-- no component is left, and each has its slot
+pub all_read : (rule : Rule) (fields : List Field) (i : ℕ) (definite : Bool) (room : ℕ) (octets : List ℕ) (slots : List (Option Value)) (at : ℕ) → length fields ≤ i → length slots ≡ length fields
+    → AreComponentsRead rule (map field_view (take i fields)) (map field_view (drop i fields)) definite room octets (take i slots) at → AreComponentsRead rule (map field_view fields) [] definite room octets slots at
+all_read rule fields i definite room octets slots at past many read =
+    let first = subst₂ (λ xs ys. AreComponentsRead rule (map field_view xs) (map field_view ys) definite room octets (take i slots) at) (take_all i fields past) (drop_all i fields past) read in
+    subst (λ l. AreComponentsRead rule (map field_view fields) [] definite room octets l at) (take_all i slots (omega (arith, past, many))) first
 
 pub sequence_read : (rule : Rule) (tag : Tag) (fields : List Field) (room : ℕ) (octets : List ℕ) (inside : Inside) (slots : Vec (Option Value) Global) (used whole : ℕ) → IsOpened rule tag room octets inside
     → AreComponentsRead rule (map field_view fields) [] inside.definite inside.room (drop inside.start octets) slots.items used → EndsHere inside.definite (inside.room - used) (drop used (drop inside.start octets))

@@ -10,7 +10,7 @@ use Rattle.types.specs.Shape.{StringType, StringValue, Shape, Val}
 use Rattle.types.specs.Conforms.{Conforms}
 use Rattle.types.proofs.CerLemmas.{same_fronts}
 use Rattle.contents.specs.Contents.{HoldsContents}
-use Rattle.strict.specs.Leaf.{IsBitString, bits_view}
+use Rattle.strict.specs.Leaf.{IsBitString, bits_view, IsBitsOf}
 
 -- bits that end with so many zeros
 abbrev pub EndsWithZeros : ℕ → ℕ → Type 0
@@ -127,12 +127,7 @@ none_unused bits contents few h =
     }
 
 -- the contents octets of a value of a BIT STRING
-pub record AreBitsOf (v : Val) (contents : List ℕ) : Type 0 where
-  pub bits : List Bool
-  pub is : v ≡ bits_view bits
-  pub spelt : IsBits der bits contents
-
-pub bits_held : (type : Shape) (v : Val) (contents : List ℕ) → IsBitString type → HoldsContents der type v contents → AreBitsOf v contents
+pub bits_held : (type : Shape) (v : Val) (contents : List ℕ) → IsBitString type → HoldsContents der type v contents → IsBitsOf v contents
 bits_held (Shape.string tag StringType.bit_string) v contents of h = record { bits = h.spelt.bits; is = h.is ∙ ap Val.string h.spelt.is; spelt = h.spelt.spelt }
 bits_held (Shape.string tag (StringType.named_bits names)) v contents of h =
     let k = h.spelt in

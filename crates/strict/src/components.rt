@@ -1,6 +1,6 @@
 //! SEQUENCEs: components in order of declaration (X.690 8.9 and 11.5).
 
-ghost use Rattle.std.specs.Prelude.{◌≡◌, ◌-◌, ◌≤◌, ℕ, [], None, map, drop, IfOk, IfErr};
+ghost use Rattle.std.specs.Prelude.{◌≡◌, ◌-◌, ◌<◌, ◌≤◌, ℕ, [], length, map, drop, IfOk, IfErr};
 ghost use Rattle.std.specs.List.{AllByRecursion};
 ghost use Rattle.octets.specs.declared.TheConstants.{MAX_ENCODING};
 ghost use Rattle.types.specs.FirstTags.{RunsAreDistinct};
@@ -18,6 +18,7 @@ use crate::canonical::Canonical;
 use crate::fronts::{front_tag, is_next, is_spelt_out, left_over, not_next};
 use crate::head::{Inside, named, opened};
 use crate::parts::read_one;
+use crate::slots::{clear, empty_slots};
 use octets::{MAX_ENCODING, Tag};
 use std::alloc::Global;
 use types::{Field, Refusal, Value, may_be_absent};
@@ -42,10 +43,10 @@ pub fn read_sequence(
 {
     let inside = opened(rule, tag, room, octets)?;
     let behind = &octets[inside.start..];
-    let mut slots = Vec::new(alloc);
-    if slots.reserve_exact(fields.len()).is_err() {
+    let Ok(empty) = empty_slots(alloc, fields) else {
         return Err(Refusal::NoMemory);
-    }
+    };
+    let mut slots = empty;
     match read_components(alloc, rule, fields, &inside, behind, &mut slots) {
         Ok(used) => {
             *slot = Some(Value::Fields(slots));
@@ -68,70 +69,67 @@ fn read_components(
     requires good { AllByRecursion IsGoodComponent (map field_view fields.now) }
     requires runs { RunsAreDistinct (components_view fields.now) }
     requires room { inside.now.room ≤ MAX_ENCODING }
-    requires none { slots.old.items ≡ [] }
+    requires slots { length slots.old.items ≡ length fields.now }
     ensures value { IfOk result (λ used. AreComponentsRead (rule_of rule) (map field_view fields.now) [] inside.now.definite inside.now.room octets.now slots.new.items used
         × EndsHere inside.now.definite (inside.now.room - used) (drop used octets.now)) }
     ensures refused { IfErr result (λ refusal. Bars refusal (HasComponents (rule_of rule) (map field_view fields.now) inside.now.definite inside.now.room) octets.now) }
     ensures numbers { IfErr result IsOfStrictReading }
 {
     let mut at = 0;
-    let mut front = front_tag(inside.definite, inside.room, octets)?;
     for (place, field) in fields.iter().enumerate() {
-        let mut slot = None;
         at += read_component(
             alloc,
             rule,
             field,
-            &fields[place + 1..],
+            fields,
+            place,
             inside.definite,
             inside.room - at,
             &octets[at..],
-            &mut front,
-            &mut slot,
+            &mut slots[place],
         )?;
-        if slots.reserve(1).is_err() {
-            return Err(Refusal::NoMemory);
-        }
-        slots.push_reserved(slot);
     }
-    match front {
+    match front_tag(inside.definite, inside.room - at, &octets[at..])? {
         Some(tag) => Err(left_over(tag, slots)),
         None => Ok(at),
     }
 }
 
-// Reads the encoding of the component at the front, if it stands there, or none where it may be absent. The tag at the
-// front is then that of what stands behind it.
+// Reads the encoding of the component at the front, which has this place, if it stands there, or none where it may be
+// absent. It is read at once, and only where that is refused its tag is looked at.
 #[cycle(reading)]
 fn read_component(
     alloc: Global,
     rule: Canonical,
     field: &Field,
-    later: &[Field],
+    fields: &[Field],
+    place: usize,
     definite: bool,
     room: usize,
     octets: &[u8],
-    front: &mut Option<Tag>,
     slot: &mut Option<Value>,
 ) -> Result<usize, Refusal>
     requires good { IsGoodComponent (field_view field.now) }
     requires room { room ≤ MAX_ENCODING }
-    requires front { IsFront front.old definite room octets.now }
-    requires none { slot.old ≡ None }
-    ensures value { IfOk result (λ used. IsComponentRead (rule_of rule) (field_view field.now) definite room octets.now slot.new used
-        × IsFront front.new definite (room - used) (drop used octets.now)) }
+    requires place { place < length fields.now }
+    ensures value { IfOk result (λ used. IsComponentRead (rule_of rule) (field_view field.now) definite room octets.now slot.new used) }
     ensures refused { IfErr result (λ refusal. BarsComponents (rule_of rule) (field_view field.now) definite room octets.now refusal) }
     ensures numbers { IfErr result IsOfStrictReading }
 {
-    if !is_next(*front, &field.ty) {
-        if may_be_absent(&field.presence) {
-            return Ok(0);
+    match read_present(alloc, rule, field, room, octets, slot) {
+        Ok(used) => Ok(used),
+        Err(refusal) => {
+            let front = front_tag(definite, room, octets)?;
+            if is_next(front, &field.ty) {
+                return Err(refusal);
+            }
+            if !may_be_absent(&field.presence) {
+                return Err(not_next(front, &fields[place + 1..]));
+            }
+            clear(slot);
+            Ok(0)
         }
-        return Err(not_next(*front, later));
     }
-    let used = read_present(alloc, rule, field, room, octets, slot)?;
-    *front = front_tag(definite, room - used, &octets[used..])?;
-    Ok(used)
 }
 
 // Reads the encoding of the component at the front, which is not that of its default.

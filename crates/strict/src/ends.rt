@@ -9,6 +9,7 @@ ghost use Rattle.strict.specs.Refusal.{IsOfStrictReading};
 use types::Refusal;
 
 // Whether the contents octets end here, with room for so many more.
+#[inline(always)]
 pub fn ends(definite: bool, room: usize, octets: &[u8]) -> Result<bool, Refusal>
     ensures value { IfOk result (λ ended. IsEndKnown ended definite room octets.now) }
     ensures refused { IfErr result (λ refusal.

@@ -38,6 +38,7 @@ pub fn is_next(front: Option<Tag>, ty: &Ty) -> bool
 }
 
 // Why what stands there is refused where a component must, before these.
+#[inline(never)]
 pub fn not_next(front: Option<Tag>, later: &[Field]) -> Refusal
     ensures { IsOfStrictReading result }
 {

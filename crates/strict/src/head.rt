@@ -12,6 +12,7 @@ ghost use Rattle.strict.specs.Head.{IsDefiniteAt, HasDefinite, IsInsideDefinite,
 ghost use Rattle.strict.specs.Refusal.{IsOfStrictReading};
 
 use crate::canonical::Canonical;
+use crate::short::short_opened;
 use contents::{Extent, not_due, read_extent, read_head_tag};
 use octets::{MAX_ENCODING, Tag};
 use types::Refusal;
@@ -108,7 +109,23 @@ fn shortest(size: usize) -> usize
 }
 
 // What stands inside the constructed encoding at the front, which has the tag and at most `room` octets.
+#[inline(always)]
 pub fn opened(rule: Canonical, tag: Tag, room: usize, octets: &[u8]) -> Result<Inside, Refusal>
+    requires tag { tag.number ≤ MAX_TAG_NUMBER }
+    requires room { room ≤ MAX_ENCODING }
+    ensures value { IfOk result (λ inside. IsOpened (rule_of rule) tag room octets.now inside) }
+    ensures refused { IfErr result (λ refusal. Bars refusal (HasConstructed (rule_of rule) tag room) octets.now) }
+    ensures numbers { IfErr result IsOfStrictReading }
+{
+    match short_opened(rule, tag, room, octets) {
+        Some(inside) => Ok(inside),
+        None => long_opened(rule, tag, room, octets),
+    }
+}
+
+// What stands inside it, however many octets stand before that.
+#[inline(never)]
+fn long_opened(rule: Canonical, tag: Tag, room: usize, octets: &[u8]) -> Result<Inside, Refusal>
     requires tag { tag.number ≤ MAX_TAG_NUMBER }
     requires room { room ≤ MAX_ENCODING }
     ensures value { IfOk result (λ inside. IsOpened (rule_of rule) tag room octets.now inside) }
@@ -128,7 +145,7 @@ pub fn opened(rule: Canonical, tag: Tag, room: usize, octets: &[u8]) -> Result<I
     }
 }
 
-// The same under CER.
+// What stands inside it under CER, where it has the indefinite form (X.690 9.1).
 pub fn indefinite(tag: Tag, room: usize, octets: &[u8]) -> Result<Inside, Refusal>
     requires tag { tag.number ≤ MAX_TAG_NUMBER }
     requires room { room ≤ MAX_ENCODING }

@@ -8,6 +8,7 @@
 mod canonical;
 mod components;
 mod ends;
+mod filling;
 mod fronts;
 mod head;
 mod items;
@@ -17,6 +18,8 @@ mod parts;
 mod places;
 mod reading;
 mod segments;
+mod short;
+mod slots;
 mod tags;
 mod values;
 

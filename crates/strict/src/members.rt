@@ -20,6 +20,7 @@ use crate::components::read_present;
 use crate::fronts::front_tag;
 use crate::head::{Inside, named, opened};
 use crate::places::{are_filled, place_due};
+use crate::slots::empty_slots;
 use crate::tags::{comes_behind, order_tag};
 use octets::{MAX_ENCODING, Tag};
 use std::alloc::Global;
@@ -62,22 +63,6 @@ pub fn read_set(
         }
         Err(refusal) => Err(named(rule, inside.room, refusal)),
     }
-}
-
-// A slot for each component; all are empty.
-fn empty_slots(alloc: Global, fields: &[Field]) -> Result<Vec<Option<Value>>, Refusal>
-    ensures { IfOk result (λ slots. slots.items ≡ map (λ c. None) (map field_view fields.now)) }
-{
-    let mut slots = Vec::new(alloc);
-    if slots.reserve_exact(fields.len()).is_err() {
-        return Err(Refusal::NoMemory);
-    }
-    for _ in fields {
-        if slots.push(None).is_err() {
-            return Err(Refusal::NoMemory);
-        }
-    }
-    Ok(slots)
 }
 
 // Reads the encodings of components at the front up to the end, and returns how many octets they have.

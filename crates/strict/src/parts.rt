@@ -13,6 +13,7 @@ ghost use Rattle.strict.specs.Refusal.{IsOfStrictReading};
 
 use crate::canonical::Canonical;
 use crate::components::read_sequence;
+use crate::filling::read_shortly;
 use crate::fronts::front_tag;
 use crate::head::{Inside, named, opened};
 use crate::items::{read_list, read_set_of};
@@ -23,9 +24,33 @@ use octets::{MAX_ENCODING, Tag};
 use std::alloc::Global;
 use types::{Alternative, Refusal, Ty, Value};
 
-// Reads the encoding at the front into the slot, and returns how many octets it has: at most `room`.
+// Reads the encoding at the front into the slot, and returns how many octets it has: at most `room`. Most are looked at
+// once.
 #[cycle(reading)]
+#[inline(always)]
 pub fn read_one(
+    alloc: Global,
+    rule: Canonical,
+    ty: &Ty,
+    room: usize,
+    octets: &[u8],
+    slot: &mut Option<Value>,
+) -> Result<usize, Refusal>
+    requires good { IsGoodType (ty_view ty.now) }
+    requires room { room ≤ MAX_ENCODING }
+    ensures value { IfOk result (λ used. IsRead (rule_of rule) (ty_view ty.now) room octets.now slot.new used) }
+    ensures refused { IfErr result (λ refusal. Bars refusal (HasPart (rule_of rule) (ty_view ty.now) room) octets.now) }
+    ensures numbers { IfErr result IsOfStrictReading }
+{
+    match read_shortly(alloc, ty, room, octets, slot) {
+        Some(used) => Ok(used),
+        None => read_any(alloc, rule, ty, room, octets, slot),
+    }
+}
+
+// Reads it whatever it is, and says why it is refused.
+#[cycle(reading)]
+fn read_any(
     alloc: Global,
     rule: Canonical,
     ty: &Ty,
@@ -60,7 +85,7 @@ pub fn read_one(
     }
 }
 
-// The same of a CHOICE of these alternatives: tags tell them apart.
+// Reads an encoding of one of the alternatives of a CHOICE into the slot: tags tell them apart.
 #[cycle(reading)]
 #[inline(never)]
 fn read_chosen(
@@ -93,7 +118,7 @@ fn read_chosen(
     Err(not_due(tag))
 }
 
-// The same of an explicit tag.
+// Reads an encoding under an explicit tag into the slot: inside is the value's own.
 #[cycle(reading)]
 #[inline(never)]
 fn read_explicit(

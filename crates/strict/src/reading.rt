@@ -21,9 +21,9 @@ use types::{Refusal, Value, WellTyped};
 /// Reads the one encoding at the front of `octets` under DER (X.690 clauses 10 and 11), and returns the value of
 /// `ty` and how many octets the encoding has. What stands behind it is not looked at.
 ///
-/// Refused at the first fault that stands in the octets: as BER refuses it, or with `NotCanonical` where BER takes it and
-/// DER does not. Refused with `Truncated` where the octets end inside the encoding, and with `NoMemory`. Takes memory for
-/// the value alone.
+/// Refused at the first fault that stands in the octets: as BER refuses it, or with `NotCanonical` where BER takes it
+/// and DER does not. Refused with `Truncated` where the octets end inside the encoding, and with `NoMemory`. Takes
+/// memory for the value alone.
 pub fn read_der(alloc: Global, ty: &WellTyped, octets: &[u8]) -> Result<(Value, usize), Refusal>
     ensures value { IfOk result (λ p. (p.1 ≤ length octets.now)
         × IsAccepted der (ty_view ty.now) (value_view p.0) (take p.1 octets.now)) }
@@ -57,7 +57,7 @@ pub fn read_cer(alloc: Global, ty: &WellTyped, octets: &[u8]) -> Result<(Value, 
     read_canonical(alloc, Canonical::Cer, ty, octets)
 }
 
-/// The same under the rule that is handed in.
+/// Reads the one encoding at the front of `octets` under the rule, as `read_der` does under DER.
 pub fn read_canonical(
     alloc: Global,
     rule: Canonical,

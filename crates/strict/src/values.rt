@@ -49,7 +49,7 @@ pub fn read_value(alloc: Global, ty: &Ty, contents: &[u8]) -> Result<Value, Refu
 }
 
 // The truth value: TRUE is FF (X.690 11.1).
-fn read_truth(contents: &[u8]) -> Result<Value, Refusal>
+pub fn read_truth(contents: &[u8]) -> Result<Value, Refusal>
     ensures value { IfOk result (λ value. IsBooleanOf (value_view value) contents.now) }
     ensures none { IsErr result → (v : Val) → ¬ IsBooleanOf v contents.now }
     ensures numbers { IfErr result IsOfSpelling }

@@ -1,7 +1,7 @@
-use Rattle.std.proofs.Common.{rules, ◌≡◌, ◌+◌, ◌-◌, ◌≤◌, ◌<◌, ◌⊎◌, inl, ◌++◌, ◌∷◌, ℕ, List, [], Option, Some, None, Contains, Err, length, map, take, drop, MatchOption, true, false, sym, ap, ◌∙◌, subst, subst₂, arith, refl, append-nil}
+use Rattle.std.proofs.Common.{rules, ◌≡◌, ◌+◌, ◌-◌, ◌≤◌, ◌<◌, ◌⊎◌, inl, ◌++◌, ◌∷◌, ℕ, List, [], Option, Some, None, Contains, Err, length, map, take, drop, set, MatchOption, true, false, sym, ap, ◌∙◌, subst, subst₂, arith, refl}
 use Rattle.std.specs.Ordering.{nat_cmp, is_lt}
 use Rattle.std.specs.Cmp.Lexicographic.{slice_cmp}
-use Rattle.std.proofs.lemmas.List.{take_rest, length-drop, length-map, drop-drop, drop-map, drop_all, take_all}
+use Rattle.std.proofs.lemmas.List.{take_rest, take_more_set, length-set, length-drop, length-map, drop-map, drop_all}
 use Rattle.octets.specs.declared.TheConstants.{MAX_ENCODING}
 use Rattle.octets.specs.declared.tag.Tag.{Tag}
 use Rattle.octets.proofs.ResultLemmas.{IfErr-from}
@@ -29,13 +29,13 @@ use Rattle.strict.proofs.FieldLemmas.{field_type, field_requirement, run_at, fir
 use Rattle.strict.proofs.FrontLemmas.{IsStandingKnown, front_known}
 use Rattle.strict.proofs.PresentLemmas.{part_of_present, none_spelt_out}
 use Rattle.strict.proofs.ComponentLemmas.{ends_or_begins, none_stands}
-use Rattle.strict.proofs.SequenceLemmas.{absent_read, stands_read, present_stands, none_read, component_more, good_components, components_inside, ends_behind, sequence_read}
+use Rattle.strict.proofs.SequenceLemmas.{absent_read, stands_read, present_stands, none_read, component_more, good_components, components_inside, all_read, ends_behind_all, sequence_read}
 use Rattle.strict.proofs.ListLemmas.{item_or_end, item_stands, item_read, items_inside, list_read}
 use Rattle.strict.proofs.OrderedLemmas.{ordered_or_end, ordered_stands, none_ordered, ordered_read, none_out_of_order, set_of_read, ordered_inside}
 use Rattle.strict.proofs.ChosenLemmas as choices
 use Rattle.strict.proofs.ChosenLemmas.{tag_of_part, choice_of_part, not_this, this_one, none_left, distinct_from, good_at, chosen_read}
 use Rattle.strict.proofs.AloneLemmas.{alone_inside, ends_alone, explicit_read}
-use Rattle.strict.proofs.BegunLemmas.{begun_below}
+use Rattle.strict.proofs.BegunLemmas.{begun_below, empty_length}
 use Rattle.strict.proofs.DueLemmas.{members_begin, members_filled, none_goes_on, is_due, present_due, none_before, component_at, component_all}
 use Rattle.strict.proofs.SetLemmas.{come_length, no_members, member_more, set_read, members_inside, good_members}
 use Rattle.strict.proofs.+reading.Goals as goal
@@ -163,11 +163,8 @@ items::read_ordered-loop-item-smaller t c =
     let octets = c.args.octets.now in
     let rule = rule_of c.args.rule in
     let type = ty_view c.args.inner.now in
-    let d = c.args.inside.now.definite in
     let room = c.args.inside.now.room in
     let at = c.loop-item.at in
-    let before = c.loop-item.before in
-    let last = between octets before at in
     let inner = take (length octets - at) (drop at octets) in
     let all : inner ≡ drop at octets = take_rest octets at in
     let read = subst (λ x. IsRead rule type (room - at) x c.read_one.new.slot c.in_ok-used.used) all c.in_ok-used.ensures.value in
@@ -211,18 +208,11 @@ parts::read_chosen-loop-which-init t c = λ more h. choice_of_part (rule_of c.ar
 
 pub parts::read_chosen-read_one-requires : goal.parts::read_chosen-read_one-requires
 parts::read_chosen-read_one-requires t c =
-    let octets = c.args.octets.now in
-    let rule = rule_of c.args.rule in
     let xs = c.args.alternatives.now in
-    let room = c.args.room in
-    let shape = Shape.choice (alternatives_view xs) in
     let i = c.loop-which.which in
     let a = c.index-alternatives-which.result in
     let bound : i < length xs = c.loop-which-test.true in
     let is = c.index-alternatives-which.is in
-    let left = map alternative_view (drop (i + 1) xs) in
-    let here = choices.here_of xs i a bound is in
-    let read = c.in_ok-tag.ensures.value in
     let type : (alternative_view a).type ≡ ty_view a.ty = alternative_type a in
     let good = subst IsGoodType type (good_at xs i a bound is c.requires.good) in
     (search (rules, node.the_lemmas, alternative.the_lemmas, bound, is), (good, c.requires.room))
@@ -257,15 +247,10 @@ parts::read_chosen-returns-then-begins-clause-value t c =
     let rule = rule_of c.args.rule in
     let xs = c.args.alternatives.now in
     let room = c.args.room in
-    let shape = Shape.choice (alternatives_view xs) in
     let i = c.loop-which.which in
     let a = c.index-alternatives-which.result in
     let bound : i < length xs = c.loop-which-test.true in
     let is = c.index-alternatives-which.is in
-    let left = map alternative_view (drop (i + 1) xs) in
-    let here = choices.here_of xs i a bound is in
-    let read = c.in_ok-tag.ensures.value in
-    let type : (alternative_view a).type ≡ ty_view a.ty = alternative_type a in
     let v = c.in-Some.value in
     let one = subst (λ s. IsRead rule (ty_view a.ty) room octets s c.in_ok-used.used) c.in-Some.is c.in_ok-used.ensures.value in
     chosen_read rule xs i a room octets v c.in-Ok.boxed c.in_ok-used.used bound is c.in-Ok.ensures.ok one
@@ -276,7 +261,6 @@ parts::read_chosen-loop-which-preserved t c = λ more h.
     let rule = rule_of c.args.rule in
     let xs = c.args.alternatives.now in
     let room = c.args.room in
-    let shape = Shape.choice (alternatives_view xs) in
     let i = c.loop-which.which in
     let a = c.index-alternatives-which.result in
     let bound : i < length xs = c.loop-which-test.true in
@@ -411,18 +395,18 @@ pub components::read_sequence-read_components-requires : goal.components::read_s
 components::read_sequence-read_components-requires t c =
     let fields = c.args.fields.now in
     let within : c.in_ok-inside.inside.room ≤ MAX_ENCODING = omega (arith, c.in_ok-inside.ensures.value.fits, c.requires.room) in
-    (search (rules, node.the_lemmas), (good_components c.args.tag fields c.requires.good, (c.requires.good.tags.0.1, (within, c.reserve_exact.ensures.items ∙ c.new-slots.ensures.items))))
+    (search (rules, node.the_lemmas), (good_components c.args.tag fields c.requires.good, (c.requires.good.tags.0.1, (within, empty_length fields c.in-Ok.empty.items c.in-Ok.ensures))))
 
-pub components::read_sequence-returns-in-Ok-clause-value : goal.components::read_sequence-returns-in-Ok-clause-value
-components::read_sequence-returns-in-Ok-clause-value t c =
+pub components::read_sequence-returns-in-Ok-read_components-clause-value : goal.components::read_sequence-returns-in-Ok-read_components-clause-value
+components::read_sequence-returns-in-Ok-read_components-clause-value t c =
     let octets = c.args.octets.now in
     let rule = rule_of c.args.rule in
     let components = map field_view c.args.fields.now in
     let inside = c.in_ok-inside.inside in
-    let used = c.in-Ok.used in
+    let used = c.in-Ok-read_components.used in
     let slots = c.read_components.new.slots in
     let all : take (length octets - inside.start) (drop inside.start octets) ≡ drop inside.start octets = take_rest octets inside.start in
-    let read = subst (λ x. AreComponentsRead rule components [] inside.definite inside.room x slots.items used × EndsHere inside.definite (inside.room - used) (drop used x)) all c.in-Ok.ensures.value in
+    let read = subst (λ x. AreComponentsRead rule components [] inside.definite inside.room x slots.items used × EndsHere inside.definite (inside.room - used) (drop used x)) all c.in-Ok-read_components.ensures.value in
     sequence_read rule c.args.tag c.args.fields.now c.args.room octets inside slots used c.close.result c.in_ok-inside.ensures.value read.0 read.1 c.close.ensures
 
 pub components::read_sequence-returns-in-Err-clause-refused : goal.components::read_sequence-returns-in-Err-clause-refused
@@ -440,48 +424,24 @@ components::read_sequence-returns-in-Err-clause-refused t c =
     (bars_by _ Q P octets inner (λ more h. subst (λ x. P (x ++ more)) (sym all) (components_inside rule c.args.tag components c.args.room octets more inside c.in_ok-inside.ensures.value h))
     c.in-Err.ensures.refused)
 
-pub components::read_components-returns-in_err-front-clause-refused : goal.components::read_components-returns-in_err-front-clause-refused
-components::read_components-returns-in_err-front-clause-refused t c =
-    let octets = c.args.octets.now in
-    let rule = c.args.rule in
-    let fields = c.args.fields.now in
-    let d = c.args.inside.now.definite in
-    let room = c.args.inside.now.room in
-    let Q = HasComponents (rule_of rule) (map field_view fields) d room in
-    bars_through c.from_residual.result _ Q octets c.from_residual.ensures.1
-    (bars_by _ Q (EndsOrBegins d room) octets octets (λ more h. ends_or_begins rule (map field_view fields) d room (octets ++ more) c.requires.good h) c.in_err-front.ensures.refused)
-
 pub components::read_components-loop-place-init : goal.components::read_components-loop-place-init
 components::read_components-loop-place-init t c =
-    let octets = c.args.octets.now in
-    let rule = c.args.rule in
-    let fields = c.args.fields.now in
-    let d = c.args.inside.now.definite in
-    let room = c.args.inside.now.room in
-    (none_read (rule_of rule) (map field_view fields) d room octets c.args.slots.now.items c.requires.none, subst (λ n. IsFront c.in_ok-front.front d n octets) (omega arith) c.in_ok-front.ensures.value)
+    (none_read (rule_of c.args.rule) (map field_view c.args.fields.now) c.args.inside.now.definite c.args.inside.now.room c.args.octets.now [] refl, c.requires.slots)
 
 pub components::read_components-read_component-requires : goal.components::read_components-read_component-requires
 components::read_components-read_component-requires t c =
-    let octets = c.args.octets.now in
-    let rule = c.args.rule in
     let fields = c.args.fields.now in
-    let d = c.args.inside.now.definite in
-    let room = c.args.inside.now.room in
     let i = c.loop-place.place in
     let f = c.index-fields-place.result in
     let bound : i < length fields = c.loop-place-test.true in
     let is = c.index-fields-place.is in
     let run = run_at fields i f bound is c.requires.good c.requires.runs in
-    let at = c.loop-place.at in
-    let inner = take (length octets - at) (drop at octets) in
-    let all : inner ≡ drop at octets = take_rest octets at in
-    let others = map field_view (drop (i + 1) fields) in
-    (search (rules, node.the_lemmas, field.the_lemmas, bound, is), (run.good, (omega (arith, c.requires.room), (subst (IsFront c.loop-place.front d (room - at)) (sym all) c.loop-place.invariant.1, refl))))
+    (search (rules, node.the_lemmas, field.the_lemmas, bound, is), (run.good, (omega (arith, c.requires.room), bound)))
 
 pub components::read_components-returns-in_err-at-clause-refused : goal.components::read_components-returns-in_err-at-clause-refused
 components::read_components-returns-in_err-at-clause-refused t c =
     let octets = c.args.octets.now in
-    let rule = c.args.rule in
+    let rule = rule_of c.args.rule in
     let fields = c.args.fields.now in
     let d = c.args.inside.now.definite in
     let room = c.args.inside.now.room in
@@ -494,37 +454,26 @@ components::read_components-returns-in_err-at-clause-refused t c =
     let inner = take (length octets - at) (drop at octets) in
     let all : inner ≡ drop at octets = take_rest octets at in
     let others = map field_view (drop (i + 1) fields) in
-    let so_far = subst (λ l. AreComponentsRead (rule_of rule) (map field_view (take i fields)) l d room octets c.loop-place.slots.items at) run.here c.loop-place.invariant.0 in
-    let Q = HasComponents (rule_of rule) (map field_view fields) d room in
-    let P = HasComponents (rule_of rule) (field_view f ∷ others) d (room - at) in
-    bars_through c.from_residual-in_err-at.result _ Q octets c.from_residual-in_err-at.ensures.1
-    (bars_by _ Q P octets inner (λ more h. subst (λ x. P (x ++ more)) (sym all) (so_far.forth more (subst (λ l. HasComponents (rule_of rule) l d room (octets ++ more)) (whole_of fields i f bound is) h)))
+    let so_far = subst (λ l. AreComponentsRead rule (map field_view (take i fields)) l d room octets (take i c.loop-place.slots.items) at) run.here c.loop-place.invariant.0 in
+    let Q = HasComponents rule (map field_view fields) d room in
+    let P = HasComponents rule (field_view f ∷ others) d (room - at) in
+    bars_through c.from_residual.result _ Q octets c.from_residual.ensures.1
+    (bars_by _ Q P octets inner (λ more h. subst (λ x. P (x ++ more)) (sym all) (so_far.forth more (subst (λ l. HasComponents rule l d room (octets ++ more)) (whole_of fields i f bound is) h)))
     (c.in_err-at.ensures.refused others run.runs run.goods))
 
 pub components::read_components-overflow_add-at : goal.components::read_components-overflow_add-at
 components::read_components-overflow_add-at t c =
-    let octets = c.args.octets.now in
-    let rule = c.args.rule in
     let fields = c.args.fields.now in
-    let d = c.args.inside.now.definite in
-    let room = c.args.inside.now.room in
-    let i = c.loop-place.place in
     let f = c.index-fields-place.result in
-    let bound : i < length fields = c.loop-place-test.true in
-    let is = c.index-fields-place.is in
-    let run = run_at fields i f bound is c.requires.good c.requires.runs in
-    let at = c.loop-place.at in
-    let inner = take (length octets - at) (drop at octets) in
-    let all : inner ≡ drop at octets = take_rest octets at in
-    let others = map field_view (drop (i + 1) fields) in
-    let so_far = subst (λ l. AreComponentsRead (rule_of rule) (map field_view (take i fields)) l d room octets c.loop-place.slots.items at) run.here c.loop-place.invariant.0 in
-    let one = c.in_ok-at.ensures.value.0 others run.runs run.goods in
-    omega (arith, one.within, c.requires.room, so_far.within)
+    let bound : c.loop-place.place < length fields = c.loop-place-test.true in
+    let run = run_at fields c.loop-place.place f bound c.index-fields-place.is c.requires.good c.requires.runs in
+    let one = c.in_ok-at.ensures.value (map field_view (drop (c.loop-place.place + 1) fields)) run.runs run.goods in
+    omega (arith, one.within, c.requires.room, c.loop-place.invariant.0.within)
 
 pub components::read_components-loop-place-preserved : goal.components::read_components-loop-place-preserved
 components::read_components-loop-place-preserved t c =
     let octets = c.args.octets.now in
-    let rule = c.args.rule in
+    let rule = rule_of c.args.rule in
     let fields = c.args.fields.now in
     let d = c.args.inside.now.definite in
     let room = c.args.inside.now.room in
@@ -534,128 +483,115 @@ components::read_components-loop-place-preserved t c =
     let is = c.index-fields-place.is in
     let run = run_at fields i f bound is c.requires.good c.requires.runs in
     let at = c.loop-place.at in
+    let all : take (length octets - at) (drop at octets) ≡ drop at octets = take_rest octets at in
+    let others = map field_view (drop (i + 1) fields) in
+    let slots = c.loop-place.slots.items in
+    let so_far = subst (λ l. AreComponentsRead rule (map field_view (take i fields)) l d room octets (take i slots) at) run.here c.loop-place.invariant.0 in
+    let used = c.in_ok-at.field-0 in
+    let slot = c.read_component.new.slot in
+    let one = subst (λ x. AreComponentsRead rule (field_view f ∷ []) others d (room - at) x (slot ∷ []) used) all (c.in_ok-at.ensures.value others run.runs run.goods) in
+    let more = component_more rule (map field_view (take i fields)) (field_view f) others d room octets (take i slots) slot at used so_far one in
+    let filled : take (i + 1) (set slots i slot) ≡ take i slots ++ (slot ∷ []) = take_more_set slots i slot (omega (arith, bound, c.loop-place.invariant.1)) in (
+      subst₂ (λ first l. AreComponentsRead rule first others d room octets l (at + used)) (sym (first_of fields i f bound is)) (sym filled) more,
+      length-set slots i slot ∙ c.loop-place.invariant.1,
+    )
+
+pub components::read_components-returns-in_err-tag-clause-refused : goal.components::read_components-returns-in_err-tag-clause-refused
+components::read_components-returns-in_err-tag-clause-refused t c =
+    let octets = c.args.octets.now in
+    let rule = rule_of c.args.rule in
+    let fields = c.args.fields.now in
+    let d = c.args.inside.now.definite in
+    let room = c.args.inside.now.room in
+    let at = c.loop-place.at in
     let inner = take (length octets - at) (drop at octets) in
     let all : inner ≡ drop at octets = take_rest octets at in
-    let others = map field_view (drop (i + 1) fields) in
-    let so_far = subst (λ l. AreComponentsRead (rule_of rule) (map field_view (take i fields)) l d room octets c.loop-place.slots.items at) run.here c.loop-place.invariant.0 in
-    let used = c.in_ok-at.field-0 in
-    let slots = c.loop-place.slots.items in
-    let slot = c.read_component.new.slot in
-    let one = subst (λ x. AreComponentsRead (rule_of rule) (field_view f ∷ []) others d (room - at) x (slot ∷ []) used) all (c.in_ok-at.ensures.value.0 others run.runs run.goods) in
-    let more = component_more (rule_of rule) (map field_view (take i fields)) (field_view f) others d room octets slots slot at used so_far one in
-    let pushed : c.push_reserved.new.self.items ≡ slots ++ (slot ∷ []) = c.push_reserved.ensures.items ∙ ap (λ l. l ++ (slot ∷ [])) c.reserve.ensures.items in
-    let front = subst (λ x. IsFront c.read_component.new.front d ((room - at) - used) (drop used x)) all c.in_ok-at.ensures.value.1 in
-    let left : (room - at) - used ≡ room - (at + used) = omega arith in (
-      subst₂ (λ first l. AreComponentsRead (rule_of rule) first others d room octets l (at + used)) (sym (first_of fields i f bound is)) (sym pushed) more,
-      subst₂ (λ n x. IsFront c.read_component.new.front d n x) left (drop-drop used at octets) front,
-    )
+    let read = all_read rule fields c.loop-place.place d room octets c.loop-place.slots.items at c.loop-place-test.false c.loop-place.invariant.1 c.loop-place.invariant.0 in
+    let Q = HasComponents rule (map field_view fields) d room in
+    let P = EndsOrBegins d (room - at) in
+    bars_through c.from_residual-in_err-tag.result _ Q octets c.from_residual-in_err-tag.ensures.1
+    (bars_by _ Q P octets inner (λ more h. inl (subst (λ x. EndsHere d (room - at) (x ++ more)) (sym all) (ends_behind_all rule (map field_view fields) d room octets more c.loop-place.slots.items at read h)))
+    c.in_err-tag.ensures.refused)
 
 pub components::read_components-returns-in-Some-clause-refused : goal.components::read_components-returns-in-Some-clause-refused
 components::read_components-returns-in-Some-clause-refused t c = λ more may h.
     let octets = c.args.octets.now in
-    let rule = c.args.rule in
+    let rule = rule_of c.args.rule in
     let fields = c.args.fields.now in
     let d = c.args.inside.now.definite in
     let room = c.args.inside.now.room in
-    let i = c.loop-place.place in
     let at = c.loop-place.at in
-    let past : length fields ≤ i = c.loop-place-test.false in
-    let none : drop i fields ≡ [] = drop_all i fields past in
-    let whole : take i fields ≡ fields = take_all i fields past in
-    let read = subst₂ (λ first others. AreComponentsRead (rule_of rule) (map field_view first) (map field_view others) d room octets c.loop-place.slots.items at) whole none c.loop-place.invariant.0 in
-    let left = read.forth more (subst (λ l. HasComponents (rule_of rule) l d room (octets ++ more)) (sym (append-nil (map field_view fields))) h) in
-    let front : IsFront (Some c.in-Some.tag) d (room - at) (drop at octets) = subst (λ f. IsFront f d (room - at) (drop at octets)) c.in-Some.is c.loop-place.invariant.1 in
-    front.1 more (ends_behind (rule_of rule) d (room - at) (drop at octets ++ more) left)
+    let inner = take (length octets - at) (drop at octets) in
+    let all : inner ≡ drop at octets = take_rest octets at in
+    let read = all_read rule fields c.loop-place.place d room octets c.loop-place.slots.items at c.loop-place-test.false c.loop-place.invariant.1 c.loop-place.invariant.0 in
+    let front : IsFront (Some c.in-Some.tag) d (room - at) (drop at octets) = subst₂ (λ f x. IsFront f d (room - at) x) c.in-Some.is all c.in_ok-tag.ensures.value in
+    front.1 more (ends_behind_all rule (map field_view fields) d room octets more c.loop-place.slots.items at read h)
 
-pub components::read_component-returns-then-may_be_absent-clause-value : goal.components::read_component-returns-then-may_be_absent-clause-value
-components::read_component-returns-then-may_be_absent-clause-value t c =
+pub components::read_components-returns-in-None-clause-value : goal.components::read_components-returns-in-None-clause-value
+components::read_components-returns-in-None-clause-value t c =
+    let octets = c.args.octets.now in
+    let d = c.args.inside.now.definite in
+    let room = c.args.inside.now.room in
+    let at = c.loop-place.at in
+    let inner = take (length octets - at) (drop at octets) in
+    let all : inner ≡ drop at octets = take_rest octets at in
+    let ends : EndsHere d (room - at) (drop at octets) = subst₂ (λ f x. IsFront f d (room - at) x) c.in-None.is all c.in_ok-tag.ensures.value in
+    (all_read (rule_of c.args.rule) c.args.fields.now c.loop-place.place d room octets c.loop-place.slots.items at c.loop-place-test.false c.loop-place.invariant.1 c.loop-place.invariant.0, ends)
+
+pub components::read_component-returns-in-Ok-clause-value : goal.components::read_component-returns-in-Ok-clause-value
+components::read_component-returns-in-Ok-clause-value t c = λ others runs goods.
+    stands_read c.args.rule (field_view c.args.field.now) others c.args.definite c.args.room c.args.octets.now c.read_present.new.slot c.in-Ok.used c.requires.good.type runs goods c.in-Ok.ensures.value
+
+pub components::read_component-returns-in_err-front-in-Err-clause-refused : goal.components::read_component-returns-in_err-front-in-Err-clause-refused
+components::read_component-returns-in_err-front-in-Err-clause-refused t c =
     let octets = c.args.octets.now in
     let rule = c.args.rule in
-    let f = c.args.field.now in
-    let view = field_view f in
-    let type = view.type in
+    let view = field_view c.args.field.now in
     let d = c.args.definite in
     let room = c.args.room in
-    let same : ty_view f.ty ≡ type = sym (field_type f) in
-    let found = front_known c.args.front.now c.is_next.result (ty_view f.ty) d room octets c.requires.front c.is_next.ensures in
-    let off : c.is_next.result ≡ false = search rules in
-    let known : IsStandingKnown false type d room octets = subst₂ (λ b t. IsStandingKnown b t d room octets) off same found in
-    let yes : c.may_be_absent.result ≡ true = search rules in
-    let may : MayBeAbsent view.requirement = subst MayBeAbsent (sym (field_requirement f)) (c.may_be_absent.ensures.0 yes) in
-    (λ others runs goods. absent_read rule view others d room octets c.args.slot.now c.requires.none may c.requires.good.type known, subst (λ n. IsFront c.args.front.now d n octets) (omega arith) c.requires.front)
-
-pub components::read_component-returns-then-not-is_next-clause-refused : goal.components::read_component-returns-then-not-is_next-clause-refused
-components::read_component-returns-then-not-is_next-clause-refused t c = λ others runs goods more may h.
-    let octets = c.args.octets.now in
-    let rule = c.args.rule in
-    let f = c.args.field.now in
-    let view = field_view f in
-    let type = view.type in
-    let d = c.args.definite in
-    let room = c.args.room in
-    let same : ty_view f.ty ≡ type = sym (field_type f) in
-    let found = front_known c.args.front.now c.is_next.result (ty_view f.ty) d room octets c.requires.front c.is_next.ensures in
-    let off : c.is_next.result ≡ false = search rules in
-    let known : IsStandingKnown false type d room octets = subst₂ (λ b t. IsStandingKnown b t d room octets) off same found in
-    let left = none_stands rule view others d room (octets ++ more) c.requires.good.type (known more) h in
-    let yes : c.may_be_absent.result ≡ true = c.may_be_absent.ensures.1 (subst MayBeAbsent (field_requirement f) left.may) in
-    search (rules, yes)
-
-pub components::read_component-returns-in_err-used-clause-refused : goal.components::read_component-returns-in_err-used-clause-refused
-components::read_component-returns-in_err-used-clause-refused t c =
-    let octets = c.args.octets.now in
-    let rule = c.args.rule in
-    let f = c.args.field.now in
-    let view = field_view f in
-    let type = view.type in
-    let d = c.args.definite in
-    let room = c.args.room in
-    let same : ty_view f.ty ≡ type = sym (field_type f) in
-    let found = front_known c.args.front.now c.is_next.result (ty_view f.ty) d room octets c.requires.front c.is_next.ensures in
-    let on : c.is_next.result ≡ true = search rules in
-    let known : IsStandingKnown true type d room octets = subst₂ (λ b t. IsStandingKnown b t d room octets) on same found in
     IfErr-from c.from_residual.result _ (BarsComponents (rule_of rule) view d room octets) c.from_residual.ensures.1 (λ r is others runs goods.
     let Q = HasComponents (rule_of rule) (view ∷ others) d room in
-    let P = HasPresent (rule_of rule) view room in
-    subst (λ x. Bars x Q octets) (sym is) (bars_by _ Q P octets octets (λ more h. present_stands rule view others d room octets more runs goods known h) c.in_err-used.ensures.refused))
+    subst (λ x. Bars x Q octets) (sym is) (bars_by _ Q (EndsOrBegins d room) octets octets (λ more h. ends_or_begins rule (view ∷ others) d room (octets ++ more) (c.requires.good, goods) h) c.in_err-front-in-Err.ensures.refused))
 
-pub components::read_component-returns-in_err-front-clause-refused : goal.components::read_component-returns-in_err-front-clause-refused
-components::read_component-returns-in_err-front-clause-refused t c =
+pub components::read_component-returns-then-is_next-clause-refused : goal.components::read_component-returns-then-is_next-clause-refused
+components::read_component-returns-then-is_next-clause-refused t c = λ others runs goods.
     let octets = c.args.octets.now in
     let rule = c.args.rule in
     let f = c.args.field.now in
     let view = field_view f in
-    let type = view.type in
     let d = c.args.definite in
     let room = c.args.room in
-    let same : ty_view f.ty ≡ type = sym (field_type f) in
-    let found = front_known c.args.front.now c.is_next.result (ty_view f.ty) d room octets c.requires.front c.is_next.ensures in
-    let used = c.in_ok-used.used in
-    let slot = c.read_present.new.slot in
-    let inner = take (length octets - used) (drop used octets) in
-    let all : inner ≡ drop used octets = take_rest octets used in
-    IfErr-from c.from_residual-in_err-front.result _ (BarsComponents (rule_of rule) view d room octets) c.from_residual-in_err-front.ensures.1 (λ r is others runs goods.
+    let found = front_known c.in_ok-front-in-Err.front c.is_next.result (ty_view f.ty) d room octets c.in_ok-front-in-Err.ensures.value c.is_next.ensures in
+    let known : IsStandingKnown true view.type d room octets = subst₂ (λ b t. IsStandingKnown b t d room octets) c.if-is_next.true (sym (field_type f)) found in
     let Q = HasComponents (rule_of rule) (view ∷ others) d room in
-    let P = EndsOrBegins d (room - used) in
-    let read = stands_read rule view others d room octets slot used c.requires.good.type runs goods c.in_ok-used.ensures.value in
-    subst (λ x. Bars x Q octets) (sym is) (bars_by _ Q P octets inner (λ more h. subst (λ x. P (x ++ more)) (sym all) (ends_or_begins rule others d (room - used) (drop used octets ++ more) goods (read.forth more h))) c.in_err-front.ensures.refused))
+    let P = HasPresent (rule_of rule) view room in
+    bars_by _ Q P octets octets (λ more h. present_stands rule view others d room octets more runs goods known h) c.in-Err.ensures.refused
 
-pub components::read_component-returns-clause-value : goal.components::read_component-returns-clause-value
-components::read_component-returns-clause-value t c =
+pub components::read_component-returns-then-not-may_be_absent-clause-refused : goal.components::read_component-returns-then-not-may_be_absent-clause-refused
+components::read_component-returns-then-not-may_be_absent-clause-refused t c = λ others runs goods more may h.
     let octets = c.args.octets.now in
-    let rule = c.args.rule in
     let f = c.args.field.now in
     let view = field_view f in
-    let type = view.type in
     let d = c.args.definite in
     let room = c.args.room in
-    let same : ty_view f.ty ≡ type = sym (field_type f) in
-    let found = front_known c.args.front.now c.is_next.result (ty_view f.ty) d room octets c.requires.front c.is_next.ensures in
-    let used = c.in_ok-used.used in
-    let slot = c.read_present.new.slot in
-    let inner = take (length octets - used) (drop used octets) in
-    let all : inner ≡ drop used octets = take_rest octets used in
-    (λ others runs goods. stands_read rule view others d room octets slot used c.requires.good.type runs goods c.in_ok-used.ensures.value, subst (IsFront c.in_ok-front.field-0 d (room - used)) all c.in_ok-front.ensures.value)
+    let found = front_known c.in_ok-front-in-Err.front c.is_next.result (ty_view f.ty) d room octets c.in_ok-front-in-Err.ensures.value c.is_next.ensures in
+    let known : IsStandingKnown false view.type d room octets = subst₂ (λ b t. IsStandingKnown b t d room octets) c.if-is_next.false (sym (field_type f)) found in
+    let left = none_stands c.args.rule view others d room (octets ++ more) c.requires.good.type (known more) h in
+    let yes : c.may_be_absent.result ≡ true = c.may_be_absent.ensures.1 (subst MayBeAbsent (field_requirement f) left.may) in
+    let no : c.may_be_absent.result ≡ false = c.if-not-may_be_absent.true in
+    absurd cc
+
+pub components::read_component-returns-else-not-may_be_absent-clause-value : goal.components::read_component-returns-else-not-may_be_absent-clause-value
+components::read_component-returns-else-not-may_be_absent-clause-value t c = λ others runs goods.
+    let octets = c.args.octets.now in
+    let f = c.args.field.now in
+    let view = field_view f in
+    let d = c.args.definite in
+    let room = c.args.room in
+    let found = front_known c.in_ok-front-in-Err.front c.is_next.result (ty_view f.ty) d room octets c.in_ok-front-in-Err.ensures.value c.is_next.ensures in
+    let known : IsStandingKnown false view.type d room octets = subst₂ (λ b t. IsStandingKnown b t d room octets) c.if-is_next.false (sym (field_type f)) found in
+    let may : MayBeAbsent view.requirement = subst MayBeAbsent (sym (field_requirement f)) (c.may_be_absent.ensures.0 c.if-not-may_be_absent.false) in
+    absent_read c.args.rule view others d room octets c.clear.new.slot c.clear.ensures may c.requires.good.type known
 
 pub components::read_present-returns-in_err-used-clause-refused : goal.components::read_present-returns-in_err-used-clause-refused
 components::read_present-returns-in_err-used-clause-refused t c =
@@ -709,18 +645,11 @@ members::read_members-returns-in_err-tag-clause-refused t c =
 
 pub members::read_members-place_due-requires-clause-slots : goal.members::read_members-place_due-requires-clause-slots
 members::read_members-place_due-requires-clause-slots t c =
-    let octets = c.args.octets.now in
     let rule = rule_of c.args.rule in
     let fields = c.args.fields.now in
     let cs = map field_view fields in
-    let d = c.args.inside.now.definite in
-    let room = c.args.inside.now.room in
-    let at = c.loop-tag.at in
     let slots = c.loop-tag.slots.items in
-    let last = c.loop-tag.last in
     let read = c.loop-tag.invariant in
-    let inner = take (length octets - at) (drop at octets) in
-    let all : inner ≡ drop at octets = take_rest octets at in
     ap length c.deref.ensures.value ∙ (come_length rule cs slots read.encodings read.each ∙ length-map fields field_view)
 
 pub members::read_members-returns-in_err-place-clause-refused : goal.members::read_members-returns-in_err-place-clause-refused
@@ -746,71 +675,32 @@ members::read_members-returns-in_err-place-clause-refused t c =
 
 pub members::read_members-offset_bounds-fields-place : goal.members::read_members-offset_bounds-fields-place
 members::read_members-offset_bounds-fields-place t c =
-    let octets = c.args.octets.now in
-    let rule = rule_of c.args.rule in
     let fields = c.args.fields.now in
     let cs = map field_view fields in
-    let d = c.args.inside.now.definite in
-    let room = c.args.inside.now.room in
-    let at = c.loop-tag.at in
-    let slots = c.loop-tag.slots.items in
-    let last = c.loop-tag.last in
-    let read = c.loop-tag.invariant in
-    let inner = take (length octets - at) (drop at octets) in
-    let all : inner ≡ drop at octets = take_rest octets at in
     let tag = c.in-Some.tag in
-    let front : IsFront (Some tag) d (room - at) (drop at octets) = subst₂ (λ f x. IsFront f d (room - at) x) c.in-Some.is all c.in_ok-tag.ensures.value in
     let place = c.in_ok-place.place in
     let begun : IsBegunAt cs place tag = c.in_ok-place.ensures.value.0 in
-    let empty : IsEmptyAt slots place = subst (λ (l : List (Option Value)). IsEmptyAt l place) c.deref.ensures.value c.in_ok-place.ensures.value.1 in
     let below : place < length fields = omega (arith, begun_below cs place tag begun, length-map fields field_view) in
-    let many : length slots ≡ length fields = come_length rule cs slots read.encodings read.each ∙ length-map fields field_view in
     search (rules, below)
 
 pub members::read_members-bounds-fields-place : goal.members::read_members-bounds-fields-place
 members::read_members-bounds-fields-place t c =
-    let octets = c.args.octets.now in
-    let rule = rule_of c.args.rule in
     let fields = c.args.fields.now in
     let cs = map field_view fields in
-    let d = c.args.inside.now.definite in
-    let room = c.args.inside.now.room in
-    let at = c.loop-tag.at in
-    let slots = c.loop-tag.slots.items in
-    let last = c.loop-tag.last in
-    let read = c.loop-tag.invariant in
-    let inner = take (length octets - at) (drop at octets) in
-    let all : inner ≡ drop at octets = take_rest octets at in
     let tag = c.in-Some.tag in
-    let front : IsFront (Some tag) d (room - at) (drop at octets) = subst₂ (λ f x. IsFront f d (room - at) x) c.in-Some.is all c.in_ok-tag.ensures.value in
     let place = c.in_ok-place.place in
     let begun : IsBegunAt cs place tag = c.in_ok-place.ensures.value.0 in
-    let empty : IsEmptyAt slots place = subst (λ (l : List (Option Value)). IsEmptyAt l place) c.deref.ensures.value c.in_ok-place.ensures.value.1 in
     let below : place < length fields = omega (arith, begun_below cs place tag begun, length-map fields field_view) in
-    let many : length slots ≡ length fields = come_length rule cs slots read.encodings read.each ∙ length-map fields field_view in
     below
 
 pub members::read_members-order_tag-order-requires : goal.members::read_members-order_tag-order-requires
 members::read_members-order_tag-order-requires t c =
-    let octets = c.args.octets.now in
-    let rule = rule_of c.args.rule in
     let fields = c.args.fields.now in
     let cs = map field_view fields in
-    let d = c.args.inside.now.definite in
-    let room = c.args.inside.now.room in
-    let at = c.loop-tag.at in
-    let slots = c.loop-tag.slots.items in
-    let last = c.loop-tag.last in
-    let read = c.loop-tag.invariant in
-    let inner = take (length octets - at) (drop at octets) in
-    let all : inner ≡ drop at octets = take_rest octets at in
     let tag = c.in-Some.tag in
-    let front : IsFront (Some tag) d (room - at) (drop at octets) = subst₂ (λ f x. IsFront f d (room - at) x) c.in-Some.is all c.in_ok-tag.ensures.value in
     let place = c.in_ok-place.place in
     let begun : IsBegunAt cs place tag = c.in_ok-place.ensures.value.0 in
-    let empty : IsEmptyAt slots place = subst (λ (l : List (Option Value)). IsEmptyAt l place) c.deref.ensures.value c.in_ok-place.ensures.value.1 in
     let below : place < length fields = omega (arith, begun_below cs place tag begun, length-map fields field_view) in
-    let many : length slots ≡ length fields = come_length rule cs slots read.encodings read.each ∙ length-map fields field_view in
     let f = c.index-fields-place.result in
     let view = field_view f in
     let is = c.index-fields-place.is in
@@ -836,14 +726,11 @@ members::read_members-returns-then-not-comes_behind-clause-refused t c = λ more
     let front : IsFront (Some tag) d (room - at) (drop at octets) = subst₂ (λ f x. IsFront f d (room - at) x) c.in-Some.is all c.in_ok-tag.ensures.value in
     let place = c.in_ok-place.place in
     let begun : IsBegunAt cs place tag = c.in_ok-place.ensures.value.0 in
-    let empty : IsEmptyAt slots place = subst (λ (l : List (Option Value)). IsEmptyAt l place) c.deref.ensures.value c.in_ok-place.ensures.value.1 in
     let below : place < length fields = omega (arith, begun_below cs place tag begun, length-map fields field_view) in
-    let many : length slots ≡ length fields = come_length rule cs slots read.encodings read.each ∙ length-map fields field_view in
     let f = c.index-fields-place.result in
     let view = field_view f in
     let is = c.index-fields-place.is in
     let here = component_at fields place f below is in
-    let good = component_all IsGoodComponent cs place view here c.requires.good in
     let order = c.order_tag-order.result in
     let ordered : IsOrderTagOf rule view.type tag order = subst (λ t. IsOrderTagOf rule t tag order) (sym (field_type f)) c.order_tag-order.ensures in
     let due = λ (more : List ℕ) (k : HasMembers rule cs slots last d (room - at) (drop at octets ++ more)). is_due rule cs slots last place view order d (room - at) (drop at octets) more tag c.requires.distinct front begun here ordered k in
@@ -852,48 +739,26 @@ members::read_members-returns-then-not-comes_behind-clause-refused t c = λ more
 
 pub members::read_members-index_mut-requires : goal.members::read_members-index_mut-requires
 members::read_members-index_mut-requires t c =
-    let octets = c.args.octets.now in
     let rule = rule_of c.args.rule in
     let fields = c.args.fields.now in
     let cs = map field_view fields in
-    let d = c.args.inside.now.definite in
-    let room = c.args.inside.now.room in
-    let at = c.loop-tag.at in
     let slots = c.loop-tag.slots.items in
-    let last = c.loop-tag.last in
     let read = c.loop-tag.invariant in
-    let inner = take (length octets - at) (drop at octets) in
-    let all : inner ≡ drop at octets = take_rest octets at in
     let tag = c.in-Some.tag in
-    let front : IsFront (Some tag) d (room - at) (drop at octets) = subst₂ (λ f x. IsFront f d (room - at) x) c.in-Some.is all c.in_ok-tag.ensures.value in
     let place = c.in_ok-place.place in
     let begun : IsBegunAt cs place tag = c.in_ok-place.ensures.value.0 in
-    let empty : IsEmptyAt slots place = subst (λ (l : List (Option Value)). IsEmptyAt l place) c.deref.ensures.value c.in_ok-place.ensures.value.1 in
     let below : place < length fields = omega (arith, begun_below cs place tag begun, length-map fields field_view) in
     let many : length slots ≡ length fields = come_length rule cs slots read.encodings read.each ∙ length-map fields field_view in
     omega (arith, below, many)
 
 pub members::read_members-read_present-requires : goal.members::read_members-read_present-requires
 members::read_members-read_present-requires t c =
-    let octets = c.args.octets.now in
-    let rule = rule_of c.args.rule in
     let fields = c.args.fields.now in
     let cs = map field_view fields in
-    let d = c.args.inside.now.definite in
-    let room = c.args.inside.now.room in
-    let at = c.loop-tag.at in
-    let slots = c.loop-tag.slots.items in
-    let last = c.loop-tag.last in
-    let read = c.loop-tag.invariant in
-    let inner = take (length octets - at) (drop at octets) in
-    let all : inner ≡ drop at octets = take_rest octets at in
     let tag = c.in-Some.tag in
-    let front : IsFront (Some tag) d (room - at) (drop at octets) = subst₂ (λ f x. IsFront f d (room - at) x) c.in-Some.is all c.in_ok-tag.ensures.value in
     let place = c.in_ok-place.place in
     let begun : IsBegunAt cs place tag = c.in_ok-place.ensures.value.0 in
-    let empty : IsEmptyAt slots place = subst (λ (l : List (Option Value)). IsEmptyAt l place) c.deref.ensures.value c.in_ok-place.ensures.value.1 in
     let below : place < length fields = omega (arith, begun_below cs place tag begun, length-map fields field_view) in
-    let many : length slots ≡ length fields = come_length rule cs slots read.encodings read.each ∙ length-map fields field_view in
     let f = c.index-fields-place.result in
     let view = field_view f in
     let is = c.index-fields-place.is in
@@ -919,14 +784,11 @@ members::read_members-returns-in_err-at-clause-refused t c =
     let front : IsFront (Some tag) d (room - at) (drop at octets) = subst₂ (λ f x. IsFront f d (room - at) x) c.in-Some.is all c.in_ok-tag.ensures.value in
     let place = c.in_ok-place.place in
     let begun : IsBegunAt cs place tag = c.in_ok-place.ensures.value.0 in
-    let empty : IsEmptyAt slots place = subst (λ (l : List (Option Value)). IsEmptyAt l place) c.deref.ensures.value c.in_ok-place.ensures.value.1 in
     let below : place < length fields = omega (arith, begun_below cs place tag begun, length-map fields field_view) in
-    let many : length slots ≡ length fields = come_length rule cs slots read.encodings read.each ∙ length-map fields field_view in
     let f = c.index-fields-place.result in
     let view = field_view f in
     let is = c.index-fields-place.is in
     let here = component_at fields place f below is in
-    let good = component_all IsGoodComponent cs place view here c.requires.good in
     let order = c.order_tag-order.result in
     let ordered : IsOrderTagOf rule view.type tag order = subst (λ t. IsOrderTagOf rule t tag order) (sym (field_type f)) c.order_tag-order.ensures in
     let due = λ (more : List ℕ) (k : HasMembers rule cs slots last d (room - at) (drop at octets ++ more)). is_due rule cs slots last place view order d (room - at) (drop at octets) more tag c.requires.distinct front begun here ordered k in
@@ -938,25 +800,12 @@ members::read_members-returns-in_err-at-clause-refused t c =
 
 pub members::read_members-overflow_add-behind : goal.members::read_members-overflow_add-behind
 members::read_members-overflow_add-behind t c =
-    let octets = c.args.octets.now in
-    let rule = rule_of c.args.rule in
     let fields = c.args.fields.now in
     let cs = map field_view fields in
-    let d = c.args.inside.now.definite in
-    let room = c.args.inside.now.room in
-    let at = c.loop-tag.at in
-    let slots = c.loop-tag.slots.items in
-    let last = c.loop-tag.last in
-    let read = c.loop-tag.invariant in
-    let inner = take (length octets - at) (drop at octets) in
-    let all : inner ≡ drop at octets = take_rest octets at in
     let tag = c.in-Some.tag in
-    let front : IsFront (Some tag) d (room - at) (drop at octets) = subst₂ (λ f x. IsFront f d (room - at) x) c.in-Some.is all c.in_ok-tag.ensures.value in
     let place = c.in_ok-place.place in
     let begun : IsBegunAt cs place tag = c.in_ok-place.ensures.value.0 in
-    let empty : IsEmptyAt slots place = subst (λ (l : List (Option Value)). IsEmptyAt l place) c.deref.ensures.value c.in_ok-place.ensures.value.1 in
     let below : place < length fields = omega (arith, begun_below cs place tag begun, length-map fields field_view) in
-    let many : length slots ≡ length fields = come_length rule cs slots read.encodings read.each ∙ length-map fields field_view in
     search (rules, below)
 
 pub members::read_members-loop-tag-smaller : goal.members::read_members-loop-tag-smaller
@@ -965,21 +814,15 @@ members::read_members-loop-tag-smaller t c =
     let rule = rule_of c.args.rule in
     let fields = c.args.fields.now in
     let cs = map field_view fields in
-    let d = c.args.inside.now.definite in
     let room = c.args.inside.now.room in
     let at = c.loop-tag.at in
-    let slots = c.loop-tag.slots.items in
-    let last = c.loop-tag.last in
     let read = c.loop-tag.invariant in
     let inner = take (length octets - at) (drop at octets) in
     let all : inner ≡ drop at octets = take_rest octets at in
     let tag = c.in-Some.tag in
-    let front : IsFront (Some tag) d (room - at) (drop at octets) = subst₂ (λ f x. IsFront f d (room - at) x) c.in-Some.is all c.in_ok-tag.ensures.value in
     let place = c.in_ok-place.place in
     let begun : IsBegunAt cs place tag = c.in_ok-place.ensures.value.0 in
-    let empty : IsEmptyAt slots place = subst (λ (l : List (Option Value)). IsEmptyAt l place) c.deref.ensures.value c.in_ok-place.ensures.value.1 in
     let below : place < length fields = omega (arith, begun_below cs place tag begun, length-map fields field_view) in
-    let many : length slots ≡ length fields = come_length rule cs slots read.encodings read.each ∙ length-map fields field_view in
     let f = c.index-fields-place.result in
     let view = field_view f in
     let is = c.index-fields-place.is in
@@ -1010,7 +853,6 @@ members::read_members-loop-tag-preserved t c =
     let begun : IsBegunAt cs place tag = c.in_ok-place.ensures.value.0 in
     let empty : IsEmptyAt slots place = subst (λ (l : List (Option Value)). IsEmptyAt l place) c.deref.ensures.value c.in_ok-place.ensures.value.1 in
     let below : place < length fields = omega (arith, begun_below cs place tag begun, length-map fields field_view) in
-    let many : length slots ≡ length fields = come_length rule cs slots read.encodings read.each ∙ length-map fields field_view in
     let f = c.index-fields-place.result in
     let view = field_view f in
     let is = c.index-fields-place.is in
@@ -1018,7 +860,6 @@ members::read_members-loop-tag-preserved t c =
     let good = component_all IsGoodComponent cs place view here c.requires.good in
     let order = c.order_tag-order.result in
     let ordered : IsOrderTagOf rule view.type tag order = subst (λ t. IsOrderTagOf rule t tag order) (sym (field_type f)) c.order_tag-order.ensures in
-    let due = λ (more : List ℕ) (k : HasMembers rule cs slots last d (room - at) (drop at octets ++ more)). is_due rule cs slots last place view order d (room - at) (drop at octets) more tag c.requires.distinct front begun here ordered k in
     let used = c.in_ok-at.field-0 in
     let on : c.comes_behind.result ≡ true = search rules in
     let one = subst (λ x. IsPresentRead rule view (room - at) x c.read_present.new.slot used) all c.in_ok-at.ensures.value in
@@ -1026,18 +867,11 @@ members::read_members-loop-tag-preserved t c =
 
 pub members::read_members-are_filled-requires : goal.members::read_members-are_filled-requires
 members::read_members-are_filled-requires t c =
-    let octets = c.args.octets.now in
     let rule = rule_of c.args.rule in
     let fields = c.args.fields.now in
     let cs = map field_view fields in
-    let d = c.args.inside.now.definite in
-    let room = c.args.inside.now.room in
-    let at = c.loop-tag.at in
     let slots = c.loop-tag.slots.items in
-    let last = c.loop-tag.last in
     let read = c.loop-tag.invariant in
-    let inner = take (length octets - at) (drop at octets) in
-    let all : inner ≡ drop at octets = take_rest octets at in
     ap length c.deref-2.ensures.value ∙ (come_length rule cs slots read.encodings read.each ∙ length-map fields field_view)
 
 pub members::read_members-returns-then-not-are_filled-clause-refused : goal.members::read_members-returns-then-not-are_filled-clause-refused

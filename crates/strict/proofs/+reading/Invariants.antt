@@ -1,17 +1,17 @@
-use Rattle.std.proofs.Common.{length, map, take, drop, ◌-◌, ℕ, List, ◌++◌}
+use Rattle.std.proofs.Common.{◌≡◌, length, map, take, drop, ◌-◌, ℕ, List, ◌++◌}
 use Rattle.types.specs.View.{ty_view, field_view, alternative_view, alternatives_view}
 use Rattle.types.specs.Shape.{Shape}
 use Rattle.strict.specs.Canonical.{rule_of}
 use Rattle.strict.specs.Reading.{HasPart, HasChoice}
 use Rattle.strict.specs.Items.{AreOrderedRead, AreItemsRead}
-use Rattle.strict.specs.Components.{AreComponentsRead, IsFront}
+use Rattle.strict.specs.Components.{AreComponentsRead}
 use Rattle.strict.specs.Members.{AreMembersRead}
 use Rattle.strict.proofs.+reading.Given as goal
 
 abbrev pub invariant-components::read_components-loop-place : goal.invariant-components::read_components-loop-place
 invariant-components::read_components-loop-place l =
-    AreComponentsRead (rule_of l.rule) (map field_view (take l.place l.fields)) (map field_view (drop l.place l.fields)) l.inside.definite l.inside.room l.octets l.slots.items l.at
-    × IsFront l.front l.inside.definite (l.inside.room - l.at) (drop l.at l.octets)
+    AreComponentsRead (rule_of l.rule) (map field_view (take l.place l.fields)) (map field_view (drop l.place l.fields)) l.inside.definite l.inside.room l.octets (take l.place l.slots.items) l.at
+    × (length l.slots.items ≡ length l.fields)
 
 abbrev pub invariant-items::read_items-loop-item : goal.invariant-items::read_items-loop-item
 invariant-items::read_items-loop-item l = AreItemsRead (rule_of l.rule) (ty_view l.inner) l.inside.definite l.inside.room l.octets l.items.items l.at

@@ -2,7 +2,7 @@ use Rattle.std.proofs.Common.{sym, subst, true}
 use Rattle.strict.specs.Canonical.{rule_of}
 use Rattle.strict.specs.Head.{IsOpened}
 use Rattle.strict.proofs.InsideLemmas.{opened_definite}
-use Rattle.strict.proofs.head.opened.Goals as goal
+use Rattle.strict.proofs.head.long_opened.Goals as goal
 
 pub returns-in-Ok-clause-value : goal.returns-in-Ok-clause-value
 returns-in-Ok-clause-value c =
