@@ -1,9 +1,11 @@
 //! Where a call over a stream stopped.
 
+use thiserror::Error;
 use types::Refusal;
 
 /// A call over a stream stopped within it.
-#[derive(Clone, Copy, Debug, PartialEq, Eq)]
+#[derive(Clone, Copy, Debug, PartialEq, Eq, Error)]
+#[error("refused {number} {name} after {done} values", number = .refusal.number(), name = .refusal.name())]
 pub struct Stopped {
     /// How many values were done before.
     pub done: u64,
