@@ -1,6 +1,6 @@
 -- What a reader over pieces led to, and what is gathered by it.
 use Rattle.std.proofs.Common.{◌≡◌, ◌≢◌, ℕ, ◌<◌, inl, inr, List, [], ◌∷◌, ◌++◌, length, take, drop, zero, suc, refl, sym, ap, ◌∙◌, append_assoc, arith, length-append, append-nil, subst, take-append-drop, Result, Ok, Err}
-use Rattle.std.specs.Prelude.{OnOk, IfErr}
+use Rattle.std.specs.Prelude.{⊤, is_ok, IsTrue, OnOk, IfErr}
 use Rattle.octets.specs.Front.{HasFront}
 use Rattle.octets.specs.Rule.{Rule}
 use Rattle.types.specs.declared.refusal.Refusal.{Refusal}
@@ -9,7 +9,7 @@ use Rattle.types.specs.Encoding.{Meaning, IsEncoding, IsAccepted, IsSomeAccepted
 use Rattle.types.specs.Refusal.{IsFinal, IsOfWriting}
 use Rattle.types.specs.Shape.{Shape, Val}
 use Rattle.types.proofs.ApartInstances.{of_no_octets}
-use Rattle.engine.specs.Feeding.{IsOfFeeding, IsUnfinished}
+use Rattle.engine.specs.Feeding.{IsFinished, IsOfFeeding, IsUnfinished}
 use Rattle.engine.specs.Passing.{Gathers, HasGathered, StopsGathering, StopsAnyway}
 use Rattle.engine.proofs.TranscodingLemmas.{cases_of_writing}
 use Rattle.engine.proofs.PassingLemmas.{memory_refused, nothing_to_write, refused_further}
@@ -33,6 +33,11 @@ not_nothing old piece some none = absurd (omega (arith, ap length none, length-a
 pub empty_is : (octets : List ℕ) → length octets ≡ 0 → octets ≡ []
 empty_is [] size = refl
 empty_is (octet ∷ octets) size = absurd (omega (arith, size))
+
+-- a reader that is finished was given nothing since the last value
+pub finished_none : (result : Result ⊤ Refusal) (old : List ℕ) → IsFinished result old → IsTrue (is_ok result) → old ≡ []
+finished_none (Ok _) old finished ok = finished
+finished_none (Err refusal) old finished ok = absurd (cc ok)
 
 -- a piece of which nothing is left
 pub gathered_all : (StandsAt : List ℕ → Type 0) (rule : Rule) (shape : Shape) (Stands : Meaning) (octets batch lengths now left : List ℕ) → length left ≡ 0

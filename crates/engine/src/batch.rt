@@ -1,10 +1,12 @@
 //! What stands for the values that a piece completes, gathered.
 
-ghost use Rattle.std.specs.Prelude.{◌≡◌, ◌≤◌, ℕ, List, [], ◌∷◌, ◌++◌, length, OnOk, OnErr, IfErr};
+ghost use Rattle.std.specs.Prelude.{◌≡◌, ◌≤◌, ℕ, List, [], ◌∷◌, ◌++◌, length, IsTrue, OnOk, OnErr, IfErr, IfSome};
 ghost use Rattle.types.specs.Conforms.{Conforms};
 ghost use Rattle.types.specs.Refusal.{IsOfWriting};
+ghost use Rattle.types.specs.Encoding.{IsAccepted};
 ghost use Rattle.types.specs.Shape.{Val};
 ghost use Rattle.types.specs.View.{value_view};
+ghost use Rattle.octets.specs.Front.{Appends};
 ghost use Rattle.engine.specs.Feeding.{IsUnfinished};
 ghost use Rattle.engine.specs.Passing.{IsAdded, HasGathered, StopsGathering};
 ghost use Rattle.engine.specs.Refusal.{IsOfGathering};
@@ -20,34 +22,45 @@ use types::{Refusal, Value};
 pub struct Batch {
     pub octets: Vec<u8>,
     pub lengths: Vec<usize>,
+    /// Whether the encoding that a value is read from stands for it.
+    pub copies: bool,
 }
 
 impl Batch {
     /// A batch of no values.
-    pub fn new(alloc: Global) -> Self
+    pub fn new(alloc: Global, copies: bool) -> Self
         ensures octets { result.octets.items ≡ [] }
         ensures lengths { result.lengths.items ≡ [] }
+        ensures copies { result.copies ≡ copies }
     {
         Batch {
             octets: Vec::new(alloc),
             lengths: Vec::new(alloc),
+            copies,
         }
     }
 
-    // Adds what stands for a value.
-    fn add<P: Put>(&mut self, writer: &P, value: &Value) -> Result<(), Refusal>
-        requires { Conforms (P.shape writer.now) (value_view value.now) }
+    // Adds what stands for a value: these octets, if there are any.
+    fn add<P: Put>(
+        &mut self,
+        writer: &P,
+        value: &Value,
+        encoding: Option<&[u8]>,
+    ) -> Result<(), Refusal>
+        requires conforms { Conforms (P.shape writer.now) (value_view value.now) }
+        requires stands { IfSome encoding (λ octets. P.stands writer.now (value_view value.now) octets.now) }
         ensures added { OnOk result (IsAdded (P.stands writer.now (value_view value.now))
             self.old.octets.items self.new.octets.items self.old.lengths.items self.new.lengths.items) }
         ensures octets { OnErr result (self.new.octets.items ≡ self.old.octets.items) }
         ensures lengths { OnErr result (self.new.lengths.items ≡ self.old.lengths.items) }
         ensures too_long { result ≡ Err Refusal.OutputTooLong →
             (octets : List ℕ) → ¬ P.stands writer.now (value_view value.now) octets }
+        ensures copies { self.new.copies ≡ self.old.copies }
         ensures long { result ≡ Err Refusal.OutputTooLong → P.can_be_too_long }
         ensures numbers { IfErr result IsOfWriting }
     {
         let before = self.octets.len();
-        match writer.put(value, &mut self.octets) {
+        match put(writer, value, encoding, &mut self.octets) {
             Ok(()) => {}
             Err(refusal) => return Err(refusal),
         }
@@ -63,18 +76,25 @@ impl Batch {
 
     // Adds what stands for a value, which ends here.
     #[inline(always)]
-    fn add_last<P: Put>(&mut self, writer: &P, value: Value) -> Result<(), Refusal>
-        requires { Conforms (P.shape writer.now) (value_view value) }
+    fn add_last<P: Put>(
+        &mut self,
+        writer: &P,
+        value: Value,
+        encoding: Option<&[u8]>,
+    ) -> Result<(), Refusal>
+        requires conforms { Conforms (P.shape writer.now) (value_view value) }
+        requires stands { IfSome encoding (λ octets. P.stands writer.now (value_view value) octets.now) }
         ensures added { OnOk result (IsAdded (P.stands writer.now (value_view value))
             self.old.octets.items self.new.octets.items self.old.lengths.items self.new.lengths.items) }
         ensures octets { OnErr result (self.new.octets.items ≡ self.old.octets.items) }
         ensures lengths { OnErr result (self.new.lengths.items ≡ self.old.lengths.items) }
         ensures too_long { result ≡ Err Refusal.OutputTooLong →
             (octets : List ℕ) → ¬ P.stands writer.now (value_view value) octets }
+        ensures copies { self.new.copies ≡ self.old.copies }
         ensures long { result ≡ Err Refusal.OutputTooLong → P.can_be_too_long }
         ensures numbers { IfErr result IsOfWriting }
     {
-        self.add(writer, &value)
+        self.add(writer, &value, encoding)
     }
 
     /// Gathers what stands for the values that a piece completes, in place of what was gathered.
@@ -84,7 +104,10 @@ impl Batch {
         writer: &P,
         piece: &[u8],
     ) -> Result<(), Refusal>
-        requires { (old : List ℕ) × IsUnfinished (F.stands_at (P.shape writer.now) reader.old) (F.rule reader.old) (P.shape writer.now) old }
+        requires stands { (old : List ℕ) × IsUnfinished (F.stands_at (P.shape writer.now) reader.old) (F.rule reader.old) (P.shape writer.now) old }
+        requires copied { IsTrue self.old.copies → (v : Val) (octets : List ℕ) →
+            IsAccepted (F.rule reader.old) (P.shape writer.now) v octets → P.stands writer.now v octets }
+        ensures copies { self.new.copies ≡ self.old.copies }
         ensures rule_stays { OnOk result (F.rule reader.new ≡ F.rule reader.old) }
         ensures gathered { OnOk result ((old : List ℕ) →
             IsUnfinished (F.stands_at (P.shape writer.now) reader.old) (F.rule reader.old) (P.shape writer.now) old →
@@ -103,18 +126,50 @@ impl Batch {
         self.lengths.clear();
         let mut rest = piece;
         while !rest.is_empty() {
+            let is_whole = reader.finish().is_ok();
             match reader.feed(rest) {
                 Ok(Step::More) => return Ok(()),
-                Ok(Step::Done { value, used }) => match self.add_last(writer, value) {
-                    Ok(()) => {
-                        let (_, behind) = rest.split_at(used);
-                        rest = behind;
+                Ok(Step::Done { value, used }) => {
+                    let (front, behind) = rest.split_at(used);
+                    let encoding = if self.copies && is_whole {
+                        Some(front)
+                    } else {
+                        None
+                    };
+                    match self.add_last(writer, value, encoding) {
+                        Ok(()) => rest = behind,
+                        Err(refusal) => return Err(refusal),
                     }
-                    Err(refusal) => return Err(refusal),
-                },
+                }
                 Err(refusal) => return Err(refusal),
             }
         }
         Ok(())
+    }
+}
+
+// Appends what stands for a value: these octets, if there are any.
+fn put<P: Put>(
+    writer: &P,
+    value: &Value,
+    encoding: Option<&[u8]>,
+    out: &mut Vec<u8>,
+) -> Result<(), Refusal>
+    requires conforms { Conforms (P.shape writer.now) (value_view value.now) }
+    requires stands { IfSome encoding (λ octets. P.stands writer.now (value_view value.now) octets.now) }
+    ensures appended { OnOk result
+        (Appends (P.stands writer.now (value_view value.now)) out.old.items out.new.items) }
+    ensures unchanged { OnErr result (out.new.items ≡ out.old.items) }
+    ensures too_long { result ≡ Err Refusal.OutputTooLong →
+        (octets : List ℕ) → ¬ P.stands writer.now (value_view value.now) octets }
+    ensures long { result ≡ Err Refusal.OutputTooLong → P.can_be_too_long }
+    ensures numbers { IfErr result IsOfWriting }
+{
+    let Some(octets) = encoding else {
+        return writer.put(value, out);
+    };
+    match out.extend_from_slice(octets) {
+        Ok(()) => Ok(()),
+        Err(_) => Err(Refusal::NoMemory),
     }
 }

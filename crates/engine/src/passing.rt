@@ -1,6 +1,8 @@
 //! A stream passed on piece by piece, from a source through a reader and a writer to a sink.
 
-ghost use Rattle.std.specs.Prelude.{◌≡◌, ◌≤◌, ◌+◌, ◌++◌, ℕ, List, [], length, OnOk, IfOk, IfErr, MatchResult};
+ghost use Rattle.std.specs.Prelude.{◌≡◌, ◌≤◌, ◌+◌, ◌++◌, ℕ, List, [], length, IsTrue, OnOk, IfOk, IfErr, MatchResult};
+ghost use Rattle.types.specs.Encoding.{IsAccepted};
+ghost use Rattle.types.specs.Shape.{Val};
 ghost use Rattle.engine.specs.Feeding.{IsUnfinished};
 ghost use Rattle.engine.specs.Given.{HasGiven};
 ghost use Rattle.engine.specs.Passing.{Writes, PassesOn, StopsPassing};
@@ -30,6 +32,9 @@ fn pass<F: Feed, P: Put, K: Sink>(
     requires stands { (old : List ℕ) × IsUnfinished (F.stands_at (P.shape writer.now) reader.old) (F.rule reader.old) (P.shape writer.now) old }
     requires sink { K.failures sink.old ≡ 0 }
     requires room { done + length piece.now ≤ most_streamed }
+    requires copied { IsTrue batch.old.copies → (v : Val) (octets : List ℕ) →
+        IsAccepted (F.rule reader.old) (P.shape writer.now) v octets → P.stands writer.now v octets }
+    ensures copies { batch.new.copies ≡ batch.old.copies }
     ensures rule_stays { OnOk result (F.rule reader.new ≡ F.rule reader.old) }
     ensures passed { IfOk result (λ now. (old : List ℕ) →
         IsUnfinished (F.stands_at (P.shape writer.now) reader.old) (F.rule reader.old) (P.shape writer.now) old →
@@ -77,6 +82,8 @@ pub fn pass_all<F: Feed, P: Put, S: Source, K: Sink>(
     requires fresh { F.stands_at (P.shape writer.now) reader.old [] }
     requires source { S.failures source.old ≡ 0 }
     requires sink { K.failures sink.old ≡ 0 }
+    requires copied { IsTrue batch.old.copies → (v : Val) (octets : List ℕ) →
+        IsAccepted (F.rule reader.old) (P.shape writer.now) v octets → P.stands writer.now v octets }
     ensures done { IfOk result (λ done. OfStream (S.left source.old) (K.taken sink.old) (K.taken sink.new)
         (λ stream written. Writes (F.rule reader.old) (P.shape writer.now) (P.stands writer.now) done stream [] written []
         × (length stream ≤ most_streamed))) }

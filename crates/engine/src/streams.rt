@@ -17,13 +17,15 @@ use crate::batch::Batch;
 use crate::lines::Lines;
 use crate::passing::pass_all;
 use crate::putting::{Encodings, Nothing};
+use crate::rule::is_same;
 use crate::{Canonical, Rule, Stopped};
 use devices::{Failed, Sink, Source};
 use std::alloc::Global;
 use types::{Refusal, WellTyped};
 
 /// Reads values of `ty` by the rule `from`, one after another up to the end of the source, writes the one
-/// encoding of each by the rule `to`, and returns how many there were.
+/// encoding of each by the rule `to`, and returns how many there were. Where the two rules are one, what was read is
+/// written.
 ///
 /// Where it stops before, what was written is the encodings of the values done, and after `SinkFault`
 /// perhaps a beginning of the next one. A failure of a device ends it with `SourceFault` or `SinkFault`.
@@ -52,7 +54,7 @@ pub fn convert<S: Source, K: Sink>(
 {
     let mut reader = AnyReader::new(alloc, from, ty);
     let writer = Encodings { alloc, ty, to };
-    let mut batch = Batch::new(alloc);
+    let mut batch = Batch::new(alloc, is_same(from, to));
     pass_all(&mut reader, &writer, &mut batch, source, sink)
 }
 
@@ -76,7 +78,7 @@ pub fn check<S: Source>(
 {
     let mut reader = AnyReader::new(alloc, from, ty);
     let writer = Nothing { ty };
-    let mut batch = Batch::new(alloc);
+    let mut batch = Batch::new(alloc, false);
     pass_all(&mut reader, &writer, &mut batch, source, &mut Nowhere)
 }
 
@@ -104,7 +106,7 @@ pub fn list<S: Source, K: Sink>(
     ensures numbers { IfErr result (λ stopped. IsOfListing (rule_of from) stopped.refusal) }
 {
     let mut reader = AnyReader::new(alloc, from, ty);
-    let mut batch = Batch::new(alloc);
+    let mut batch = Batch::new(alloc, false);
     pass_all(&mut reader, &Lines { alloc, ty }, &mut batch, source, sink)
 }
 

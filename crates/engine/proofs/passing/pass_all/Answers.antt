@@ -10,6 +10,7 @@ loop-piece-init g c =
     let rule = g.F.Feed.rule c.args.reader.now in
     let shape = g.P.Put.shape c.args.writer.now in
     record {
+      copies = refl;
       same_rule = refl;
       stands = starts _ rule shape (g.P.Put.stands c.args.writer.now) _ _ (record { stands = c.requires.fresh; none = none_begun rule shape });
       source = c.requires.source;
@@ -53,6 +54,7 @@ pub loop-piece-preserved : goal.loop-piece-preserved
 loop-piece-preserved g c =
     let gives = subst (Consumes (g.S.Source.left c.loop-piece.source) (g.S.Source.left c.read_from.new.source)) (sym c.octets-octets.ensures) c.in-Ok.ensures.given in
     record {
+      copies = c.in-Ok-pass.ensures.copies ∙ c.loop-piece.invariant.copies;
       same_rule = c.in-Ok-pass.ensures.rule_stays ∙ c.loop-piece.invariant.same_rule;
       stands = goes_on _ _ _ _ _ _ _ _ _ _ _ _ _ _ _ c.octets-octets.result.now c.loop-piece.invariant.stands gives refl (rw c.loop-piece.invariant.same_rule at c.in-Ok-pass.ensures.passed);
       source = c.in-Ok.ensures.count;
@@ -73,3 +75,7 @@ pass-requires-clause-stands g c =
 
 pub returns-in-Err-pass-clause-numbers : goal.returns-in-Err-pass-clause-numbers
 returns-in-Err-pass-clause-numbers g c = rw c.loop-piece.invariant.same_rule at c.in-Err-pass.ensures.numbers
+
+pub pass-requires-clause-copied : goal.pass-requires-clause-copied
+pass-requires-clause-copied g c = λ copies v octets accepted.
+    c.requires.copied (rw c.loop-piece.invariant.copies at copies) v octets (rw c.loop-piece.invariant.same_rule at accepted)

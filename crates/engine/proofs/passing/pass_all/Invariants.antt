@@ -6,6 +6,7 @@ use Rattle.engine.proofs.passing.pass_all.Given as goal
 
 abbrev pub invariant-loop-piece : goal.invariant-loop-piece
 invariant-loop-piece g l = record {
+  copies : l.batch.copies ≡ l.initial.batch.copies;
   same_rule : g.F.Feed.rule l.reader ≡ g.F.Feed.rule l.initial.reader;
   stands : StandsAfter (IsUnfinished (g.F.Feed.stands_at (g.P.Put.shape l.writer) l.reader) (g.F.Feed.rule l.initial.reader) (g.P.Put.shape l.writer)) (g.F.Feed.rule l.initial.reader) (g.P.Put.shape l.writer) (g.P.Put.stands l.writer)
       l.done l.total (g.S.Source.left l.initial.source) (g.S.Source.left l.source) (g.K.Sink.taken l.initial.sink) (g.K.Sink.taken l.sink);

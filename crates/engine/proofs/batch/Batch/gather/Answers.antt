@@ -1,25 +1,43 @@
-use Rattle.std.proofs.Common.{rules, ◌≡◌, ◌++◌, [], length, take, drop, refl, ap, ◌∙◌, Err, arith, length-drop}
+use Rattle.std.proofs.Common.{rules, ◌≡◌, ◌++◌, [], length, take, drop, refl, sym, subst, ap, ◌∙◌, Err, arith, length-drop}
 use Rattle.std.proofs.lemmas.List.{length_push}
 use Rattle.types.specs.View.{value_view}
 use Rattle.types.proofs.EncodedLemmas.{encoded_conforms}
 use Rattle.engine.proofs.PassingLemmas.{gathers_none, gathers_more}
-use Rattle.engine.proofs.FeedingLemmas.{none_begun, cut_piece, gathered_all, feed_refused, add_refused}
+use Rattle.types.specs.Encoding.{IsAccepted}
+use Rattle.engine.proofs.FeedingLemmas.{none_begun, cut_piece, finished_none, gathered_all, feed_refused, add_refused}
 use Rattle.engine.proofs.batch.Batch.gather.Goals as goal
+use Rattle.engine.proofs.batch.Batch.gather.Goals.{then-self+then-is_whole, else-self}
 
 pub loop-rest-init : goal.loop-rest-init
 loop-rest-init g c = record {
+  copies = refl;
   same_rule = refl;
   gathers = λ old unfinished. (old, unfinished, gathers_none (g.F.Feed.rule c.args.reader.now) (g.P.Put.shape c.args.writer.now) (g.P.Put.stands c.args.writer.now) (old ++ c.args.piece.now) _ _ c.clear.ensures.items c.clear-2.ensures.items);
   few = omega (arith, ap length c.clear-2.ensures.items);
 }
 
-pub add_last-requires : goal.add_last-requires
-add_last-requires g c =
+pub add_last-requires-clause-conforms : goal.add_last-requires-clause-conforms
+add_last-requires-clause-conforms g c =
     let shape = g.P.Put.shape c.args.writer.now in
     let fed = rw c.loop-rest.invariant.same_rule at (rw c.in-Ok-Done.field-0-is at c.in-Ok-Done.ensures.fed) in
-    let i = c.loop-rest.invariant.gathers c.requires.0 c.requires.1 in
+    let i = c.loop-rest.invariant.gathers c.requires.stands.0 c.requires.stands.1 in
     let f = fed shape i.0 i.1.stands in
     encoded_conforms (g.F.Feed.rule c.args.reader.now) shape (value_view c.in-Ok-Done.value) _ f.0.accepted.encoding
+
+pub add_last-requires-clause-stands : goal.add_last-requires-clause-stands
+add_last-requires-clause-stands g c =
+    let shape = g.P.Put.shape c.args.writer.now in
+    let v = value_view c.in-Ok-Done.value in
+    let fed = rw c.loop-rest.invariant.same_rule at (rw c.in-Ok-Done.field-0-is at c.in-Ok-Done.ensures.fed) in
+    let i = c.loop-rest.invariant.gathers c.requires.stands.0 c.requires.stands.1 in
+    let accepted = (fed shape i.0 i.1.stands).0.accepted in
+    elim c.if-self.branch [
+      | then-self+then-is_whole w ↦
+          let none = finished_none c.finish.result i.0 (c.finish.ensures shape i.0 i.1.stands) (rw c.is_ok-is_whole.ensures.value at w.if-is_whole.true) in
+          let whole : i.0 ++ take c.in-Ok-Done.used c.loop-rest.rest.now ≡ c.split_at.result.0.now = ap (λ x. x ++ take c.in-Ok-Done.used c.loop-rest.rest.now) none ∙ sym c.split_at.ensures.front in
+          rw w.encoding-is (c.requires.copied (rw c.loop-rest.invariant.copies at w.if-self.true) v c.split_at.result.0.now (subst (IsAccepted (g.F.Feed.rule c.args.reader.now) shape v) whole accepted))
+      | else-self w ↦ rw w.encoding-is tt
+    ]
 
 pub loop-rest-preserved : goal.loop-rest-preserved
 loop-rest-preserved g c =
@@ -30,10 +48,11 @@ loop-rest-preserved g c =
     let left = c.loop-rest.rest.now in
     let used = c.in-Ok-Done.used in
     let fed = rw c.loop-rest.invariant.same_rule at (rw c.in-Ok-Done.field-0-is at c.in-Ok-Done.ensures.fed) in
-    let here = c.loop-rest.invariant.gathers c.requires.0 c.requires.1 in
+    let here = c.loop-rest.invariant.gathers c.requires.stands.0 c.requires.stands.1 in
     let done = (fed shape here.0 here.1.stands).0 in
     let added = c.in-Ok.ensures.added in
     record {
+      copies = c.in-Ok.ensures.copies ∙ c.loop-rest.invariant.copies;
       same_rule = c.in-Ok-Done.ensures.rule_stays ∙ c.loop-rest.invariant.same_rule;
       gathers = λ old unfinished.
           let i = c.loop-rest.invariant.gathers old unfinished in
@@ -77,14 +96,14 @@ returns-clause-gathered g c = λ old unfinished.
 
 pub feed-requires : goal.feed-requires
 feed-requires g c =
-    let i = c.loop-rest.invariant.gathers c.requires.0 c.requires.1 in
+    let i = c.loop-rest.invariant.gathers c.requires.stands.0 c.requires.stands.1 in
     (g.P.Put.shape c.args.writer.now, i.0, i.1.stands)
 
 pub loop-rest-smaller : goal.loop-rest-smaller
 loop-rest-smaller g c =
     let shape = g.P.Put.shape c.args.writer.now in
     let fed = rw c.loop-rest.invariant.same_rule at (rw c.in-Ok-Done.field-0-is at c.in-Ok-Done.ensures.fed) in
-    let here = c.loop-rest.invariant.gathers c.requires.0 c.requires.1 in
+    let here = c.loop-rest.invariant.gathers c.requires.stands.0 c.requires.stands.1 in
     let done = (fed shape here.0 here.1.stands).0 in
     omega (arith, done.some, done.there, ap length c.split_at.ensures.back, length-drop c.in-Ok-Done.used c.loop-rest.rest.now)
 

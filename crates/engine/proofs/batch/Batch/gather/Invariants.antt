@@ -5,6 +5,7 @@ use Rattle.engine.proofs.batch.Batch.gather.Given as goal
 
 abbrev pub invariant-loop-rest : goal.invariant-loop-rest
 invariant-loop-rest g l = record {
+  copies : l.self.copies ≡ l.initial.self.copies;
   same_rule : g.F.Feed.rule l.reader ≡ g.F.Feed.rule l.initial.reader;
   gathers : (old : List ℕ) → IsUnfinished (g.F.Feed.stands_at (g.P.Put.shape l.writer) l.initial.reader) (g.F.Feed.rule l.initial.reader) (g.P.Put.shape l.writer) old
       → (now : List ℕ) × IsUnfinished (g.F.Feed.stands_at (g.P.Put.shape l.writer) l.reader) (g.F.Feed.rule l.initial.reader) (g.P.Put.shape l.writer) now
