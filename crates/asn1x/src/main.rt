@@ -1,7 +1,8 @@
 //! The program `asn1x`: fetches its words, reads its module and opens its input. All else is `convert`'s.
 #![tactic(auto)]
 
-use convert::{Line, LineFault, cannot_open, cannot_read_module, line, no_words, read_module, run};
+use convert::read_module;
+use program::{Line, LineFault, cannot_open, cannot_read_module, line, no_words, run};
 use std::fs::File;
 use std::process::ExitCode;
 use std::{env, io};

@@ -1,11 +1,2 @@
 pub mod HexLemmas
-pub mod WalkedLemmas
-pub mod RowLemmas
-pub mod LevelLemmas
-pub mod SubcommandLemmas
-pub mod MetLemmas
-pub mod WordLemmas
-pub mod ProgramLemmas
 pub mod ModuleFileLemmas
-pub mod TaskLemmas
-pub mod RunLemmas

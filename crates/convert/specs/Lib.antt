@@ -1,13 +1,6 @@
 pub mod HexText
+pub mod HexFault
 pub mod ModuleFile
-pub mod Line
-pub mod CommandLine
-pub mod Fault
-pub mod Program
-pub mod Entries
-pub mod Output
-pub mod Task
-pub mod Run
 pub use Rattle.engine.specs.Rule
 pub use Rattle.engine.specs.Transcoding
 pub use Rattle.engine.specs.Stream

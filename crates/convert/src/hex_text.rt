@@ -29,7 +29,7 @@ impl From<AllocError> for HexFault {
 }
 
 impl From<FromHexError> for HexFault {
-    ghost use Rattle.convert.specs.Fault.{hex_fault_of};
+    ghost use Rattle.convert.specs.HexFault.{hex_fault_of};
 
     ghost from_gives = { λ error fault. fault ≡ hex_fault_of error };
 

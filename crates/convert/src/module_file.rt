@@ -1,7 +1,6 @@
 //! A module's file, and the type that a name of the module means.
 
-ghost use Rattle.std.specs.Prelude.{◌≡◌, ◌≢◌, ◌↔◌, ◌⊎◌, IfOk, IfErr, IfSome, take};
-ghost use Rattle.std.specs.IoError.{error_kind};
+ghost use Rattle.std.specs.Prelude.{◌≡◌, ◌≢◌, ◌⊎◌, IfOk, IfErr, IfSome, take};
 ghost use Rattle.std.specs.Str.{IsUtf8};
 ghost use Rattle.types.specs.Shape.{Shape};
 ghost use Rattle.types.specs.View.{ty_view};
@@ -9,12 +8,11 @@ ghost use Rattle.types.specs.WellFormed.{IsWellFormed};
 ghost use Rattle.syntax.specs.Tree.{Tree};
 ghost use Rattle.convert.specs.ModuleFile.{FileMeans, IsFileFault, IsModuleFile, name_of_fault};
 
-use crate::fault::{Fault, print_fault};
 use lexis::MAX_TEXT;
 use notation::{parse, resolve};
 use simdutf8::basic::from_utf8;
 use std::alloc::Global;
-use std::io::{self, ErrorKind, Read, Write};
+use std::io::{self, Read};
 use types::WellTyped;
 
 /// The type that the module in these octets means by the name.
@@ -66,19 +64,6 @@ pub fn read_module<R: Read>(alloc: Global, file: &mut R) -> io::Result<Vec<u8>>
     let mut octets = Vec::new(alloc);
     file.take(MAX_TEXT as u64 + 1).read_to_end(&mut octets)?;
     Ok(octets)
-}
-
-/// Prints the line of a module's file that cannot be opened or read, and returns the exit status: 3, or 4
-/// where memory ran out.
-pub fn cannot_read_module<E: Write>(path: &str, error: &io::Error, err: &mut E) -> u8
-    ensures status { (result ≡ 3) ⊎ (result ≡ 4) }
-    ensures memory { (result ≡ 4) ↔ (error_kind error.now ≡ ErrorKind.OutOfMemory) }
-{
-    let fault = match error.kind() {
-        ErrorKind::OutOfMemory => Fault::Module(at_front(33)),
-        _ => Fault::CannotRead(path),
-    };
-    print_fault(&fault, err)
 }
 
 /// The name of the fault of this number.

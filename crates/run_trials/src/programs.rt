@@ -1,6 +1,7 @@
 //! Tests of the engine, and what they share.
 
-use convert::{Canonical, Line, Rule, Verb, run};
+use convert::{Canonical, Rule};
+use program::{Line, Verb, run};
 use std::alloc::{AllocError, Global};
 use std::process::Abort;
 

@@ -4,10 +4,8 @@ ghost use Rattle.std.specs.Prelude.{◌≤◌};
 
 use berreader::{Reader, Step, read};
 use canon::{Canon, Cer, Der};
-use convert::{
-    Canonical, FromReader, FromSlice, Line, LineFault, Refusal, Rule, Stopped, ToVec, Value,
-    WellTyped, check, conforms, convert, line, list, run, show, transcode,
-};
+use convert::{Canonical, FromReader, FromSlice, Refusal, Rule, Stopped, ToVec, Value, WellTyped, check, conforms, convert, list, show, transcode};
+use program::{Line, LineFault, line, run};
 use std::alloc::Global;
 use std::io;
 use std::io::Read;

@@ -1,6 +1,7 @@
 //! Which words are a command line, and what they say.
 
-use convert::{Canonical, Line, LineFault, Rule, Verb, line, no_words};
+use convert::{Canonical, Rule};
+use program::{Line, LineFault, Verb, line, no_words};
 use std::alloc::Global;
 use std::io;
 use std::io::ErrorKind;

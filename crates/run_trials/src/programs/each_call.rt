@@ -2,7 +2,8 @@
 
 use super::dripping::{Dripping, Filling};
 use super::line_to_der;
-use convert::{Canonical, Line, Verb, run};
+use convert::Canonical;
+use program::{Line, Verb, run};
 use std::alloc::{AllocError, Global};
 use std::test::Fail;
 

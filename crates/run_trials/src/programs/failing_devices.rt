@@ -1,7 +1,7 @@
 //! Files, readers and writers that fail.
 
 use super::line_to_der;
-use convert::{cannot_open, run};
+use program::{cannot_open, run};
 use std::io;
 use std::io::{ErrorKind, Read, Write};
 use std::test::Fail;

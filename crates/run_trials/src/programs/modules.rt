@@ -2,7 +2,8 @@
 
 use super::dripping::Dripping;
 use super::{check_run_of, line_to_der, spaces};
-use convert::{Canonical, Line, Verb, cannot_read_module, read_module};
+use convert::{Canonical, read_module};
+use program::{Line, Verb, cannot_read_module};
 use std::alloc::{AllocError, Global};
 use std::io;
 use std::io::ErrorKind;

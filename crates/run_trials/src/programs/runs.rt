@@ -1,7 +1,8 @@
 //! What a run prints and returns over devices that do not fail.
 
 use super::{check_run, line_to_der, spaces};
-use convert::{Canonical, Rule, Verb};
+use convert::{Canonical, Rule};
+use program::Verb;
 use std::test::Fail;
 
 #[test]

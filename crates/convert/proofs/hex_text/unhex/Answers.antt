@@ -1,7 +1,7 @@
 use Rattle.std.proofs.Common.{◌≡◌, sym, ◌∙◌, ap, subst, inl, inr, Ok, Err}
 use Rattle.hex.specs.Hex.{decode_of}
 use Rattle.convert.specs.HexText.{without_spaces, IsHexPairs}
-use Rattle.convert.specs.Fault.{hex_fault_of}
+use Rattle.convert.specs.HexFault.{hex_fault_of}
 use Rattle.convert.proofs.HexLemmas.{decode_of-pairs, pairs_of_decode_of}
 use Rattle.octets.proofs.ResultLemmas.{Err-known}
 use Rattle.convert.proofs.hex_text.unhex.Goals as goal

@@ -1,0 +1,9 @@
+pub mod WalkedLemmas
+pub mod RowLemmas
+pub mod LevelLemmas
+pub mod SubcommandLemmas
+pub mod MetLemmas
+pub mod WordLemmas
+pub mod ProgramLemmas
+pub mod TaskLemmas
+pub mod RunLemmas

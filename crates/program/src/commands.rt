@@ -1,0 +1,108 @@
+//! The program's commands, by which `clap` judges its words.
+
+ghost use Rattle.std.specs.Prelude.{◌≡◌, IfOk, codes, false};
+ghost use Rattle.clap.specs.Words.{app_of, new_app, rule_of};
+ghost use Rattle.clap.specs.declared.builder.command.Command.TheViews.{out-Command};
+ghost use Rattle.clap.specs.declared.builder.value_parser.ValueParser.TheVariants.{Names};
+ghost use Rattle.program.specs.Program.{IsProgram, TakesInput, TakesInputAndRules, needed, own_app, rules_option};
+
+use clap::{Arg, ArgAction, Command};
+use std::alloc::{AllocError, Global};
+
+// The rules to read by, as words.
+static RULES: [&str; 3] = ["ber", "cer", "der"];
+
+// The rules to write by.
+static CANONICAL_RULES: [&str; 2] = ["cer", "der"];
+
+/// The program's own command, with those of what it can do.
+pub fn program<'a>(alloc: Global) -> Result<Command<'a>, AllocError>
+    ensures { IfOk result (λ program. IsProgram (app_of program)) }
+{
+    let show = show_command(alloc)?;
+    let check = check_command(alloc)?;
+    let convert = convert_command(alloc)?;
+    let program = own_command(alloc).subcommand(show)?;
+    let program = program.subcommand(check)?;
+    program.subcommand(convert)
+}
+
+// The program's own command.
+fn own_command<'a>(alloc: Global) -> Command<'a>
+    ensures { app_of result ≡ own_app }
+{
+    Command::new(alloc, "asn1x")
+        .version("1.0.0")
+        .about("Reads values of an ASN.1 type in BER, CER or DER")
+        .subcommand_required(true)
+}
+
+// Prints values as text.
+fn show_command<'a>(alloc: Global) -> Result<Command<'a>, AllocError>
+    ensures { IfOk result (TakesInput (new_app (codes "show"))) }
+{
+    let command = Command::new(alloc, "show").about("Print a line of text for each value");
+    with_input(alloc, command)
+}
+
+// Counts values.
+fn check_command<'a>(alloc: Global) -> Result<Command<'a>, AllocError>
+    ensures { IfOk result (TakesInput (new_app (codes "check"))) }
+{
+    let command = Command::new(alloc, "check").about("Count the values");
+    with_input(alloc, command)
+}
+
+// Converts values.
+fn convert_command<'a>(alloc: Global) -> Result<Command<'a>, AllocError>
+    ensures { IfOk result (TakesInputAndRules (new_app (codes "convert"))) }
+{
+    let to = rules_arg(alloc, "to", CANONICAL_RULES.as_slice()).required(true);
+    let command = Command::new(alloc, "convert").about(
+        "Write the canonical encoding of each value",
+    );
+    let command = with_input(alloc, command)?;
+    command.arg(to)
+}
+
+// A command that reads values.
+fn with_input<'a>(alloc: Global, command: Command<'a>) -> Result<Command<'a>, AllocError>
+    requires { (out-Command command).has_globals ≡ false }
+    ensures { IfOk result (TakesInput (app_of command.entry)) }
+{
+    let module = word(alloc, "MODULE").help("The file of an ASN.1 module, or @builtin");
+    let name = word(alloc, "TYPE").help(
+        "The name of a type in it; of @builtin BOOLEAN, INTEGER, NULL or 'OCTET STRING'",
+    );
+    let input = word(alloc, "INPUT").help("The file of the values");
+    let from = rules_arg(alloc, "from", RULES.as_slice()).default_value("ber");
+    let hex = Arg::new(alloc, "hex")
+        .long("hex")
+        .action(ArgAction::SetTrue)
+        .help("Read hexadecimal text, and convert to it");
+    let command = command.arg(module)?;
+    let command = command.arg(name)?;
+    let command = command.arg(input)?;
+    let command = command.arg(from)?;
+    command.arg(hex)
+}
+
+// A word that must be there.
+fn word<'a>(alloc: Global, id: &'a str) -> Arg<'a>
+    ensures rule { rule_of result ≡ needed id.entry.now }
+    ensures local { result.global ≡ false }
+{
+    Arg::new(alloc, id).required(true)
+}
+
+// An option whose value is one of these names of rules.
+fn rules_arg<'a>(alloc: Global, id: &'a str, names: &'a [&'a str]) -> Arg<'a>
+    ensures rule { rule_of result ≡ rules_option id.entry.now (Names names.entry) }
+    ensures local { result.global ≡ false }
+{
+    Arg::new(alloc, id)
+        .long(id)
+        .value_name("RULES")
+        .value_parser(names)
+        .help("The rules to read or to write by")
+}

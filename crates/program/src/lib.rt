@@ -1,0 +1,20 @@
+//! The program `asn1x`: its command line, and what it does once its files are open.
+#![tactic(auto)]
+
+mod command_line;
+mod commands;
+mod fault;
+mod hex_sink;
+mod missing_files;
+mod missing_words;
+mod output;
+mod printed_path;
+mod running;
+mod tasks;
+mod words;
+
+pub use command_line::{Line, LineFault, Verb};
+pub use missing_files::{cannot_open, cannot_read_module};
+pub use missing_words::no_words;
+pub use running::run;
+pub use words::line;

@@ -1,0 +1,119 @@
+//! Judges the program's words.
+
+ghost use Rattle.std.specs.Prelude.{◌≡◌, ◌↔◌, IfOk, IfErr, IsSome, Some, codes};
+ghost use Rattle.clap.specs.Words.{first_value, found_of};
+ghost use Rattle.program.specs.CommandLine.{texts_of, word_of_canonical, word_of_rule, word_of_verb};
+ghost use Rattle.program.specs.Entries.{HasEntries, HasWords, IsLineOf};
+ghost use Rattle.program.specs.Fault.{IsNotText, IsRefusalOf};
+ghost use Rattle.program.specs.Line.{IsVerbWithRule};
+
+use crate::commands::program;
+use crate::{Line, LineFault, Verb};
+use convert::{Canonical, Rule};
+use clap::ArgMatches;
+use clap::error::ErrorKind;
+use std::alloc::Global;
+
+/// The command line that the program's words are, its own name first. `clap` judges them: `--help` and
+/// `--version` are its faults too.
+pub fn line(alloc: Global, words: &[&str]) -> Result<Line, LineFault>
+    ensures value { IfOk result (IsLineOf (texts_of words.now)) }
+    ensures to { IfOk result IsVerbWithRule }
+    ensures refused { IfErr result (IsRefusalOf (texts_of words.now)) }
+{
+    let matches = program(alloc)?.try_get_matches_from(words)?;
+    let (name, matches) = matches.subcommand().unwrap();
+    line_of(alloc, verb_of(name), matches)
+}
+
+// The command line of a subcommand.
+fn line_of(alloc: Global, verb: Verb, matches: &ArgMatches<'_>) -> Result<Line, LineFault>
+    requires { HasWords verb matches.now }
+    ensures entries { IfOk result (HasEntries matches.now) }
+    ensures verb { IfOk result (λ line. line.verb ≡ verb) }
+    ensures to { IfOk result IsVerbWithRule }
+    ensures refused { IfErr result (λ fault. fault ≡ LineFault.NoMemory) }
+{
+    Ok(Line {
+        verb,
+        module: String::from_str(alloc, word(matches, "MODULE"))?,
+        name: String::from_str(alloc, word(matches, "TYPE"))?,
+        input: String::from_str(alloc, word(matches, "INPUT"))?,
+        from: rule_of(word(matches, "from")),
+        to: to_of(verb, matches),
+        hex: matches.get_flag("hex"),
+    })
+}
+
+// The word that an argument has.
+fn word<'a>(matches: &ArgMatches<'a>, name: &str) -> &'a str
+    requires { IsSome (first_value (found_of matches.now) name.now) }
+    ensures { first_value (found_of matches.now) name.now ≡ Some result.now }
+{
+    matches.get_str(name).unwrap()
+}
+
+// The rule to write by, where the values are to be converted.
+fn to_of(verb: Verb, matches: &ArgMatches<'_>) -> Option<Canonical>
+    requires { HasWords verb matches.now }
+    ensures value { (rule : Canonical) → result ≡ Some rule → first_value (found_of matches.now) (codes "to") ≡ Some (word_of_canonical rule) }
+    ensures exact { IsSome result ↔ (verb ≡ Verb.Convert) }
+{
+    match verb {
+        Verb::Show | Verb::Check => None,
+        Verb::Convert => Some(canonical_of(word(matches, "to"))),
+    }
+}
+
+/// A word that is not UTF-8.
+pub fn not_text(alloc: Global) -> LineFault
+    ensures { IsNotText result }
+{
+    match program(alloc) {
+        Ok(mut program) => match program.error(ErrorKind::Io, "a word is not UTF-8") {
+            Ok(error) => LineFault::from(error),
+            Err(_) => LineFault::NoMemory,
+        },
+        Err(_) => LineFault::NoMemory,
+    }
+}
+
+// What a word asks for that is one of the three subcommands.
+fn verb_of(word: &str) -> Verb
+    requires { (verb : Verb) × (word.now ≡ word_of_verb verb) }
+    ensures { word.now ≡ word_of_verb result }
+{
+    if word == "show" {
+        Verb::Show
+    } else if word == "check" {
+        Verb::Check
+    } else {
+        Verb::Convert
+    }
+}
+
+// The rule to write by that a word names.
+fn canonical_of(word: &str) -> Canonical
+    requires { (rule : Canonical) × (word.now ≡ word_of_canonical rule) }
+    ensures { word.now ≡ word_of_canonical result }
+{
+    if word == "cer" {
+        Canonical::Cer
+    } else {
+        Canonical::Der
+    }
+}
+
+// The rule to read by that a word names.
+fn rule_of(word: &str) -> Rule
+    requires { (rule : Rule) × (word.now ≡ word_of_rule rule) }
+    ensures { word.now ≡ word_of_rule result }
+{
+    if word == "ber" {
+        Rule::Ber
+    } else if word == "cer" {
+        Rule::Cer
+    } else {
+        Rule::Der
+    }
+}
