@@ -6,15 +6,19 @@ ghost use Rattle.convert.specs.HexText.{is_space, without_spaces, IsHexText, mos
 use crate::MAX_HEX_TEXT;
 use hex::FromHexError;
 use std::alloc::{AllocError, Global};
+use thiserror::Error;
 
 /// Why a text gives no octets.
-#[derive(Clone, Copy, Debug, PartialEq, Eq)]
+#[derive(Clone, Copy, Debug, PartialEq, Eq, Error)]
 pub enum HexFault {
     /// Without the white space it is no row of pairs of hexadecimal digits.
+    #[error("not hexadecimal")]
     NotHex,
     /// It has more than `MAX_HEX_TEXT` octets.
+    #[error("hexadecimal text too long")]
     TooLong,
     /// A growth was refused.
+    #[error("out of memory")]
     NoMemory,
 }
 
