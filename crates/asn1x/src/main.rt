@@ -2,8 +2,11 @@
 #![tactic(auto)]
 
 use convert::read_module;
-use program::{Line, LineFault, cannot_open, cannot_read_module, line, no_words, run};
+use program::{
+    Line, LineFault, cannot_open, cannot_read_module, cannot_share_input, line, no_words, run,
+};
 use std::fs::File;
+use std::io::Read;
 use std::process::ExitCode;
 use std::{env, io};
 
@@ -30,12 +33,15 @@ fn line_of_words(rt: &HostRuntime) -> Result<Line, LineFault> {
     line(rt.alloc(), words.as_slice())
 }
 
-// Reads the module's file, opens the input and runs a command line over them.
+// Reads the module's file, opens the input and runs a command line over them. The path `-` is the standard input.
 fn run_line(rt: &HostRuntime, line: &Line) -> u8 {
     let mut err = rt.stderr();
+    if line.module.as_str() == "-" && line.input.as_str() == "-" {
+        return cannot_share_input(rt.alloc(), &mut err);
+    }
     match module_octets(rt, line.module.as_str()) {
         Ok(module) => run_over(rt, line, module.as_slice()),
-        Err(error) => cannot_read_module(line.module.as_str(), &error, &mut err),
+        Err(error) => cannot_read_module(rt.alloc(), line.module.as_str(), &error, &mut err),
     }
 }
 
@@ -44,22 +50,32 @@ fn module_octets(rt: &HostRuntime, path: &str) -> io::Result<Vec<u8>> {
     if path == "@builtin" {
         return Ok(Vec::new(rt.alloc()));
     }
+    if path == "-" {
+        return read_module(rt.alloc(), &mut rt.stdin());
+    }
     read_module(rt.alloc(), &mut File::open(rt, path)?)
 }
 
 // Opens the input and runs a command line over it.
 fn run_over(rt: &HostRuntime, line: &Line, module: &[u8]) -> u8 {
     let path = line.input.as_str();
-    let mut err = rt.stderr();
-    match File::open(rt, path) {
-        Ok(mut input) => run(
-            rt.alloc(),
-            line,
-            module,
-            &mut input,
-            &mut rt.stdout(),
-            &mut err,
-        ),
-        Err(_) => cannot_open(path, &mut err),
+    if path == "-" {
+        return run_from(rt, line, module, &mut rt.stdin());
     }
+    match File::open(rt, path) {
+        Ok(mut input) => run_from(rt, line, module, &mut input),
+        Err(_) => cannot_open(rt.alloc(), path, &mut rt.stderr()),
+    }
+}
+
+// Runs a command line over an open input.
+fn run_from<R: Read>(rt: &HostRuntime, line: &Line, module: &[u8], input: &mut R) -> u8 {
+    run(
+        rt.alloc(),
+        line,
+        module,
+        input,
+        &mut rt.stdout(),
+        &mut rt.stderr(),
+    )
 }

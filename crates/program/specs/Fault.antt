@@ -31,6 +31,7 @@ fault_status fault.TheVariants.TextTooLong = 1
 fault_status (fault.TheVariants.CannotRead path) = 3
 fault_status (fault.TheVariants.Module refused) = module_status refused.number
 fault_status fault.TheVariants.NoSuchType = 64
+fault_status fault.TheVariants.SharedInput = 64
 
 -- what a fault of clap is to the program
 abbrev pub line_fault_by : ErrorKind → clap.Error → LineFault

@@ -2,8 +2,8 @@
 
 ghost use Rattle.std.specs.Prelude.{◌≡◌};
 
-use convert::{Canonical, Rule};
 use clap::error::ErrorKind;
+use convert::{Canonical, Rule};
 use std::alloc::AllocError;
 
 /// What the program is asked to do.

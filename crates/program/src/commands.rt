@@ -9,6 +9,26 @@ ghost use Rattle.program.specs.Program.{IsProgram, TakesInput, TakesInputAndRule
 use clap::{Arg, ArgAction, Command};
 use std::alloc::{AllocError, Global};
 
+// What `--hex` does.
+static READ_HEX: &str = "Read the values as hexadecimal text";
+
+static READ_AND_WRITE_HEX: &str = "Read the values as hexadecimal text, and write hexadecimal text";
+
+// What stands below the help of a subcommand with this example.
+macro_rules! help_with {
+    ($example:literal) => {
+        concat!(
+            "Example: ",
+            $example,
+            "\n\nExit status: 0 all values done, 1 octets refused, 2 module refused,\n",
+            "3 a file or device failed, 4 out of memory, 64 wrong words.\n",
+            "A refusal prints its number, its name and how many values came before it.\n",
+            "At most 1,048,576 octets an encoding, 64 levels, 262,144 octets of module.\n",
+            "More: man asn1x"
+        )
+    };
+}
+
 // The rules to read by, as words.
 static RULES: [&str; 3] = ["ber", "cer", "der"];
 
@@ -34,6 +54,7 @@ fn own_command<'a>(alloc: Global) -> Command<'a>
     Command::new(alloc, "asn1x")
         .version("1.0.0")
         .about("Reads values of an ASN.1 type in BER, CER or DER")
+        .after_help("Example: asn1x show certificates.asn Certificate certificate.der")
         .subcommand_required(true)
 }
 
@@ -41,45 +62,61 @@ fn own_command<'a>(alloc: Global) -> Command<'a>
 fn show_command<'a>(alloc: Global) -> Result<Command<'a>, AllocError>
     ensures { IfOk result (TakesInput (new_app (codes "show"))) }
 {
-    let command = Command::new(alloc, "show").about("Print a line of text for each value");
-    with_input(alloc, command)
+    let command = Command::new(alloc, "show")
+        .about("Print a line of text for each value")
+        .after_help(help_with!("asn1x show calls.asn Call calls.ber"));
+    with_input(alloc, command, READ_HEX)
 }
 
 // Counts values.
 fn check_command<'a>(alloc: Global) -> Result<Command<'a>, AllocError>
     ensures { IfOk result (TakesInput (new_app (codes "check"))) }
 {
-    let command = Command::new(alloc, "check").about("Count the values");
-    with_input(alloc, command)
+    let command = Command::new(alloc, "check")
+        .about("Count the values")
+        .after_help(help_with!("asn1x check calls.asn Call calls.der --from der"));
+    with_input(alloc, command, READ_HEX)
 }
 
 // Converts values.
 fn convert_command<'a>(alloc: Global) -> Result<Command<'a>, AllocError>
     ensures { IfOk result (TakesInputAndRules (new_app (codes "convert"))) }
 {
-    let to = rules_arg(alloc, "to", CANONICAL_RULES.as_slice()).required(true);
-    let command = Command::new(alloc, "convert").about(
-        "Write the canonical encoding of each value",
-    );
-    let command = with_input(alloc, command)?;
+    let to = rules_arg(alloc, "to", CANONICAL_RULES.as_slice())
+        .help("Write the encodings by these rules")
+        .required(true);
+    let command = Command::new(alloc, "convert")
+        .about("Write the canonical encoding of each value")
+        .after_help(help_with!("asn1x convert calls.asn Call calls.ber --to der >calls.der"));
+    let command = with_input(alloc, command, READ_AND_WRITE_HEX)?;
     command.arg(to)
 }
 
-// A command that reads values.
-fn with_input<'a>(alloc: Global, command: Command<'a>) -> Result<Command<'a>, AllocError>
+// A command that reads values, and says this of hexadecimal text.
+fn with_input<'a>(
+    alloc: Global,
+    command: Command<'a>,
+    hex_help: &'a str,
+) -> Result<Command<'a>, AllocError>
     requires { (out-Command command).has_globals ≡ false }
     ensures { IfOk result (TakesInput (app_of command.entry)) }
 {
-    let module = word(alloc, "MODULE").help("The file of an ASN.1 module, or @builtin");
+    let module = word(alloc, "MODULE").help(
+        "The file of an ASN.1 module, - for standard input, or @builtin",
+    );
     let name = word(alloc, "TYPE").help(
         "The name of a type in it; of @builtin BOOLEAN, INTEGER, NULL or 'OCTET STRING'",
     );
-    let input = word(alloc, "INPUT").help("The file of the values");
-    let from = rules_arg(alloc, "from", RULES.as_slice()).default_value("ber");
+    let input = word(alloc, "INPUT").help(
+        "The file of the values, one behind another, or - for standard input",
+    );
+    let from = rules_arg(alloc, "from", RULES.as_slice())
+        .help("Read the values by these rules; cer and der take canonical encodings alone")
+        .default_value("ber");
     let hex = Arg::new(alloc, "hex")
         .long("hex")
         .action(ArgAction::SetTrue)
-        .help("Read hexadecimal text, and convert to it");
+        .help(hex_help);
     let command = command.arg(module)?;
     let command = command.arg(name)?;
     let command = command.arg(input)?;
@@ -104,5 +141,4 @@ fn rules_arg<'a>(alloc: Global, id: &'a str, names: &'a [&'a str]) -> Arg<'a>
         .long(id)
         .value_name("RULES")
         .value_parser(names)
-        .help("The rules to read or to write by")
 }

@@ -5,7 +5,7 @@ ghost use Rattle.program.specs.Fault.{fault_status, refusal_status, module_statu
 
 use crate::printed_path::PrintedPath;
 use convert::{HexFault, Stopped, fault_name};
-use std::alloc::AllocError;
+use std::alloc::{AllocError, Global};
 use std::io::Write;
 use thiserror::Error;
 use types::Refusal;
@@ -36,6 +36,9 @@ pub enum Fault<'a> {
     /// No built-in type has the name.
     #[error("asn1x: no such built-in type")]
     NoSuchType,
+    /// The module and the values are both to come from the standard input.
+    #[error("asn1x: MODULE and INPUT cannot both be standard input")]
+    SharedInput,
 }
 
 impl From<Refusal> for Fault<'_> {
@@ -88,16 +91,20 @@ impl Fault<'_> {
             Fault::NotHexadecimal | Fault::TextTooLong => 1,
             Fault::CannotRead(_) => 3,
             Fault::Module(fault) => status_of_module(fault.number),
-            Fault::NoSuchType => 64,
+            Fault::NoSuchType | Fault::SharedInput => 64,
         }
     }
 }
 
-/// Prints a fault's line and returns its status. A failed write changes nothing else.
-pub fn print_fault<E: Write>(fault: &Fault<'_>, err: &mut E) -> u8
+/// Prints a fault's line and returns its status. A failed write changes nothing else. The line is written at once, so
+/// that programs which share an output do not tear it, unless memory runs out.
+pub fn print_fault<E: Write>(alloc: Global, fault: &Fault<'_>, err: &mut E) -> u8
     ensures { result ≡ fault_status fault.now }
 {
-    let _ = writeln!(err, "{fault}");
+    let _ = match format!(in alloc; "{fault}\n") {
+        Ok(line) => err.write_all(line.as_bytes()),
+        Err(_) => writeln!(err, "{fault}"),
+    };
     fault.status()
 }
 

@@ -14,7 +14,8 @@ mod tasks;
 mod words;
 
 pub use command_line::{Line, LineFault, Verb};
-pub use missing_files::{cannot_open, cannot_read_module};
+pub use missing_files::{cannot_open, cannot_read_module, cannot_share_input};
 pub use missing_words::no_words;
+pub use printed_path::PrintedPath;
 pub use running::run;
 pub use words::line;

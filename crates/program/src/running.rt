@@ -43,11 +43,11 @@ pub fn run<R: Read, W: Write, E: Write>(
     };
     let ty = match type_of(alloc, line, module) {
         Ok(ty) => ty,
-        Err(fault) => return print_fault(&fault, err),
+        Err(fault) => return print_fault(alloc, &fault, err),
     };
     match run_over(alloc, &ty, line, task, input, out) {
         Ok(()) => 0,
-        Err(fault) => print_fault(&fault, err),
+        Err(fault) => print_fault(alloc, &fault, err),
     }
 }
 

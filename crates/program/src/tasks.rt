@@ -7,10 +7,10 @@ ghost use Rattle.engine.specs.Rule.{rule_of};
 ghost use Rattle.program.specs.Fault.{fault_status, IsFaultOfInput};
 ghost use Rattle.program.specs.Task.{IsDone, IsTaskFault, count_line};
 
+use crate::Line;
 use crate::fault::Fault;
 use crate::hex_sink::HexSink;
 use crate::output::Output;
-use crate::Line;
 use convert::{Canonical, Rule, check, convert, list};
 use devices::Source;
 use std::alloc::Global;
@@ -47,7 +47,7 @@ pub fn perform<'a, S: Source, W: Write>(
         Task::Show => print_texts(alloc, ty, line.from, source, out),
         Task::Check => {
             let count = check(alloc, ty, line.from, source)?;
-            print_count(count, out)
+            print_count(alloc, count, out)
         }
         Task::Convert(to) if line.hex => convert_to_text(alloc, ty, line.from, to, source, out),
         Task::Convert(to) => convert_octets(alloc, ty, line.from, to, source, out),
@@ -76,13 +76,17 @@ fn print_texts<'a, S: Source, W: Write>(
     Ok(())
 }
 
-// Prints how many values there were.
-fn print_count<'a, W: Write>(count: u64, out: &mut W) -> Result<(), Fault<'a>>
+// Prints how many values there were: a line that is written at once, unless memory runs out.
+fn print_count<'a, W: Write>(alloc: Global, count: u64, out: &mut W) -> Result<(), Fault<'a>>
     ensures written { OnOk result (Appends (W.contents out.old) (W.contents out.new) (count_line count)) }
     ensures stopped { IfErr result (λ fault. fault ≡ Fault.Refused Refusal.SinkFault count) }
     ensures status { IfErr result IsFaultOfInput }
 {
-    match writeln!(out, "ok {count}") {
+    let written = match format!(in alloc; "ok {count}\n") {
+        Ok(line) => out.write_all(line.as_bytes()),
+        Err(_) => writeln!(out, "ok {count}"),
+    };
+    match written {
         Ok(()) => Ok(()),
         Err(_) => Err(not_printed(count)),
     }

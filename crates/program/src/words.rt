@@ -9,9 +9,9 @@ ghost use Rattle.program.specs.Line.{IsVerbWithRule};
 
 use crate::commands::program;
 use crate::{Line, LineFault, Verb};
-use convert::{Canonical, Rule};
 use clap::ArgMatches;
 use clap::error::ErrorKind;
+use convert::{Canonical, Rule};
 use std::alloc::Global;
 
 /// The command line that the program's words are, its own name first. `clap` judges them: `--help` and

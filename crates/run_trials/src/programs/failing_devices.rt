@@ -138,9 +138,9 @@ fn file_that_cannot_be_opened(rt: HostRuntime) {
     ];
     for (path, want) in cases {
         let mut err = Vec::new(rt.alloc());
-        assert_eq!(rt; cannot_open(path, &mut err), 3, "at {path:?}");
+        assert_eq!(rt; cannot_open(rt.alloc(), path, &mut err), 3, "at {path:?}");
         assert_eq!(rt; err.as_slice(), want.as_bytes(), "at {path:?}");
     }
     let mut err = Failing(ErrorKind::BrokenPipe);
-    assert_eq!(rt; cannot_open("no/such file", &mut err), 3);
+    assert_eq!(rt; cannot_open(rt.alloc(), "no/such file", &mut err), 3);
 }

@@ -175,7 +175,12 @@ fn files_of_modules_that_cannot_be_read(rt: HostRuntime) {
     ];
     for (kind, want, want_status) in cases {
         let mut err = Vec::new(rt.alloc());
-        let status = cannot_read_module("no/such.asn", &io::Error::from(kind), &mut err);
+        let status = cannot_read_module(
+            rt.alloc(),
+            "no/such.asn",
+            &io::Error::from(kind),
+            &mut err,
+        );
         assert_eq!(rt; err.as_slice(), want.as_bytes(), "at {kind:?}");
         assert_eq!(rt; status, want_status, "at {kind:?}");
     }

@@ -9,7 +9,7 @@ pub returns : goal.returns
 returns c =
     let to_is : rule_of c.required-to.result ≡ to_option (Names c.as_slice.result) = search rules in
     let no_to : c.required-to.result.global ≡ false = search rules in
-    let new_is : app_of c.about-command.result ≡ new_app (codes "convert") = search rules in
+    let new_is : app_of c.after_help-command.result ≡ new_app (codes "convert") = search rules in
     let i = c.in_ok-command.ensures in
     IfOk-weaker c.arg.result _ _ (λ r h. record {
       from = i.from;
