@@ -4,7 +4,10 @@ ghost use Rattle.std.specs.Prelude.{◌≤◌};
 
 use berreader::{Reader, Step, read};
 use canon::{Canon, Cer, Der};
-use convert::{Canonical, FromReader, FromSlice, Refusal, Rule, Stopped, ToVec, Value, WellTyped, check, conforms, convert, list, show, transcode};
+use convert::{
+    Canonical, FromReader, FromSlice, Refusal, Rule, Stopped, ToVec, Value, WellTyped, check,
+    conforms, convert, list, show, transcode,
+};
 use program::{Line, LineFault, line, run};
 use std::alloc::Global;
 use std::io;

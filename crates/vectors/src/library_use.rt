@@ -1,6 +1,9 @@
 //! How a program uses the library.
 
-use convert::{Canonical, Class, Rule, Tag, Ty, WellTyped, transcode, unhex};
+use convert::{
+    Canonical, Class, Failed, FromSlice, HexFault, Refusal, Rule, Stopped, Tag, ToVec, Ty,
+    WellTyped, convert, transcode, type_from, unhex,
+};
 use std::test::Fail;
 
 #[test]
@@ -12,5 +15,38 @@ fn reads_ber_and_writes_der(rt: HostRuntime) -> Result<(), Fail> {
     let to = Canonical::Der;
     let written = transcode(rt.alloc(), &ty, from, to, octets.as_slice())?;
     assert_eq!(rt; written.as_slice(), [0x01, 0x01, 0xFF].as_slice());
+    Ok(())
+}
+
+#[test]
+fn converts_values_of_a_type_of_a_module(rt: HostRuntime) -> Result<(), Fail> {
+    let module = b"M DEFINITIONS ::= BEGIN Ids ::= SET OF OBJECT IDENTIFIER END";
+    let ty = type_from(rt.alloc(), module.as_slice(), "Ids")?;
+    let octets = unhex(rt.alloc(), b"31 80 06 03 2a 03 04 06 02 2a 03 00 00 31 00")?;
+    let mut source = FromSlice::new(octets.as_slice());
+    let mut sink = ToVec::new(Vec::new(rt.alloc()));
+    let done = convert(
+        rt.alloc(),
+        &ty,
+        Rule::Ber,
+        Canonical::Der,
+        &mut source,
+        &mut sink,
+    )?;
+    let want = unhex(rt.alloc(), b"31 09 06 02 2a 03 06 03 2a 03 04 31 00")?;
+    assert_eq!(rt; done, 2);
+    assert_eq!(rt; sink.as_slice(), want.as_slice());
+    Ok(())
+}
+
+#[test]
+fn faults_print_one_line_each(rt: HostRuntime) -> Result<(), Fail> {
+    let refusal = Refusal::Contents;
+    let stopped = Stopped { done: 2, refusal };
+    let lines = format!(in rt.alloc(); "{stopped}; {}; {}", HexFault::NotHex, Failed)?;
+    assert_eq!(rt;
+        lines.as_str(),
+        "refused 6 Contents after 2 values; not hexadecimal; a device failed"
+    );
     Ok(())
 }

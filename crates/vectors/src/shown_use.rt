@@ -62,7 +62,7 @@ convert,ids.asn,Ids,in.hex,--hex,--to,der | 31 80 06 03 2a 03 04 06 02 2a 03 00 
 convert,@builtin,OCTET STRING,in.hex,--hex,--to,der | 24 80 04 02 01 02 24 80 04 01 03 00 00 00 00 | 0403010203; || 0
 convert,@builtin,OCTET STRING,in.hex,--hex,--to,der | 04 82 00 01 41 | 040141; || 0
 convert,@builtin,INTEGER,in.hex,--hex,--to,der | 02 02 00 7f || asn1x: refused 6 Contents after 0 values; | 1
-show,@builtin,BOOLEAN,/dev/stdin | 01 01 01 01 01 00 | TRUE;FALSE; || 0
+show,@builtin,BOOLEAN,- | 01 01 01 01 01 00 | TRUE;FALSE; || 0
 convert,@builtin,BOOLEAN,in.hex,--hex,--from,der,--to,der | 01 01 2a || asn1x: refused 12 NotCanonical after 0 values; | 1
 ";
 
