@@ -1,0 +1,18 @@
+use Rattle.std.proofs.Common.{rules, ◌+◌, ◌≤◌, take, arith, sym, subst}
+use Rattle.std.specs.Io.KnownBytes.{Appends}
+use Rattle.cutting.proofs.CutLemmas.{take_to}
+use Rattle.devices.proofs.DeviceLemmas.{appends_more}
+use Rattle.cutting.proofs.cutter.Cutter.take.Goals as goal
+
+pub loop-at-preserved-then-is_full : goal.loop-at-preserved-then-is_full
+loop-at-preserved-then-is_full g c =
+    let piece = c.args.piece.now in
+    let from = c.loop-at.from in
+    let to = c.loop-at.at + c.in-Ok-Some.used in
+    let ordered : from ≤ to = omega (arith, c.loop-at.invariant.ordered) in
+    let written = appends_more _ _ _ _ _ _ c.loop-at.invariant.taken c.in_ok-write.ensures (take_to piece from to ordered) in
+    record {
+      ordered = search rules;
+      within = search rules;
+      taken = subst (λ told. Appends (g.K.Outputs.taken c.args.self.now.outputs) told (take to piece)) (sym c.in_ok-end_file.ensures) written;
+    }

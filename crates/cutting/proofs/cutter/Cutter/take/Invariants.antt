@@ -1,0 +1,13 @@
+use Rattle.std.proofs.Common.{◌≤◌, length, take, ◌-◌}
+use Rattle.std.specs.Io.KnownBytes.{Appends}
+use Rattle.cutting.proofs.cutter.Cutter.take.Given as goal
+
+abbrev pub invariant-loop-at : goal.invariant-loop-at
+invariant-loop-at g l = record {
+  ordered : l.from ≤ l.at;
+  within : l.at ≤ length l.piece;
+  taken : Appends (g.K.Outputs.taken l.initial.self.outputs) (g.K.Outputs.taken l.self.outputs) (take l.from l.piece);
+}
+
+abbrev pub decreases-loop-at : goal.decreases-loop-at
+decreases-loop-at g l = length l.piece - l.at

@@ -1,0 +1,122 @@
+//! A stream in files, its octets unchanged.
+
+ghost use Rattle.std.specs.Prelude.{◌≡◌, ℕ, List, Option, OnOk};
+ghost use Rattle.std.specs.Io.KnownBytes.{Appends};
+
+use crate::Ends;
+use devices::Failed;
+use types::Refusal;
+
+/// Files that are written one after another.
+pub trait Outputs {
+    // The octets of all files, one file behind another, where the files tell them.
+    ghost taken: { Self → Option (List ℕ) };
+
+    /// Ends the file that is written, if there is one. What is written next goes to another one.
+    fn end_file(&mut self) -> Result<(), Failed>
+        ensures { OnOk result (taken self.new ≡ taken self.old) };
+
+    /// Writes all octets to the file, which is made first if there is none.
+    fn write(&mut self, octets: &[u8]) -> Result<(), Failed>
+        ensures { OnOk result (Appends (taken self.old) (taken self.new) octets.now) };
+}
+
+/// Why a stream is not cut to its end.
+#[derive(Clone, Copy, Debug, PartialEq, Eq)]
+pub enum CutFault {
+    /// No encoding stands there.
+    Refused(Refusal),
+    /// A file cannot be made or written.
+    Output,
+}
+
+/// Cuts a stream that comes in pieces.
+#[derive(Drop)]
+pub struct Cutter<K> {
+    /// The files.
+    pub outputs: K,
+    /// How many octets a file has at least, but the last.
+    pub least: u64,
+    // how many octets the file has
+    written: u64,
+    ends: Ends,
+}
+
+impl<K: Outputs> Cutter<K> {
+    /// Nothing has been cut.
+    pub fn new(outputs: K, least: u64) -> Cutter<K> {
+        Cutter {
+            outputs,
+            least,
+            written: 0,
+            ends: Ends::new(),
+        }
+    }
+
+    /// How many octets have been passed, those of a head that is cut or refused left out.
+    pub fn passed(&self) -> u64 {
+        self.ends.passed()
+    }
+
+    /// Writes a piece of the stream, and ends a file behind each encoding with which it has so many octets. Where no
+    /// encoding stands, what is before is written.
+    pub fn take(&mut self, piece: &[u8]) -> Result<(), CutFault>
+        ensures { OnOk result (Appends (K.taken self.old.outputs) (K.taken self.new.outputs) piece.now) }
+    {
+        let mut from = 0;
+        let mut at = 0;
+        while at < piece.len() {
+            match self.ends.take(&piece[at..]) {
+                Ok(Some(used)) => at += used,
+                Ok(None) => break,
+                Err(refusal) => {
+                    self.write(&piece[from..at])?;
+                    return Err(CutFault::Refused(refusal));
+                }
+            }
+            if self.is_full(at - from) {
+                self.write(&piece[from..at])?;
+                self.end_file()?;
+                from = at;
+            }
+        }
+        self.write(&piece[from..])
+    }
+
+    /// Tells whether the stream may end here.
+    pub fn finish(&self) -> Result<(), CutFault> {
+        if self.ends.is_inside() {
+            return Err(CutFault::Refused(Refusal::Truncated));
+        }
+        Ok(())
+    }
+
+    // Whether the file has enough octets, with so many more.
+    fn is_full(&self, more: usize) -> bool {
+        self.written.saturating_add(more as u64) >= self.least
+    }
+
+    fn write(&mut self, octets: &[u8]) -> Result<(), CutFault>
+        ensures { OnOk result (Appends (K.taken self.old.outputs) (K.taken self.new.outputs) octets.now) }
+    {
+        match self.outputs.write(octets) {
+            Ok(()) => {
+                self.written = self.written.saturating_add(octets.len() as u64);
+                Ok(())
+            }
+            Err(_) => Err(CutFault::Output),
+        }
+    }
+
+    fn end_file(&mut self) -> Result<(), CutFault>
+        ensures { OnOk result (K.taken self.new.outputs ≡ K.taken self.old.outputs) }
+    {
+        match self.outputs.end_file() {
+            Ok(()) => {
+                self.written = 0;
+                Ok(())
+            }
+            Err(_) => Err(CutFault::Output),
+        }
+    }
+}
