@@ -1,0 +1,122 @@
+//! Which part an identifier begins.
+
+use crate::open::{Due, Held};
+use crate::{Part, Reason, Step, Stop, Walk};
+use contents::{Kind, begins, node_of, not_due, segment_tag};
+use octets::Tag;
+use types::{Refusal, Value};
+
+impl<'a> Walk<'a> {
+    // The part that begins with the tag, and its default.
+    pub(crate) fn due(
+        &mut self,
+        tag: Tag,
+        constructed: bool,
+    ) -> Result<(Part<'a>, Option<&'a Value>), Stop<'a>> {
+        let at = self.taken;
+        let is_bits_end = self.joined.unused != 0;
+        let Some(top) = self.open.last_mut() else {
+            return self.due_outside(tag);
+        };
+        if let Held::Segments(kind) = &top.held {
+            let kind = *kind;
+            return match segment_refused(kind, tag, constructed, is_bits_end) {
+                Some((refusal, words)) => { Err(Stop::outside(refusal, at, Reason::Words(words))) }
+                None => Ok((segment_of(&top.part, tag), None)),
+            };
+        }
+        match top.take_due(tag) {
+            Ok(due) => part_of(due, tag, at),
+            Err(refusal) => {
+                let reason = why_not_due(refusal, tag, top.missing());
+                Err(Stop::outside(refusal, at, reason))
+            }
+        }
+    }
+
+    // The value itself, if it begins with the tag.
+    fn due_outside(&self, tag: Tag) -> Result<(Part<'a>, Option<&'a Value>), Stop<'a>> {
+        if !begins(self.ty, tag) {
+            let refusal = not_due(tag);
+            let reason = why_not_due(refusal, tag, None);
+            return Err(Stop::outside(refusal, self.taken, reason));
+        }
+        let due = Due {
+            step: Step::Whole,
+            ty: self.ty,
+            default: None,
+        };
+        part_of(due, tag, self.taken)
+    }
+}
+
+// The part that is due.
+fn part_of<'a>(
+    due: Due<'a>,
+    tag: Tag,
+    at: usize,
+) -> Result<(Part<'a>, Option<&'a Value>), Stop<'a>> {
+    let Due { step, ty, default } = due;
+    match node_of(ty, tag) {
+        Some(node) => Ok((
+            Part {
+                step,
+                ty,
+                node,
+                tag,
+            },
+            default,
+        )),
+        None => Err(Stop::outside(Refusal::Identifier, at, Reason::NotDue(tag))),
+    }
+}
+
+// A segment of the string.
+fn segment_of<'a>(string: &Part<'a>, tag: Tag) -> Part<'a> {
+    Part {
+        step: Step::Whole,
+        ty: string.node,
+        node: string.node,
+        tag,
+    }
+}
+
+// Why an identifier is refused where a segment must stand.
+fn segment_refused(
+    kind: Kind,
+    tag: Tag,
+    constructed: bool,
+    is_bits_end: bool,
+) -> Option<(Refusal, &'static str)> {
+    if tag == Tag::universal(0) && !constructed {
+        return Some((
+            Refusal::EndOfContents,
+            "00 stands where a segment must begin",
+        ));
+    }
+    if tag != segment_tag(kind) {
+        let words = match kind {
+            Kind::Bits => "a segment of a BIT STRING, [UNIVERSAL 3], must stand here",
+            Kind::Octets => "a segment, [UNIVERSAL 4], must stand here",
+        };
+        return Some((Refusal::Identifier, words));
+    }
+    if is_bits_end {
+        return Some((
+            Refusal::Contents,
+            "the segment before this one has unused bits",
+        ));
+    }
+    None
+}
+
+// Why no part that may come begins with the tag.
+fn why_not_due<'a>(refusal: Refusal, tag: Tag, missing: Option<&'a str>) -> Reason<'a> {
+    match (refusal, missing) {
+        (Refusal::Missing, Some(name)) => Reason::Absent(name),
+        (Refusal::Repeated, _) => Reason::Words("the component has come already"),
+        (Refusal::EndOfContents, _) => Reason::Words("00 stands where a part must begin"),
+        (Refusal::NoMemory, _) => Reason::Words("memory ran out"),
+        (_, _) => Reason::NotDue(tag),
+    }
+}

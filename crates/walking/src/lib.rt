@@ -1,0 +1,32 @@
+//! An encoding, walked along its type from one identifier to the next.
+//!
+//! A reader has found the end of the encoding, or refused it. The walk tells where each identifier stands, which part
+//! of the type it begins, what is not canonical there, and, where the reader refused, at which octet and for what
+//! reason. Nothing is known here of files and of lines that are printed.
+#![tactic(auto)]
+
+mod due;
+mod judging;
+mod line;
+mod note;
+mod noting;
+mod open;
+mod opening;
+mod order;
+mod part;
+mod reason;
+mod showing;
+mod stop;
+mod taking;
+mod times;
+mod type_names;
+mod walk;
+
+pub use line::{Line, What};
+pub use note::Note;
+pub use part::{Part, Step};
+pub use reason::Reason;
+pub use showing::show_leaf;
+pub use stop::Stop;
+pub use type_names::{PrintedTag, name_of};
+pub use walk::Walk;

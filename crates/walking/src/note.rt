@@ -1,0 +1,50 @@
+//! What is not canonical in an encoding that BER takes (X.690 clauses 9 to 11).
+
+/// What is not canonical at an identifier.
+#[derive(Clone, Copy, Debug, PartialEq, Eq)]
+pub enum Note {
+    /// Length octets that could be fewer (9.1, 10.1).
+    LongLength,
+    /// The indefinite form, against DER (10.1).
+    Indefinite,
+    /// The definite form of a constructed encoding, against CER (9.1).
+    Definite,
+    /// A string in segments, against DER (10.2), or under CER one of at most 1,000 octets (9.2).
+    Segments,
+    /// A string of more than 1,000 octets in one piece, against CER (9.2).
+    OnePiece,
+    /// A segment of another size than CER's (9.2).
+    SegmentSize,
+    /// TRUE that is not FF (11.1).
+    True,
+    /// Unused bits that are not 0 (11.2.1).
+    UnusedBits,
+    /// Bits 0 at the end of a BIT STRING with named bits (11.2.2).
+    TrailingZeros,
+    /// A default that is spelt out (11.5).
+    Default,
+    /// A component of a SET before one whose tag is less (9.3, 10.3).
+    SetOrder,
+    /// An item of a SET OF that is less than the one before it (11.6).
+    ItemOrder,
+}
+
+impl Note {
+    /// The note in words.
+    pub fn words(self) -> &'static str {
+        match self {
+            Note::LongLength => "more length octets than needed",
+            Note::Indefinite => "the indefinite form",
+            Note::Definite => "the definite form of a constructed encoding",
+            Note::Segments => "a string in segments",
+            Note::OnePiece => "a string of more than 1,000 octets in one piece",
+            Note::SegmentSize => "a segment that does not have 1,000 octets",
+            Note::True => "TRUE is not FF",
+            Note::UnusedBits => "unused bits are not 0",
+            Note::TrailingZeros => "bits 0 at the end of named bits",
+            Note::Default => "the default is spelt out",
+            Note::SetOrder => "a component out of the order of tags",
+            Note::ItemOrder => "an item that is less than the one before it",
+        }
+    }
+}

@@ -1,0 +1,180 @@
+//! What is not canonical at an identifier (X.690 clauses 9 to 11).
+
+use crate::judging::{is_spelt_out, note_of};
+use crate::opening::Opening;
+use crate::order::order_tag;
+use crate::{Note, Part, Walk};
+use contents::{Kind, kind_of};
+use cutting::Ends;
+use octets::NoMemory;
+use strict::Canonical;
+use types::{Ty, Value};
+
+// The contents octets of a full segment under CER (X.690 9.2).
+const FULL_SEGMENT: usize = 1_000;
+
+impl<'a> Walk<'a> {
+    // Whether the part stands out of the order of a SET or a SET OF.
+    pub(crate) fn order_note(
+        &mut self,
+        part: Part<'a>,
+        opening: Opening,
+        rest: &'a [u8],
+    ) -> Option<Note> {
+        let start = self.taken;
+        let rule = self.rule;
+        let octets = self.octets;
+        let top = self.open.last_mut()?;
+        match top.part.node {
+            Ty::Set(_, _) => {
+                let tag = order_tag(rule, part.ty, part.tag);
+                let last = top.last_tag.replace(tag)?;
+                if tag < last {
+                    Some(Note::SetOrder)
+                } else {
+                    None
+                }
+            }
+            Ty::SetOf(_, _) => {
+                let size = size_of(opening, rest);
+                let (from, to) = top.last_item;
+                top.last_item = (start, start.saturating_add(size));
+                let last = octets.get(from..to).unwrap_or(&[]);
+                let item = rest.get(..size).unwrap_or(rest);
+                if item < last {
+                    Some(Note::ItemOrder)
+                } else {
+                    None
+                }
+            }
+            _ => None,
+        }
+    }
+
+    // What is not canonical in the head of a constructed encoding.
+    pub(crate) fn form_notes(&self, node: &Ty, opening: Opening) -> Result<Vec<Note>, NoMemory> {
+        let mut notes = self.length_notes(opening)?;
+        match (self.rule, opening.contents) {
+            (Canonical::Der, None) => notes.push(Note::Indefinite)?,
+            (Canonical::Cer, Some(_)) => notes.push(Note::Definite)?,
+            (Canonical::Der, Some(_)) | (Canonical::Cer, None) => {}
+        }
+        let is_string = kind_of(node).is_some();
+        if is_string && (self.rule == Canonical::Der || self.is_in_string()) {
+            notes.push(Note::Segments)?;
+        }
+        Ok(notes)
+    }
+
+    // Whether there are more length octets than needed.
+    pub(crate) fn length_notes(&self, opening: Opening) -> Result<Vec<Note>, NoMemory> {
+        let mut notes = Vec::new(self.alloc);
+        if let Some(size) = opening.contents {
+            if opening.length > fewest_length_octets(size) {
+                notes.push(Note::LongLength)?;
+            }
+        }
+        Ok(notes)
+    }
+
+    // What is not canonical in a primitive encoding.
+    pub(crate) fn leaf_notes(
+        &self,
+        node: &Ty,
+        default: Option<&Value>,
+        opening: Opening,
+        value: &Value,
+        contents: &[u8],
+    ) -> Result<Vec<Note>, NoMemory> {
+        let mut notes = self.length_notes(opening)?;
+        if self.rule == Canonical::Cer && contents.len() > FULL_SEGMENT && kind_of(node).is_some() {
+            notes.push(Note::OnePiece)?;
+        }
+        if let Some(note) = note_of(self.alloc, value, node, contents)? {
+            notes.push(note)?;
+        }
+        if is_spelt_out(default, value) {
+            notes.push(Note::Default)?;
+        }
+        Ok(notes)
+    }
+
+    // What is not canonical in a segment, behind which these octets stand.
+    pub(crate) fn segment_notes(
+        &self,
+        node: &Ty,
+        opening: Opening,
+        contents: &[u8],
+        later: &[u8],
+    ) -> Result<Vec<Note>, NoMemory> {
+        let mut notes = self.length_notes(opening)?;
+        let Some(top) = self.open.last() else {
+            return Ok(notes);
+        };
+        let is_last = later.starts_with(&[0, 0]);
+        if self.rule == Canonical::Cer {
+            if let Some(note) = cer_size_note(node, top.count == 0, is_last, contents.len()) {
+                notes.push(note)?;
+            }
+        }
+        if let Some(note) = last_bits_note(node, is_last, contents) {
+            notes.push(note)?;
+        }
+        Ok(notes)
+    }
+}
+
+// How many octets an encoding has.
+fn size_of(opening: Opening, octets: &[u8]) -> usize {
+    match opening.contents {
+        Some(size) => opening.head().saturating_add(size),
+        None => match Ends::new().take(octets) {
+            Ok(Some(used)) => used,
+            _ => octets.len(),
+        },
+    }
+}
+
+// How many length octets so many contents octets need.
+fn fewest_length_octets(size: usize) -> usize {
+    if size < 0x80 {
+        1
+    } else if size < 0x100 {
+        2
+    } else if size < 0x1_0000 {
+        3
+    } else {
+        4
+    }
+}
+
+// Whether CER gives a segment another size (X.690 9.2).
+fn cer_size_note(node: &Ty, is_first: bool, is_last: bool, size: usize) -> Option<Note> {
+    let least = match kind_of(node) {
+        Some(Kind::Bits) => 2,
+        _ => 1,
+    };
+    if is_first && is_last {
+        return Some(Note::Segments);
+    }
+    let fits = if is_last {
+        least <= size && size <= FULL_SEGMENT
+    } else {
+        size == FULL_SEGMENT
+    };
+    if fits { None } else { Some(Note::SegmentSize) }
+}
+
+// What is not canonical in the bits at the end of a segment.
+fn last_bits_note(node: &Ty, is_last: bool, contents: &[u8]) -> Option<Note> {
+    let (unused, last) = match contents {
+        [unused, .., last] => (*unused, *last),
+        _ => return None,
+    };
+    let low = if unused < 8 { 1u8 << unused } else { 1 };
+    match node {
+        Ty::Bits(_) | Ty::NamedBits(_, _) if last % low != 0 => Some(Note::UnusedBits),
+        Ty::NamedBits(_, _) if is_last && last / low % 2 == 0 => Some(Note::TrailingZeros),
+        _ => None,
+    }
+}

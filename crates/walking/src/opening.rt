@@ -1,0 +1,126 @@
+//! Length octets, and whether a part may have them.
+
+use crate::walk::behind;
+use crate::{Part, Reason, Stop, Walk};
+use contents::{Extent, can_have_length, kind_of, read_extent, unfit};
+use octets::{Length, read_length};
+use types::{Refusal, Ty};
+use whole::MAX_NESTED;
+
+/// Identifier octets and length octets that have been read.
+#[derive(Clone, Copy, Debug)]
+pub struct Opening {
+    /// Whether the encoding is constructed.
+    pub constructed: bool,
+    /// How many identifier octets there are.
+    pub identifier: usize,
+    /// How many length octets there are.
+    pub length: usize,
+    /// How many contents octets there are; None in the indefinite form.
+    pub contents: Option<usize>,
+}
+
+impl Opening {
+    /// How many octets stand before the contents octets.
+    pub fn head(&self) -> usize {
+        self.identifier.saturating_add(self.length)
+    }
+}
+
+impl<'a> Walk<'a> {
+    // Reads the length octets of a part, behind so many identifier octets.
+    pub(crate) fn opening(
+        &self,
+        part: Part<'a>,
+        constructed: bool,
+        identifier: usize,
+        rest: &[u8],
+    ) -> Result<Opening, Stop<'a>> {
+        if let Some((refusal, reason)) = self.form_refused(part.node, constructed) {
+            return Err(Stop::of(part, refusal, self.taken, reason));
+        }
+        let before = self.taken.saturating_add(identifier);
+        let lengths = behind(rest, identifier);
+        let (length, contents) = match read_extent(
+            constructed,
+            self.end_inside(),
+            before,
+            lengths,
+        ) {
+            Ok(Extent::Definite { octets, used }) => (used, Some(octets)),
+            Ok(Extent::Indefinite { used }) => (used, None),
+            Err(refusal) => return Err(self.length_refused(part, refusal, before, lengths)),
+        };
+        let opening = Opening {
+            constructed,
+            identifier,
+            length,
+            contents,
+        };
+        self.count_refused(part, opening, rest)?;
+        Ok(opening)
+    }
+
+    // Why an encoding of this form is refused.
+    fn form_refused(&self, node: &'a Ty, constructed: bool) -> Option<(Refusal, Reason<'a>)> {
+        let can_be = match (constructed, kind_of(node)) {
+            (true, Some(_)) => true,
+            (_, _) => constructed != node.has_no_parts(),
+        };
+        if !can_be && constructed {
+            return Some((Refusal::Form, Reason::Constructed(node)));
+        }
+        if !can_be {
+            return Some((Refusal::Form, Reason::Primitive(node)));
+        }
+        if constructed && self.open.len() >= MAX_NESTED {
+            let words = "more than 64 constructed encodings nested (the limit is asn1x's own)";
+            return Some((Refusal::TooDeep, Reason::Words(words)));
+        }
+        None
+    }
+
+    // Why the length octets of a part are refused.
+    fn length_refused(
+        &self,
+        part: Part<'a>,
+        refusal: Refusal,
+        at: usize,
+        lengths: &[u8],
+    ) -> Stop<'a> {
+        if refusal == Refusal::TooLong && !self.is_inside_definite() && !self.is_in_string() {
+            if let Length::Definite { octets, .. } = read_length(lengths) {
+                if part.node.has_no_parts() && !can_have_length(part.node, octets) {
+                    return Stop::of(part, unfit(part.node), at, Reason::Count(part.node, octets));
+                }
+            }
+        }
+        let words = match refusal {
+            Refusal::Truncated => "the input ends inside the length octets",
+            Refusal::Form => "a primitive encoding of the indefinite form",
+            Refusal::TooLong => "more than 1,048,576 octets (the limit is asn1x's own)",
+            _ => "malformed length octets, or more than 1,048,576 (the limit is asn1x's own)",
+        };
+        Stop::of(part, refusal, at, Reason::Words(words))
+    }
+
+    // Refuses a primitive encoding whose type cannot have as many contents octets, or that the input cuts.
+    fn count_refused(&self, part: Part<'a>, opening: Opening, rest: &[u8]) -> Result<(), Stop<'a>> {
+        let Some(count) = opening.contents else {
+            return Ok(());
+        };
+        if opening.constructed {
+            return Ok(());
+        }
+        let at = self.taken.saturating_add(opening.identifier);
+        if !self.is_in_string() && !can_have_length(part.node, count) {
+            return Err(Stop::of(part, unfit(part.node), at, Reason::Count(part.node, count)));
+        }
+        let there = rest.len().saturating_sub(opening.head());
+        if count > there {
+            let at = self.taken.saturating_add(rest.len());
+            return Err(Stop::of(part, Refusal::Truncated, at, Reason::Missing(count - there)));
+        }
+        Ok(())
+    }
+}

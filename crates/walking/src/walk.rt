@@ -1,0 +1,246 @@
+//! The walk, from one identifier to the next.
+
+ghost use Rattle.std.specs.Prelude.{◌≤◌};
+
+use crate::judging::{is_string, why_no_value};
+use crate::open::{Held, Open};
+use crate::{Line, Part, Reason, Step, Stop, What};
+use contents::{Joined, OUTSIDE, read_end, read_head_tag, unfit};
+use octets::{MAX_ENCODING, NoMemory, Tag};
+use std::alloc::Global;
+use std::string::String;
+use strict::Canonical;
+use types::{Refusal, Ty, WellTyped};
+use whole::MAX_NESTED;
+
+/// A walk over the octets of one value.
+#[derive(Drop)]
+pub struct Walk<'a> {
+    pub(crate) alloc: Global,
+    pub(crate) ty: &'a Ty,
+    // the rule that says what is canonical
+    pub(crate) rule: Canonical,
+    pub(crate) octets: &'a [u8],
+    // how many of them have been walked over
+    pub(crate) taken: usize,
+    pub(crate) open: Vec<Open<'a>>,
+    // the string whose segments come
+    pub(crate) joined: Joined,
+    pub(crate) is_over: bool,
+}
+
+impl<'a> Walk<'a> {
+    /// A walk over the encoding of a value of the type at the front of the octets. What is not canonical is said by
+    /// the rule. Takes no memory now.
+    pub fn new(alloc: Global, rule: Canonical, ty: &'a WellTyped, octets: &'a [u8]) -> Walk<'a> {
+        Walk {
+            alloc,
+            ty: ty.as_type(),
+            rule,
+            octets,
+            taken: 0,
+            open: Vec::new(alloc),
+            joined: Joined::new(alloc),
+            is_over: false,
+        }
+    }
+
+    /// How many octets have been walked over.
+    pub fn taken(&self) -> usize {
+        self.taken
+    }
+
+    /// Appends the path of the part, which stands in `depth` open encodings: the names of what is around it, and its
+    /// own.
+    pub fn put_path(
+        &self,
+        depth: usize,
+        part: Option<&Part<'a>>,
+        out: &mut String,
+    ) -> Result<(), NoMemory> {
+        for open in self.open.iter().take(depth) {
+            open.part.put_name(out)?;
+        }
+        match part {
+            Some(part) => part.put_name(out),
+            None => Ok(()),
+        }
+    }
+
+    /// How many encodings are open.
+    pub fn depth(&self) -> usize {
+        self.open.len()
+    }
+
+    /// The next identifier, or the end of an indefinite form; None behind the end of the value.
+    pub fn next_line(&mut self) -> Result<Option<Line<'a>>, Stop<'a>> {
+        self.close_definite()?;
+        if self.is_over {
+            return Ok(None);
+        }
+        let rest = behind(self.octets, self.taken);
+        let ended = match self.open.last() {
+            Some(top) => match read_end(top.frame, self.taken, rest) {
+                Ok(ended) => ended,
+                Err(refusal) => return Err(self.no_end(refusal, rest)),
+            },
+            None => None,
+        };
+        match ended {
+            Some(used) => self.end(used),
+            None => match self.part(rest) {
+                Ok(line) => Ok(Some(line)),
+                Err(stop) => Err(stop.named(self.is_inside_definite())),
+            },
+        }
+    }
+
+    // Why the end of an indefinite form is none.
+    fn no_end(&self, refusal: Refusal, rest: &[u8]) -> Stop<'a> {
+        let at = self.taken.saturating_add(rest.len().min(1));
+        let words = match refusal {
+            Refusal::Truncated => "the input ends before the end-of-contents octets",
+            _ =>
+                "00 begins end-of-contents octets, and these are not 00 00, or not where they may end",
+        };
+        Stop::outside(refusal, at, Reason::Words(words))
+    }
+
+    // Closes the encodings of the definite form that end here.
+    fn close_definite(&mut self) -> Result<(), Stop<'a>> {
+        for _ in 0..=MAX_NESTED {
+            let Some(top) = self.open.last() else {
+                return Ok(());
+            };
+            if !top.frame.definite || top.frame.end != self.taken {
+                return Ok(());
+            }
+            self.close()?;
+        }
+        Ok(())
+    }
+
+    // Takes the end-of-contents octets of the innermost open encoding.
+    fn end(&mut self, used: usize) -> Result<Option<Line<'a>>, Stop<'a>> {
+        let Some(top) = self.open.last() else {
+            return Ok(None);
+        };
+        let line = Line {
+            at: self.taken,
+            depth: self.open.len(),
+            head: used,
+            contents: Some(0),
+            part: Part {
+                step: Step::Whole,
+                ty: top.part.node,
+                node: top.part.node,
+                tag: Tag::universal(0),
+            },
+            what: What::End,
+            notes: Vec::new(self.alloc),
+        };
+        self.close()?;
+        self.taken = self.taken.saturating_add(used);
+        Ok(Some(line))
+    }
+
+    // Closes the innermost open encoding.
+    fn close(&mut self) -> Result<(), Stop<'a>> {
+        let at = self.taken;
+        let Some(open) = self.open.pop() else {
+            return Ok(());
+        };
+        if self.open.is_empty() {
+            self.is_over = true;
+        }
+        let missing = open.missing();
+        let part = open.part;
+        let definite = open.frame.definite;
+        match open.held {
+            Held::Segments(_) => self.close_string(part),
+            Held::Parts(holding) => match holding.into_value(definite, false) {
+                Ok(_) => Ok(()),
+                Err(refusal) => Err(Stop::of(part, refusal, at, why_not_closed(missing))),
+            },
+        }
+    }
+
+    // Judges a string whose segments have come, once the outermost of them ends.
+    fn close_string(&mut self, part: Part<'a>) -> Result<(), Stop<'a>> {
+        if self.is_in_string() {
+            return Ok(());
+        }
+        let octets = std::mem::replace(&mut self.joined.octets, Vec::new(self.alloc));
+        self.joined.unused = 0;
+        if is_string(part.node, octets.as_slice()) {
+            return Ok(());
+        }
+        let (_, reason) = why_no_value(part.node, octets.as_slice());
+        Err(Stop::of(part, unfit(part.node), self.taken, reason))
+    }
+
+    // Whether the innermost open encoding is a string's.
+    pub(crate) fn is_in_string(&self) -> bool {
+        match self.open.last() {
+            Some(top) => matches!(top.held, Held::Segments(_)),
+            None => false,
+        }
+    }
+
+    pub(crate) fn is_inside_definite(&self) -> bool {
+        self.open.iter().any(|open| open.frame.definite)
+    }
+
+    // Where what holds the next part ends.
+    pub(crate) fn end_inside(&self) -> usize
+        ensures { result ≤ MAX_ENCODING }
+    {
+        let end = match self.open.last() {
+            Some(top) => top.frame.end,
+            None => OUTSIDE.end,
+        };
+        end.min(MAX_ENCODING)
+    }
+
+    // Takes the part whose identifier stands at the front.
+    fn part(&mut self, rest: &'a [u8]) -> Result<Line<'a>, Stop<'a>> {
+        let (tag, constructed, identifier) = match read_head_tag(
+            self.end_inside(),
+            self.taken,
+            rest,
+        ) {
+            Ok(read) => read,
+            Err(refusal) => return Err(self.no_identifier(refusal)),
+        };
+        let (part, default) = self.due(tag, constructed)?;
+        let opening = self.opening(part, constructed, identifier, rest)?;
+        if opening.constructed {
+            self.open_part(part, default, opening, rest)
+        } else {
+            self.leaf(part, default, opening, rest)
+        }
+    }
+
+    fn no_identifier(&self, refusal: Refusal) -> Stop<'a> {
+        let words = match refusal {
+            Refusal::Truncated => "the input ends where an identifier must stand",
+            Refusal::TooLong => "more than 1,048,576 octets (the limit is asn1x's own)",
+            _ =>
+                "malformed identifier octets, or a tag number above 268,435,455 (the limit is asn1x's own)",
+        };
+        Stop::outside(refusal, self.taken, Reason::Words(words))
+    }
+}
+
+// Why an encoding with parts cannot end.
+fn why_not_closed<'a>(missing: Option<&'a str>) -> Reason<'a> {
+    match missing {
+        Some(name) => Reason::Absent(name),
+        None => Reason::Words("nothing stands in an explicit tag"),
+    }
+}
+
+// The octets behind so many.
+pub fn behind(octets: &[u8], count: usize) -> &[u8] {
+    octets.get(count..).unwrap_or(&[])
+}
