@@ -1,0 +1,55 @@
+#!/usr/bin/env python3
+"""Writes the table of crates/view/src/refusal_pages.rt anew from the sections of docs/REFUSALS.md.
+
+    bench/refusal_pages.py [--check]
+
+With --check it writes nothing, and ends with status 1 where the table is another one. It runs from anywhere.
+"""
+
+import pathlib
+import re
+import sys
+
+TOP = pathlib.Path(__file__).resolve().parent.parent
+TABLE = TOP / "crates/view/src/refusal_pages.rt"
+
+
+def sections(text):
+    """Yields number, name, what is said and the examples of each section."""
+    for part in re.split(r"^### ", text, flags=re.M)[1:]:
+        head, _, body = part.partition("\n")
+        found = re.fullmatch(r"(\d+) (\w+)", head.strip())
+        if not found:
+            continue
+        body = re.split(r"^(?:#|\*\*|\|)", body, maxsplit=1, flags=re.M)[0]
+        said, _, examples = body.partition("Example")
+        examples = re.sub(r"^s?: ", "", examples)
+        plain = [" ".join(it.replace("`", "").split()) for it in (said, examples)]
+        yield int(found[1]), found[2], *plain
+
+
+def quoted(text):
+    return '"' + text.replace("\\", "\\\\").replace('"', '\\"') + '"'
+
+
+def main():
+    rows = list(sections((TOP / "docs/REFUSALS.md").read_text(encoding="utf-8")))
+    lines = [f"pub const PAGES: [Page; {len(rows)}] = [\n"]
+    for number, name, says, example in rows:
+        lines.append(
+            f"    Page {{\n        number: {number},\n        name: {quoted(name)},\n        says: {quoted(says)},\n"
+            f"        example: {quoted(example)},\n    }},\n"
+        )
+    lines.append("];\n")
+    was = TABLE.read_text(encoding="utf-8")
+    now = re.sub(r"pub const PAGES: .*?^\];\n", lambda _: "".join(lines), was, flags=re.M | re.S)
+    if "--check" not in sys.argv[1:]:
+        TABLE.write_text(now, encoding="utf-8")
+    elif now != was:
+        print("refusal_pages: the table of refusal_pages.rt is another one than docs/REFUSALS.md says", file=sys.stderr)
+        return 1
+    print(f"{len(rows)} pages")
+    return 0
+
+
+sys.exit(main())

@@ -1,0 +1,62 @@
+//! The line of a module's fault.
+
+use crate::module_fault::words_of_fault;
+use convert::fault_name;
+use lexis::Fault;
+use octets::NoMemory;
+use program::PrintedPath;
+use std::alloc::Global;
+use std::string::String;
+
+/// Where the lines of faults go.
+#[derive(Drop)]
+pub struct FaultLine<'a, 'b> {
+    /// The module's file.
+    pub path: &'a str,
+    /// The lines.
+    pub out: &'b mut String,
+    /// How many there are.
+    pub count: usize,
+}
+
+impl FaultLine<'_, '_> {
+    /// Appends the line of a fault: its place, its number and its name, the token or the name that it is of, and what is
+    /// known of it.
+    pub fn put(
+        &mut self,
+        line: u32,
+        column: u32,
+        number: u32,
+        subject: &str,
+        words: &str,
+    ) -> Result<(), NoMemory> {
+        let path = PrintedPath(self.path);
+        let name = fault_name(number);
+        let colon = if subject.is_empty() { "" } else { ": " };
+        write!(
+            self.out,
+            "{path}:{line}:{column}: refused {number} {name}: {subject}{colon}{words}\n"
+        )?;
+        self.count = self.count.saturating_add(1);
+        Ok(())
+    }
+
+    /// Appends the line of a fault, with what its number says, and what more is known.
+    pub fn put_number(
+        &mut self,
+        alloc: Global,
+        fault: Fault,
+        subject: &str,
+        more: &str,
+    ) -> Result<(), NoMemory> {
+        let words = words_of_fault(fault.number);
+        let words = format!(in alloc; "{words}{more}")?;
+        self.put(
+            fault.line,
+            fault.column,
+            fault.number,
+            subject,
+            words.as_str(),
+        )
+    }
+}

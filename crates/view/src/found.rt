@@ -1,0 +1,93 @@
+//! Where the octets of a value are refused, and why.
+
+use crate::printing::{Style, put_line};
+use octets::NoMemory;
+use std::alloc::Global;
+use std::string::String;
+use types::{Refusal, WellTyped};
+use walking::{Line, Stop, Walk};
+
+/// Where and why octets are refused.
+#[derive(Debug, Drop)]
+pub struct Found {
+    /// How many octets of the value stand before the fault.
+    pub at: usize,
+    /// The path of the part in which it stands.
+    pub path: String,
+    /// Why it is refused, in words.
+    pub reason: String,
+}
+
+/// Appends a line for each identifier of a value, before which `base` octets of the input stand. Of octets that are
+/// refused these are the lines up to the fault.
+pub fn put_lines(
+    alloc: Global,
+    ty: &WellTyped,
+    octets: &[u8],
+    base: u64,
+    style: &Style<'_>,
+    before: String,
+) -> Result<String, NoMemory> {
+    let mut text = before;
+    let mut walk = Walk::new(alloc, style.rule, ty, octets);
+    for _ in 0..=octets.len() {
+        match walk.next_line() {
+            Ok(Some(line)) => text = put_line(alloc, &walk, base, line, style, text)?,
+            Ok(None) | Err(_) => return Ok(text),
+        }
+    }
+    Ok(text)
+}
+
+/// Where and why these octets are refused: where the refusal says that they are not canonical, at the first place that
+/// is not.
+pub fn find(
+    alloc: Global,
+    ty: &WellTyped,
+    octets: &[u8],
+    refusal: Refusal,
+    style: &Style<'_>,
+) -> Result<Option<Found>, NoMemory> {
+    let mut walk = Walk::new(alloc, style.rule, ty, octets);
+    for _ in 0..=octets.len() {
+        match walk.next_line() {
+            Ok(Some(line)) => {
+                if refusal == Refusal::NotCanonical && !line.notes.is_empty() {
+                    return of_note(alloc, &walk, &line, style);
+                }
+            }
+            Ok(None) => return Ok(None),
+            Err(stop) => return of_stop(alloc, &walk, &stop),
+        }
+    }
+    Ok(None)
+}
+
+// The place of what is not canonical.
+fn of_note(
+    alloc: Global,
+    walk: &Walk<'_>,
+    line: &Line<'_>,
+    style: &Style<'_>,
+) -> Result<Option<Found>, NoMemory> {
+    let Some(note) = line.notes.first() else {
+        return Ok(None);
+    };
+    let mut path = String::new(alloc);
+    walk.put_path(line.depth, Some(&line.part), &mut path)?;
+    let rule = style.rule_word();
+    let words = note.words();
+    let reason = format!(in alloc; "not {rule}: {words}")?;
+    let at = line.at;
+    Ok(Some(Found { at, path, reason }))
+}
+
+// The place where a walk stops.
+fn of_stop(alloc: Global, walk: &Walk<'_>, stop: &Stop<'_>) -> Result<Option<Found>, NoMemory> {
+    let mut path = String::new(alloc);
+    walk.put_path(walk.depth(), stop.part.as_ref(), &mut path)?;
+    let reason = stop.reason;
+    let reason = format!(in alloc; "{reason}")?;
+    let at = stop.at;
+    Ok(Some(Found { at, path, reason }))
+}

@@ -1,0 +1,33 @@
+//! The program `asn1x-view`, but for what only a process can do: its command line, and its lines for people.
+#![tactic(auto)]
+
+mod assigned_lines;
+mod command_line;
+mod commands;
+mod cut_files;
+mod expected;
+mod fault;
+mod fault_line;
+mod file_system;
+mod files;
+mod found;
+mod json_text;
+mod module_fault;
+mod module_faults;
+mod module_runs;
+mod module_text;
+mod module_type;
+mod printing;
+mod refusal_pages;
+mod running;
+mod showing_files;
+mod type_lines;
+mod value_lines;
+mod values;
+mod words;
+
+pub use command_line::{Form, Line, Reading, Task, Wanted};
+pub use file_system::FileSystem;
+pub use program::LineFault;
+pub use running::run;
+pub use words::{line, no_words};

@@ -1,0 +1,100 @@
+//! `module`: all faults of a module that can be told apart.
+//!
+//! The text is cut at its assignments, and each is parsed by itself, so that one fault does not hide the next.
+
+use crate::fault_line::FaultLine;
+use crate::module_text::ModuleText;
+use lexis::{Fault, MAX_TEXT, tokens};
+use notation::{parse, resolve};
+use octets::NoMemory;
+use simdutf8::basic::from_utf8;
+use std::alloc::Global;
+use std::string::String;
+
+// The most names that are resolved.
+const MOST_RESOLVED: usize = 1_000;
+
+/// Appends a line for each fault of a module's file, and returns how many there are.
+pub fn put_faults(
+    alloc: Global,
+    path: &str,
+    octets: &[u8],
+    out: &mut String,
+) -> Result<usize, NoMemory> {
+    let mut lines = FaultLine {
+        path,
+        out,
+        count: 0,
+    };
+    if octets.len() > MAX_TEXT {
+        lines.put(
+            1,
+            1,
+            31,
+            "",
+            "the file has more than 262,144 octets (the limit is asn1x's own)",
+        )?;
+        return Ok(lines.count);
+    }
+    let Ok(text) = from_utf8(octets) else {
+        lines.put(1, 1, 21, "", "the file is not UTF-8")?;
+        return Ok(lines.count);
+    };
+    let found = match tokens(alloc, text) {
+        Ok(found) => found,
+        Err(fault) => {
+            lines.put_number(
+                alloc,
+                fault,
+                "",
+                ", and what stands behind it is not looked at",
+            )?;
+            return Ok(lines.count);
+        }
+    };
+    let module = ModuleText::new(alloc, octets, found)?;
+    put_parts(alloc, &module, &mut lines)?;
+    module.put_names(alloc, &mut lines)?;
+    if lines.count == 0 {
+        put_unresolved(alloc, text, &mut lines)?;
+    }
+    Ok(lines.count)
+}
+
+// The faults of the parts of a module, each by itself.
+fn put_parts(
+    alloc: Global,
+    module: &ModuleText<'_>,
+    lines: &mut FaultLine<'_, '_>,
+) -> Result<(), NoMemory> {
+    for part in module.parts.iter() {
+        let text = module.text_of(alloc, part)?;
+        match parse(alloc, text.as_str()) {
+            Ok(_) => {}
+            Err(Fault { number: 33, .. }) => return Err(NoMemory),
+            Err(fault) => module.put_fault(alloc, part, fault, lines)?,
+        }
+    }
+    Ok(())
+}
+
+// The faults of the names of a module whose text has none.
+fn put_unresolved(
+    alloc: Global,
+    text: &str,
+    lines: &mut FaultLine<'_, '_>,
+) -> Result<(), NoMemory> {
+    let module = match parse(alloc, text) {
+        Ok(module) => module,
+        Err(fault) => return lines.put_number(alloc, fault, "", ""),
+    };
+    for assignment in module.assignments.iter().take(MOST_RESOLVED) {
+        let name = assignment.name.as_str();
+        match resolve(alloc, &module, name) {
+            Ok(_) => {}
+            Err(Fault { number: 33, .. }) => return Err(NoMemory),
+            Err(fault) => lines.put_number(alloc, fault, name, "")?,
+        }
+    }
+    Ok(())
+}

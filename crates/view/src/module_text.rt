@@ -1,0 +1,252 @@
+//! The text of a module, cut at its assignments.
+
+use crate::expected::{expected_behind, what_to_do};
+use crate::fault_line::FaultLine;
+use lexis::{Fault, Kind, Token};
+use octets::NoMemory;
+use simdutf8::basic::from_utf8;
+use std::alloc::Global;
+use std::string::String;
+
+/// A text and its parts.
+#[derive(Drop)]
+pub struct ModuleText<'a> {
+    octets: &'a [u8],
+    tokens: Vec<Token>,
+    /// The header, what stands before the first assignment, and each assignment.
+    pub parts: Vec<Part>,
+}
+
+/// A part of a text.
+#[derive(Clone, Copy, Debug)]
+pub struct Part {
+    /// Whether it is the header, which has its own BEGIN.
+    pub is_header: bool,
+    /// Its first token.
+    pub first: usize,
+    /// The token behind its last one.
+    pub end: usize,
+    /// The line of its first octet, counted from 1.
+    pub line: u32,
+    /// The column of its first octet, counted from 1.
+    pub column: u32,
+}
+
+impl<'a> ModuleText<'a> {
+    /// The text with its parts.
+    pub fn new(
+        alloc: Global,
+        octets: &'a [u8],
+        tokens: Vec<Token>,
+    ) -> Result<ModuleText<'a>, NoMemory> {
+        let mut module = ModuleText {
+            octets,
+            tokens,
+            parts: Vec::new(alloc),
+        };
+        module.cut()?;
+        Ok(module)
+    }
+
+    // Finds the parts.
+    fn cut(&mut self) -> Result<(), NoMemory> {
+        let mut place = Place::new();
+        let mut part = Part {
+            is_header: true,
+            first: 0,
+            end: 0,
+            line: 1,
+            column: 1,
+        };
+        let last = self.tokens.len().saturating_sub(1);
+        for which in 0..self.tokens.len() {
+            let token = self.tokens[which];
+            let is_new = if part.is_header {
+                which > 0 && self.spelling(which - 1) == "BEGIN"
+            } else {
+                self.is_assigned(which) || (which == last && self.spelling(which) == "END")
+            };
+            if is_new {
+                part.end = which;
+                self.parts.push(part)?;
+                place.go_to(self.octets, token.start);
+                part = Part {
+                    is_header: false,
+                    first: which,
+                    end: which,
+                    line: place.line,
+                    column: place.column,
+                };
+            }
+        }
+        part.end = self.tokens.len();
+        self.parts.push(part)?;
+        Ok(())
+    }
+
+    // Whether the token is a name that is assigned.
+    fn is_assigned(&self, which: usize) -> bool {
+        let Some(token) = self.tokens.get(which) else {
+            return false;
+        };
+        token.kind == Kind::TypeName && self.spelling(which.saturating_add(1)) == "::="
+    }
+
+    // How a token is spelled; empty where there is none.
+    fn spelling(&self, which: usize) -> &'a str {
+        let Some(token) = self.tokens.get(which) else {
+            return "";
+        };
+        let octets = self.octets.get(token.start..token.end).unwrap_or(&[]);
+        from_utf8(octets).unwrap_or("")
+    }
+
+    /// The part as a module by itself.
+    pub fn text_of(&self, alloc: Global, part: &Part) -> Result<String, NoMemory> {
+        let mut text = String::new(alloc);
+        if !part.is_header {
+            text.push_str("M DEFINITIONS ::= BEGIN\n")?;
+        }
+        let start = match self.tokens.get(part.first) {
+            Some(token) if !part.is_header => token.start,
+            _ => 0,
+        };
+        let end = match self.tokens.get(part.end.saturating_sub(1)) {
+            Some(token) => token.end,
+            None => self.octets.len(),
+        };
+        let octets = self.octets.get(start..end).unwrap_or(&[]);
+        text.push_str(from_utf8(octets).unwrap_or(""))?;
+        if self.spelling(part.end.saturating_sub(1)) != "END" {
+            text.push_str("\nEND")?;
+        }
+        Ok(text)
+    }
+
+    /// Appends the line of a fault of a part, which was parsed by itself.
+    pub fn put_fault(
+        &self,
+        alloc: Global,
+        part: &Part,
+        fault: Fault,
+        lines: &mut FaultLine<'_, '_>,
+    ) -> Result<(), NoMemory> {
+        let (line, column) = if part.is_header {
+            (fault.line, fault.column)
+        } else {
+            let line = part.line.saturating_add(fault.line.saturating_sub(2));
+            let column = if fault.line == 2 {
+                part.column.saturating_add(fault.column.saturating_sub(1))
+            } else {
+                fault.column
+            };
+            (line, column)
+        };
+        let which = self.token_at(part, line, column);
+        let spelling = self.spelling(which);
+        let behind = if which == 0 {
+            ""
+        } else {
+            self.spelling(which - 1)
+        };
+        let expected = expected_behind(behind);
+        let advice = what_to_do(fault.number, spelling);
+        let words = format!(in alloc; "{expected} could stand here{advice}")?;
+        lines.put(line, column, fault.number, spelling, words.as_str())
+    }
+
+    /// Appends a line for each name that is assigned twice, and for each that stands in a type and is not assigned.
+    pub fn put_names(&self, alloc: Global, lines: &mut FaultLine<'_, '_>) -> Result<(), NoMemory> {
+        let mut assigned = self.assigned(alloc)?;
+        assigned.sort()?;
+        let mut place = Place::new();
+        for which in 1..self.tokens.len() {
+            let token = self.tokens[which];
+            if token.kind != Kind::TypeName {
+                continue;
+            }
+            let name = self.spelling(which);
+            let first = assigned.partition_point(|(other, _)| *other < name);
+            let words = match assigned.get(first) {
+                Some((other, at)) if *other == name => {
+                    if !self.is_assigned(which) || *at == which {
+                        continue;
+                    }
+                    "the name is assigned already"
+                }
+                _ => "no type has this name in the module",
+            };
+            let number = if self.is_assigned(which) { 26 } else { 24 };
+            place.go_to(self.octets, token.start);
+            lines.put(place.line, place.column, number, name, words)?;
+        }
+        Ok(())
+    }
+
+    // The names that are assigned, with the tokens that they are.
+    fn assigned(&self, alloc: Global) -> Result<Vec<(&'a str, usize)>, NoMemory> {
+        let mut assigned = Vec::new(alloc);
+        for which in 1..self.tokens.len() {
+            if self.is_assigned(which) {
+                assigned.push((self.spelling(which), which))?;
+            }
+        }
+        Ok(assigned)
+    }
+
+    // The token of the part that stands at a line and a column, or the one behind the part.
+    fn token_at(&self, part: &Part, line: u32, column: u32) -> usize {
+        let mut place = Place::new();
+        if let Some(token) = self.tokens.get(part.first) {
+            place = Place {
+                at: token.start,
+                line: part.line,
+                column: part.column,
+            };
+        }
+        if part.is_header {
+            place = Place::new();
+        }
+        for which in part.first..part.end {
+            let Some(token) = self.tokens.get(which) else {
+                return which;
+            };
+            place.go_to(self.octets, token.start);
+            if place.line > line || (place.line == line && place.column >= column) {
+                return which;
+            }
+        }
+        part.end
+    }
+}
+
+// A place in a text, which goes forward.
+#[derive(Clone, Copy)]
+struct Place {
+    at: usize,
+    line: u32,
+    column: u32,
+}
+
+impl Place {
+    fn new() -> Place {
+        Place {
+            at: 0,
+            line: 1,
+            column: 1,
+        }
+    }
+
+    // Goes forward to an octet.
+    fn go_to(&mut self, octets: &[u8], at: usize) {
+        for octet in octets.get(self.at..at).unwrap_or(&[]) {
+            if *octet == b'\n' {
+                self.line = self.line.saturating_add(1);
+                self.column = 1;
+            } else {
+                self.column = self.column.saturating_add(1);
+            }
+        }
+        self.at = self.at.max(at);
+    }
+}

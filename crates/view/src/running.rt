@@ -1,0 +1,80 @@
+//! The program once its words are judged.
+
+use crate::cut_files::cut;
+use crate::module_runs::{show_faults, show_types};
+use crate::module_type::{print_no_type, type_of};
+use crate::refusal_pages::show_pages;
+use crate::showing_files::Showing;
+use crate::{FileSystem, Form, Line, Reading, Task};
+use std::alloc::Global;
+use std::io::{BufWriter, Write};
+
+/// Does what a command line asks, and returns the exit status. Results go to `out`, one line for each fault to `err`.
+pub fn run<D: FileSystem, W: Write + Drop, E: Write>(
+    alloc: Global,
+    line: &Line,
+    file_system: &D,
+    out: W,
+    err: &mut E,
+) -> u8 {
+    let Ok(mut out) = BufWriter::new(alloc, out) else {
+        return 4;
+    };
+    let status = perform(alloc, line, file_system, &mut out, err);
+    let _ = out.flush();
+    status
+}
+
+// Does what is asked, and returns the exit status.
+fn perform<D: FileSystem, W: Write, E: Write>(
+    alloc: Global,
+    line: &Line,
+    file_system: &D,
+    out: &mut W,
+    err: &mut E,
+) -> u8 {
+    match &line.task {
+        Task::Show(reading, form) => show(alloc, file_system, reading, *form, out, err),
+        Task::Types { module, name } => {
+            let name = name.as_ref().map(|name| name.as_str());
+            show_types(alloc, file_system, module.as_str(), name, out, err)
+        }
+        Task::Module(path) => show_faults(alloc, file_system, path.as_str(), out, err),
+        Task::Refusal(number) => show_pages(*number, out, err),
+        Task::Cut {
+            input,
+            least,
+            prefix,
+        } => cut(
+            alloc,
+            file_system,
+            input.as_str(),
+            *least,
+            prefix.as_str(),
+            err,
+        ),
+    }
+}
+
+// Prints the values of files.
+fn show<D: FileSystem, W: Write, E: Write>(
+    alloc: Global,
+    file_system: &D,
+    reading: &Reading,
+    form: Form,
+    out: &mut W,
+    err: &mut E,
+) -> u8 {
+    let (module, name) = (reading.module.as_str(), reading.name.as_str());
+    match type_of(alloc, file_system, module, name) {
+        Ok(ty) => Showing {
+            alloc,
+            file_system,
+            ty: &ty,
+            reading,
+            form,
+        }
+        .show_all(out, err),
+        Err(fault) => print_no_type(module, name, &fault, err),
+    }
+}

@@ -1,0 +1,152 @@
+//! The values of files, one file after another.
+
+use crate::fault::Fault;
+use crate::files::read_values;
+use crate::found::find;
+use crate::printing::Style;
+use crate::value_lines::ValueLines;
+use crate::values::Values;
+use crate::{FileSystem, Form, Reading};
+use engine::{Canonical, Rule};
+use program::PrintedPath;
+use std::alloc::Global;
+use std::io::Write;
+use std::string::String;
+use types::{Refusal, WellTyped};
+
+/// What the values of all files are printed by.
+#[derive(Drop)]
+pub struct Showing<'a, D> {
+    pub alloc: Global,
+    pub file_system: &'a D,
+    pub ty: &'a WellTyped,
+    pub reading: &'a Reading,
+    pub form: Form,
+}
+
+impl<D: FileSystem> Showing<'_, D> {
+    /// Prints the values of each file, and why one is refused. Returns the worst exit status.
+    pub fn show_all<W: Write, E: Write>(&self, out: &mut W, err: &mut E) -> u8 {
+        let mut status = 0u8;
+        for path in &self.reading.inputs {
+            match self.show_file(path.as_str(), out, err) {
+                Ok(()) => {}
+                Err(Fault::Output) => return status,
+                Err(fault) => {
+                    fault.print(path.as_str(), err);
+                    status = status.max(fault.status());
+                }
+            }
+        }
+        status
+    }
+
+    // Prints the values of one file.
+    fn show_file<W: Write, E: Write>(
+        &self,
+        path: &str,
+        out: &mut W,
+        err: &mut E,
+    ) -> Result<(), Fault> {
+        let Ok(mut input) = self.file_system.open(path) else {
+            return Err(Fault::CannotRead);
+        };
+        let mut values = Values::new(self.alloc, self.reading.from, self.ty);
+        let mut lines = self.lines(out);
+        let hex = self.reading.hex;
+        let read = read_values(self.alloc, &mut input, hex, &mut values, &mut lines);
+        if let Form::Octets(wanted) = self.form {
+            if matches!(read, Err(Fault::Refused(_))) {
+                lines.print_octets(wanted, values.begun(), values.at())?;
+            }
+        }
+        if lines.out.flush().is_err() {
+            return Err(Fault::Output);
+        }
+        match read {
+            Err(Fault::Refused(refusal)) => {
+                self.print_refused(path, &values, refusal, err)?;
+                Err(Fault::Refused(refusal))
+            }
+            other => other,
+        }
+    }
+
+    fn lines<'b, W>(&'b self, out: &'b mut W) -> ValueLines<'b, W> {
+        ValueLines {
+            alloc: self.alloc,
+            ty: self.ty,
+            style: self.style(),
+            form: self.form,
+            out,
+            done: 0,
+            text: String::new(self.alloc),
+        }
+    }
+
+    fn style(&self) -> Style<'_> {
+        let wide = match self.form {
+            Form::Octets(wanted) => wanted.wide,
+            Form::Json { .. } => true,
+        };
+        Style {
+            name: self.reading.name.as_str(),
+            rule: canonical_of(self.reading.from),
+            wide,
+        }
+    }
+
+    // Prints where and why the octets of a value are refused.
+    fn print_refused<E: Write>(
+        &self,
+        path: &str,
+        values: &Values<'_>,
+        refusal: Refusal,
+        err: &mut E,
+    ) -> Result<(), Fault> {
+        let found = find(self.alloc, self.ty, values.begun(), refusal, &self.style())?;
+        let at = values.at();
+        match found {
+            None => {
+                let name = self.reading.name.as_str();
+                put_refused(path, at, name, refusal, "no place of it is known", err);
+            }
+            Some(found) => {
+                let at = at.saturating_add(found.at as u64);
+                let name = self.reading.name.as_str();
+                let place = found.path.as_str();
+                let reason = found.reason.as_str();
+                if place.is_empty() {
+                    put_refused(path, at, name, refusal, reason, err);
+                } else {
+                    put_refused(path, at, place, refusal, reason, err);
+                }
+            }
+        }
+        Ok(())
+    }
+}
+
+// Prints the line of a refusal: the file, the octet, the part, the number and the name, and the reason.
+fn put_refused<E: Write>(
+    path: &str,
+    at: u64,
+    place: &str,
+    refusal: Refusal,
+    reason: &str,
+    err: &mut E,
+) {
+    let path = PrintedPath(path);
+    let _ = writeln!(
+        err,
+        "{path}: octet {at}: {place}: refused {refusal}: {reason}"
+    );
+}
+
+// The rule that says what is not canonical where octets are read by this one.
+fn canonical_of(from: Rule) -> Canonical {
+    match from {
+        Rule::Cer => Canonical::Cer,
+        Rule::Ber | Rule::Der => Canonical::Der,
+    }
+}

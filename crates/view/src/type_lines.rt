@@ -1,0 +1,212 @@
+//! A type with all tags resolved, a line for each part.
+
+use octets::NoMemory;
+use primitives::Bits;
+use std::alloc::Global;
+use std::string::String;
+use types::{Field, Item, NamedBit, Presence, Ty, Value};
+use walking::{PrintedTag, name_of, show_leaf};
+
+/// How many levels and nodes a type has.
+#[derive(Clone, Copy, Debug, PartialEq, Eq)]
+pub struct Size {
+    /// The types in it, itself counted.
+    pub nodes: usize,
+    /// The constructed encodings that nest in its encodings, those of strings not counted.
+    pub levels: usize,
+}
+
+/// Appends the lines of a type, each part under what holds it, and returns its size. `name` stands before the first.
+#[cycle(type_lines)]
+pub fn put_type(
+    alloc: Global,
+    ty: &Ty,
+    name: &str,
+    behind: &str,
+    level: usize,
+    out: &mut String,
+) -> Result<Size, NoMemory> {
+    put_head(ty, name, behind, level, out)?;
+    match ty {
+        Ty::Sequence(_, fields) | Ty::Set(_, fields) => put_fields(alloc, fields, level, out),
+        Ty::SequenceOf(_, inner) | Ty::SetOf(_, inner) | Ty::Explicit(_, inner) => {
+            let within = put_type(alloc, inner, "", "", level.saturating_add(1), out)?;
+            Ok(around(within))
+        }
+        Ty::Choice(alternatives) => {
+            let mut size = Size {
+                nodes: 1,
+                levels: 0,
+            };
+            for alternative in alternatives {
+                let name = alternative.name.as_str();
+                let within = put_type(
+                    alloc,
+                    &alternative.ty,
+                    name,
+                    "",
+                    level.saturating_add(1),
+                    out,
+                )?;
+                size = beside(size, within);
+            }
+            Ok(size)
+        }
+        Ty::Enumerated(_, items) => {
+            put_item_lines(items, level, out)?;
+            Ok(LEAF)
+        }
+        Ty::NamedBits(_, bits) => {
+            put_bit_lines(bits, level, out)?;
+            Ok(LEAF)
+        }
+        Ty::Boolean(_)
+        | Ty::Integer(_)
+        | Ty::Null(_)
+        | Ty::Oid(_)
+        | Ty::RelativeOid(_)
+        | Ty::Bits(_)
+        | Ty::Octets(_)
+        | Ty::Text(_, _)
+        | Ty::Time(_, _) => Ok(LEAF),
+    }
+}
+
+// The size of a type without parts.
+const LEAF: Size = Size {
+    nodes: 1,
+    levels: 0,
+};
+
+// The size of what holds one type, in an encoding of its own.
+fn around(within: Size) -> Size {
+    Size {
+        nodes: within.nodes.saturating_add(1),
+        levels: within.levels.saturating_add(1),
+    }
+}
+
+// The size with another part beside.
+fn beside(size: Size, part: Size) -> Size {
+    Size {
+        nodes: size.nodes.saturating_add(part.nodes),
+        levels: size.levels.max(part.levels),
+    }
+}
+
+// Appends the lines of components.
+#[cycle(type_lines)]
+fn put_fields(
+    alloc: Global,
+    fields: &[Field],
+    level: usize,
+    out: &mut String,
+) -> Result<Size, NoMemory> {
+    let mut size = LEAF;
+    for field in fields {
+        let behind = presence_text(alloc, field)?;
+        let name = field.name.as_str();
+        let within = put_type(
+            alloc,
+            &field.ty,
+            name,
+            behind.as_str(),
+            level.saturating_add(1),
+            out,
+        )?;
+        size = beside(size, within);
+    }
+    size.levels = size.levels.saturating_add(1);
+    Ok(size)
+}
+
+// What is written behind a component's type.
+fn presence_text(alloc: Global, field: &Field) -> Result<String, NoMemory> {
+    match &field.presence {
+        Presence::Required => Ok(String::new(alloc)),
+        Presence::Optional => Ok(String::from_str(alloc, " OPTIONAL")?),
+        Presence::Default(value) => {
+            let before = String::from_str(alloc, " DEFAULT ")?;
+            match copy_of(alloc, value)? {
+                Some(value) => show_leaf(alloc, innermost(&field.ty), value, before),
+                None => Ok(before),
+            }
+        }
+    }
+}
+
+// What explicit tags stand around.
+fn innermost(ty: &Ty) -> &Ty {
+    match ty {
+        Ty::Explicit(_, inner) => innermost(inner),
+        other => other,
+    }
+}
+
+// A copy of a value without parts, as defaults are.
+fn copy_of(alloc: Global, value: &Value) -> Result<Option<Value>, NoMemory> {
+    Ok(match value {
+        Value::Boolean(truth) => Some(Value::Boolean(*truth)),
+        Value::Integer(number) => Some(Value::Integer(*number)),
+        Value::Enumerated(number) => Some(Value::Enumerated(*number)),
+        Value::Octets(octets) => Some(Value::Octets(Vec::from_slice(alloc, octets)?)),
+        Value::Text(octets) => Some(Value::Text(Vec::from_slice(alloc, octets)?)),
+        Value::Bits(bits) => {
+            let octets = Vec::from_slice(alloc, bits.octets())?;
+            Bits::new(octets, bits.unused()).map(Value::Bits)
+        }
+        _ => None,
+    })
+}
+
+// Appends the line of one type: its name, its tag and the words that name it.
+fn put_head(
+    ty: &Ty,
+    name: &str,
+    behind: &str,
+    level: usize,
+    out: &mut String,
+) -> Result<(), NoMemory> {
+    for _ in 0..level {
+        out.push_str("  ")?;
+    }
+    out.push_str(name)?;
+    if !name.is_empty() {
+        out.push(' ')?;
+    }
+    if let Some(tag) = ty.tag() {
+        let tag = PrintedTag(tag);
+        write!(out, "{tag} ")?;
+    }
+    out.push_str(match ty {
+        Ty::Explicit(_, _) => "EXPLICIT",
+        other => name_of(other),
+    })?;
+    out.push_str(behind)?;
+    out.push('\n')?;
+    Ok(())
+}
+
+fn put_item_lines(items: &[Item], level: usize, out: &mut String) -> Result<(), NoMemory> {
+    for item in items {
+        for _ in 0..=level {
+            out.push_str("  ")?;
+        }
+        let name = item.name.as_str();
+        let number = item.number;
+        write!(out, "{name}({number})\n")?;
+    }
+    Ok(())
+}
+
+fn put_bit_lines(bits: &[NamedBit], level: usize, out: &mut String) -> Result<(), NoMemory> {
+    for bit in bits {
+        for _ in 0..=level {
+            out.push_str("  ")?;
+        }
+        let name = bit.name.as_str();
+        let number = bit.number;
+        write!(out, "{name}({number})\n")?;
+    }
+    Ok(())
+}

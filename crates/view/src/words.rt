@@ -1,0 +1,112 @@
+//! Judges the program's words.
+
+use crate::commands::program;
+use crate::{Form, Line, LineFault, Reading, Task, Wanted};
+use clap::ArgMatches;
+use clap::error::ErrorKind;
+use engine::Rule;
+use std::alloc::{AllocError, Global};
+use std::io;
+
+/// The command line that the program's words are, its own name first. `clap` judges them: `--help` and
+/// `--version` are its faults too.
+pub fn line(alloc: Global, words: &[&str]) -> Result<Line, LineFault> {
+    let matches = program(alloc)?.try_get_matches_from(words)?;
+    let task = match matches.subcommand() {
+        Some((name, matches)) => task_of(alloc, name, matches)?,
+        None => return Err(not_a_line(alloc, "no command")),
+    };
+    Ok(Line { task })
+}
+
+// What a command asks.
+fn task_of(alloc: Global, name: &str, matches: &ArgMatches<'_>) -> Result<Task, LineFault> {
+    match name {
+        "octets" => octets_task(alloc, matches),
+        "json" => {
+            let indented = matches.get_flag("indent");
+            Ok(Task::Show(reading_of(alloc, matches)?, Form::Json { indented }))
+        }
+        "types" => Ok(Task::Types {
+            module: owned(alloc, matches, "MODULE")?,
+            name: match matches.get_str("NAME") {
+                Some(name) => Some(String::from_str(alloc, name)?),
+                None => None,
+            },
+        }),
+        "module" => Ok(Task::Module(owned(alloc, matches, "MODULE")?)),
+        "refusal" => Ok(Task::Refusal(number(alloc, matches, "NUMBER")?)),
+        _ => Ok(Task::Cut {
+            input: owned(alloc, matches, "INPUT")?,
+            least: number(alloc, matches, "octets")?,
+            prefix: owned(alloc, matches, "into")?,
+        }),
+    }
+}
+
+/// Why the system gives the program no words: out of memory, or one of them is not UTF-8.
+pub fn no_words(alloc: Global, error: &io::Error) -> LineFault {
+    match error.kind() {
+        io::ErrorKind::OutOfMemory => LineFault::NoMemory,
+        _ => not_a_line(alloc, "a word is not UTF-8"),
+    }
+}
+
+fn not_a_line(alloc: Global, message: &'static str) -> LineFault {
+    match program(alloc) {
+        Ok(mut program) => match program.error(ErrorKind::Io, message) {
+            Ok(error) => LineFault::from(error),
+            Err(_) => LineFault::NoMemory,
+        },
+        Err(_) => LineFault::NoMemory,
+    }
+}
+
+fn octets_task(alloc: Global, matches: &ArgMatches<'_>) -> Result<Task, LineFault> {
+    let value = match matches.get_str("value") {
+        Some(_) => Some(number(alloc, matches, "value")?),
+        None => None,
+    };
+    let wanted = Wanted {
+        value,
+        only_refused: matches.get_flag("only-refused"),
+        wide: matches.get_flag("wide"),
+    };
+    Ok(Task::Show(reading_of(alloc, matches)?, Form::Octets(wanted)))
+}
+
+// The number from 1 on that an argument has.
+fn number(alloc: Global, matches: &ArgMatches<'_>, name: &str) -> Result<u64, LineFault> {
+    match matches.get_str(name).unwrap_or("").parse::<u64>() {
+        Ok(number) if number > 0 => Ok(number),
+        _ => Err(not_a_line(alloc, "a number from 1 on must stand there")),
+    }
+}
+
+fn reading_of(alloc: Global, matches: &ArgMatches<'_>) -> Result<Reading, AllocError> {
+    let mut inputs = Vec::new(alloc);
+    for path in matches.get_strs("INPUT").unwrap_or(&[]) {
+        inputs.push(String::from_str(alloc, path)?)?;
+    }
+    Ok(Reading {
+        module: owned(alloc, matches, "MODULE")?,
+        name: owned(alloc, matches, "TYPE")?,
+        inputs,
+        from: rule_of(matches.get_str("from").unwrap_or("ber")),
+        hex: matches.get_flag("hex"),
+    })
+}
+
+// The word that an argument has.
+fn owned(alloc: Global, matches: &ArgMatches<'_>, name: &str) -> Result<String, AllocError> {
+    String::from_str(alloc, matches.get_str(name).unwrap_or(""))
+}
+
+// The rule to read by that a word names.
+fn rule_of(word: &str) -> Rule {
+    match word {
+        "cer" => Rule::Cer,
+        "der" => Rule::Der,
+        _ => Rule::Ber,
+    }
+}
