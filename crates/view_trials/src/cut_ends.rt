@@ -1,0 +1,100 @@
+//! The ends of encodings, whatever the pieces.
+
+ghost use Rattle.std.specs.Prelude.{Some};
+
+use cutting::{CutFault, Cutter, Ends, Outputs};
+use devices::Failed;
+use std::alloc::Global;
+use std::test::Fail;
+
+// Encodings one after another: of the definite form, of the indefinite one with another in it, with a long tag number
+// and a long length.
+const STREAM: [u8; 28] = [
+    0x05, 0x00, 0x04, 0x01, 0x41, 0x30, 0x80, 0x24, 0x80, 0x04, 0x01, 0x00, 0x00, 0x00, 0x05, 0x00,
+    0x00, 0x00, 0x9F, 0x81, 0x01, 0x82, 0x00, 0x03, 0x01, 0x02, 0x03, 0x05,
+];
+
+// Where they end.
+const ENDS: [usize; 4] = [2, 5, 18, 27];
+
+// How many of the ends are found where they stand, if the octets come in pieces of so many.
+fn found_in_pieces(size: usize) -> usize {
+    let mut ends = Ends::new();
+    let mut found = 0usize;
+    let mut before = 0usize;
+    for piece in STREAM.chunks(size.max(1)) {
+        let mut at = 0usize;
+        for _ in 0..=piece.len() {
+            match ends.take(piece.get(at..).unwrap_or(&[])) {
+                Ok(Some(used)) => at += used.min(piece.len() - at),
+                _ => break,
+            }
+            if ENDS.get(found) == Some(&(before.saturating_add(at))) {
+                found = found.saturating_add(1);
+            }
+        }
+        before = before.saturating_add(piece.len());
+    }
+    found
+}
+
+#[test]
+fn ends_in_pieces(rt: HostRuntime) -> Result<(), Fail> {
+    for size in 1..29 {
+        assert_eq!(rt; found_in_pieces(size), 4);
+    }
+    Ok(())
+}
+
+// Files in memory: their octets, and how many each file has that has ended.
+#[derive(Drop)]
+struct Noted {
+    octets: Vec<u8>,
+    ended: usize,
+    sizes: Vec<usize>,
+}
+
+impl Outputs for Noted {
+    ghost taken = { λ noted. Some noted.octets.items };
+
+    fn end_file(&mut self) -> Result<(), Failed> {
+        let size = self.octets.len().saturating_sub(self.ended);
+        self.ended = self.octets.len();
+        match self.sizes.push(size) {
+            Ok(()) => Ok(()),
+            Err(_) => Err(Failed),
+        }
+    }
+
+    fn write(&mut self, octets: &[u8]) -> Result<(), Failed> {
+        match self.octets.extend_from_slice(octets) {
+            Ok(()) => Ok(()),
+            Err(_) => Err(Failed),
+        }
+    }
+}
+
+// The sizes of the files that end, of at least so many octets, if the stream comes in pieces of so many.
+fn sizes_of(alloc: Global, least: u64, size: usize) -> Result<Vec<usize>, CutFault> {
+    let noted = Noted {
+        octets: Vec::new(alloc),
+        ended: 0,
+        sizes: Vec::new(alloc),
+    };
+    let mut cutter = Cutter::new(noted, least);
+    for piece in STREAM.chunks(size.max(1)) {
+        cutter.take(piece)?;
+    }
+    Ok(cutter.outputs.sizes)
+}
+
+#[test]
+fn files_end_between_encodings(rt: HostRuntime) -> Result<(), Fail> {
+    for size in [1, 2, 7, 28] {
+        let one_each = sizes_of(rt.alloc(), 1, size)?;
+        assert_eq!(rt; one_each.as_slice(), [2, 3, 13, 9].as_slice());
+        let at_least_four = sizes_of(rt.alloc(), 4, size)?;
+        assert_eq!(rt; at_least_four.as_slice(), [5, 13, 9].as_slice());
+    }
+    Ok(())
+}
