@@ -1,0 +1,8 @@
+use Rattle.std.proofs.Common.{◌≡◌, ◌≤◌}
+use Rattle.published_tokens.proofs.scanner.Scanner.skip_prose_gap.Given as goal
+
+abbrev pub invariant-loop-turn : goal.invariant-loop-turn
+invariant-loop-turn l = record {
+  text : l.self.text.now ≡ l.initial.self.text.now;
+  order : l.initial.self.at ≤ l.self.at;
+}
