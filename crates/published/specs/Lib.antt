@@ -1,0 +1,4 @@
+pub mod Reasons
+pub mod Stages
+pub mod Prefixes
+pub mod Heads

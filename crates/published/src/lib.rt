@@ -1,0 +1,49 @@
+//! Modules of ASN.1 as they are published, as trees (X.680 to X.683).
+//!
+//! A file is prose with modules in it, as the text of an RFC is, or modules alone. All of X.680 that a type
+//! for BER may be made of is kept in the tree; constraints are passed by their parentheses, and classes, objects,
+//! sets, macros and what has parameters by their brackets, with their names and places kept.
+#![tactic(auto)]
+
+mod assignments;
+mod body;
+mod braces;
+mod enumerated;
+mod extension;
+mod fault;
+mod heads;
+mod imports;
+mod lists;
+mod modules;
+mod numbers;
+mod prefixes;
+mod reader;
+mod references;
+mod simple;
+mod skipping;
+mod stop;
+mod tree;
+mod types;
+mod value;
+mod values;
+mod words;
+
+pub use fault::{Fault, Reason};
+pub use modules::{Published, read};
+pub use published_tokens::{MAX_FILE, Place};
+pub use simple::Simple;
+pub use tree::{
+    Alternative, Alternatives, Assignment, Body, Component, Components, Form, Group, Import, Item,
+    Items, LeftOut, Module, NamedNumber, Presence, Reference, Tag, TagClass, TagMode, Tagging,
+    Type, Word,
+};
+pub use value::{Arc, Number, SignedNumber, Value, ValueForm};
+
+/// The most levels of types that nest, and of brackets in what is skipped.
+pub const MAX_LEVELS: u32 = 64;
+
+/// The most parts of a file: types, values and names.
+pub const MAX_PARTS: u32 = 131_072;
+
+/// The most faults of a file that are kept.
+pub const MAX_FAULTS: usize = 100;

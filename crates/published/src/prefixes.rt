@@ -1,0 +1,78 @@
+//! Tags, and what stands in front of `OF` (X.680 clauses 26 to 31).
+
+ghost use Rattle.std.specs.Prelude.{◌≡◌};
+ghost use Rattle.published.specs.Prefixes.{class_of, mode_of};
+
+use crate::numbers::number_at;
+use crate::reader::Reader;
+use crate::skipping::skip_brackets;
+use crate::stop::Stop;
+use crate::tree::{Tag, TagClass, TagMode};
+use lexis::Word as Reserved;
+use published_tokens::{Kind, MAX_FILE, Place, Symbol};
+
+/// The tag that stands in front, and the keyword behind it.
+pub(crate) fn tag_at(reader: &mut Reader) -> Result<Tag, Stop> {
+    reader.symbol(Symbol::OpenBracket)?;
+    let class = class_of(reader.kind());
+    if !matches!(class, TagClass::ContextSpecific) {
+        reader.take();
+    }
+    let number = number_at(reader)?;
+    reader.symbol(Symbol::CloseBracket)?;
+    let mode = mode_of(reader.kind());
+    if !matches!(mode, TagMode::Unmarked) {
+        reader.take();
+    }
+    Ok(Tag {
+        class,
+        number,
+        mode,
+    })
+}
+
+// The class that the token behind `[` gives a tag.
+fn class_of(kind: Kind) -> TagClass
+    ensures { result ≡ class_of kind }
+{
+    match kind {
+        Kind::Reserved(Reserved::Universal) => TagClass::Universal,
+        Kind::Reserved(Reserved::Application) => TagClass::Application,
+        Kind::Reserved(Reserved::Private) => TagClass::Private,
+        _ => TagClass::ContextSpecific,
+    }
+}
+
+// The mode that the token behind `]` gives a tag.
+fn mode_of(kind: Kind) -> TagMode
+    ensures { result ≡ mode_of kind }
+{
+    match kind {
+        Kind::Reserved(Reserved::Implicit) => TagMode::Implicit,
+        Kind::Reserved(Reserved::Explicit) => TagMode::Explicit,
+        _ => TagMode::Unmarked,
+    }
+}
+
+/// Passes the constraints that stand in front. Where the first of them begins.
+pub(crate) fn skip_constraints(reader: &mut Reader) -> Result<Option<Place>, Stop> {
+    let mut first = None;
+    for _turn in 0..=MAX_FILE {
+        if !reader.is_symbol(Symbol::OpenParenthesis) {
+            break;
+        }
+        first = first.or(Some(reader.place()));
+        skip_brackets(reader, Symbol::OpenParenthesis)?;
+    }
+    Ok(first)
+}
+
+/// Passes the constraint that stands before `OF`, with the word `SIZE` before it or without.
+pub(crate) fn skip_size(reader: &mut Reader) -> Result<Option<Place>, Stop> {
+    let place = reader.place();
+    if reader.passes_word(Reserved::Size) {
+        skip_brackets(reader, Symbol::OpenParenthesis)?;
+        return Ok(Some(place));
+    }
+    skip_constraints(reader)
+}

@@ -1,0 +1,170 @@
+//! Types (X.680 clauses 17 to 31).
+
+use crate::extension::{Extension, Stage};
+use crate::fault::Reason;
+use crate::prefixes::{skip_constraints, skip_size, tag_at};
+use crate::reader::Reader;
+use crate::references::named_type_at;
+use crate::stop::Stop;
+use crate::tree::{Alternative, Alternatives, Component, Components, Form, Group, Presence, Type};
+use crate::values::value_at;
+use crate::words::word_type_at;
+use crate::{MAX_LEVELS, MAX_PARTS};
+use lexis::Word as Reserved;
+use published_tokens::{Kind, Place, Symbol};
+
+/// The type that stands in front.
+pub(crate) fn whole_type_at(reader: &mut Reader) -> Result<Type, Stop> {
+    type_at(reader, MAX_LEVELS)
+}
+
+// A type of at most so many levels, its own included.
+#[cycle(types)]
+fn type_at(reader: &mut Reader, levels: u32) -> Result<Type, Stop> {
+    reader.count()?;
+    if levels == 0 {
+        return Err(reader.stop(Reason::TooDeep));
+    }
+    let place = reader.place();
+    let (form, before) = form_at(reader, levels - 1)?;
+    let behind = skip_constraints(reader)?;
+    Ok(Type {
+        place,
+        form,
+        constraint: before.or(behind),
+    })
+}
+
+// What a type is, whose parts have at most so many levels, and the constraint before `OF`.
+#[cycle(types)]
+fn form_at(reader: &mut Reader, levels: u32) -> Result<(Form, Option<Place>), Stop> {
+    let form = match reader.kind() {
+        Kind::Reserved(Reserved::Sequence) => return group_at(reader, levels, Group::Sequence),
+        Kind::Reserved(Reserved::Set) => return group_at(reader, levels, Group::Set),
+        Kind::Reserved(Reserved::Choice) => choice_at(reader, levels)?,
+        Kind::Reserved(word) => word_type_at(reader, word)?,
+        Kind::Symbol(Symbol::OpenBracket) => tagged_at(reader, levels)?,
+        Kind::Upper => named_type_at(reader)?,
+        Kind::Lower => selection_at(reader, levels)?,
+        _ => return Err(reader.refuse()),
+    };
+    Ok((form, None))
+}
+
+// SEQUENCE or SET, whose word stands in front.
+#[cycle(types)]
+fn group_at(reader: &mut Reader, levels: u32, group: Group) -> Result<(Form, Option<Place>), Stop> {
+    reader.take();
+    if reader.is_symbol(Symbol::OpenBrace) {
+        return Ok((list_at(reader, levels, group)?, None));
+    }
+    let before = skip_size(reader)?;
+    reader.word(Reserved::Of)?;
+    let name = match reader.kind() {
+        Kind::Lower => Some(reader.name(Kind::Lower)?),
+        _ => None,
+    };
+    let inner = Box::new(reader.alloc, type_at(reader, levels)?)?;
+    Ok((Form::Of(group, name, inner), before))
+}
+
+// Components in braces.
+#[cycle(types)]
+fn list_at(reader: &mut Reader, levels: u32, group: Group) -> Result<Form, Stop> {
+    let mut found = Components::new(reader.alloc);
+    let mut extension = Extension::new();
+    reader.symbol(Symbol::OpenBrace)?;
+    if reader.passes_symbol(Symbol::CloseBrace) {
+        return Ok(Form::List(group, found));
+    }
+    for _turn in 0..=MAX_PARTS {
+        if !extension.begin(reader)? {
+            let component = component_at(reader, levels, extension.group)?;
+            found.put(extension.stage(), component)?;
+        }
+        if extension.end(reader)? {
+            found.marker = extension.marker;
+            return Ok(Form::List(group, found));
+        }
+    }
+    Err(reader.stop(Reason::TooManyParts))
+}
+
+// A component, or COMPONENTS OF.
+#[cycle(types)]
+fn component_at(reader: &mut Reader, levels: u32, group: Option<Place>) -> Result<Component, Stop> {
+    let name = if reader.passes_word(Reserved::Components) {
+        reader.word(Reserved::Of)?;
+        None
+    } else {
+        Some(reader.name(Kind::Lower)?)
+    };
+    let body = type_at(reader, levels)?;
+    let presence = presence_at(reader)?;
+    Ok(Component {
+        name,
+        body,
+        presence,
+        group,
+    })
+}
+
+// What stands behind the type of a component.
+fn presence_at(reader: &mut Reader) -> Result<Presence, Stop> {
+    if reader.passes_word(Reserved::Optional) {
+        return Ok(Presence::Optional);
+    }
+    if reader.passes_word(Reserved::Default) {
+        return Ok(Presence::Default(value_at(reader)?));
+    }
+    Ok(Presence::Required)
+}
+
+// CHOICE, whose word stands in front.
+#[cycle(types)]
+fn choice_at(reader: &mut Reader, levels: u32) -> Result<Form, Stop> {
+    let mut found = Alternatives::new(reader.alloc);
+    let mut extension = Extension::new();
+    reader.take();
+    reader.symbol(Symbol::OpenBrace)?;
+    for _turn in 0..=MAX_PARTS {
+        if !extension.begin(reader)? {
+            let alternative = alternative_at(reader, levels)?;
+            match extension.stage() {
+                Stage::Root => found.root.push(alternative)?,
+                Stage::Additions => found.additions.push(alternative)?,
+                Stage::Tail => return Err(reader.refuse()),
+            }
+        }
+        if extension.end(reader)? {
+            found.marker = extension.marker;
+            return Ok(Form::Choice(found));
+        }
+    }
+    Err(reader.stop(Reason::TooManyParts))
+}
+
+// An alternative.
+#[cycle(types)]
+fn alternative_at(reader: &mut Reader, levels: u32) -> Result<Alternative, Stop> {
+    let name = reader.name(Kind::Lower)?;
+    let body = type_at(reader, levels)?;
+    Ok(Alternative { name, body })
+}
+
+// A tag, and the type behind it.
+#[cycle(types)]
+fn tagged_at(reader: &mut Reader, levels: u32) -> Result<Form, Stop> {
+    let tag = tag_at(reader)?;
+    let inner = Box::new(reader.alloc, type_at(reader, levels)?)?;
+    Ok(Form::Tagged(tag, inner))
+}
+
+// The type of an alternative of a CHOICE.
+#[cycle(types)]
+fn selection_at(reader: &mut Reader, levels: u32) -> Result<Form, Stop> {
+    let name = reader.name(Kind::Lower)?;
+    reader.symbol(Symbol::Less)?;
+    let inner = Box::new(reader.alloc, type_at(reader, levels)?)?;
+    Ok(Form::Selection(name, inner))
+}
