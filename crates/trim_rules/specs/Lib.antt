@@ -1,0 +1,3 @@
+pub mod Keyword
+pub mod Numbering
+pub mod Standing

@@ -1,0 +1,24 @@
+//! What a type is at its root: behind names, but not behind tags.
+
+/// What a type is at its root.
+#[derive(Clone, Copy, Debug, PartialEq, Eq)]
+pub enum Root {
+    /// An untagged CHOICE.
+    Choice,
+    /// An untagged open type.
+    Open,
+    /// An untagged character string type that the profile does not have.
+    LeftOutString,
+    /// Anything else.
+    Other,
+}
+
+impl Root {
+    /// Whether a tag without a keyword in front of it is explicit (X.680 31.2.7).
+    pub fn is_open(self) -> bool {
+        match self {
+            Root::Choice | Root::Open => true,
+            Root::LeftOutString | Root::Other => false,
+        }
+    }
+}

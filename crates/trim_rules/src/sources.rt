@@ -1,0 +1,189 @@
+//! The modules of all files, and what names in them stand for (X.680 clause 13).
+
+use crate::cause::Cause;
+use published::{Assignment, Body, Module, Reference, Type, Value, Word};
+use std::alloc::{AllocError, Global};
+use std::collections::BTreeMap;
+
+/// The most modules that a name is imported through, and the most names in a row that stand for others.
+pub const MAX_STEPS: usize = 64;
+
+/// Where an assignment stands: its module, and its place among the assignments of that.
+#[derive(Clone, Copy, Debug, PartialEq, Eq)]
+pub struct Spot {
+    /// The module.
+    pub module: usize,
+    /// The assignment.
+    pub assignment: usize,
+}
+
+/// One, or several.
+#[derive(Clone, Copy, Debug)]
+enum Found {
+    One(usize),
+    Several,
+}
+
+/// The names of a module.
+#[derive(Drop)]
+struct Scope<'a> {
+    assigned: BTreeMap<&'a str, Found>,
+    imported: BTreeMap<&'a str, &'a Word>,
+}
+
+/// The modules of all files, with their names.
+#[derive(Drop)]
+pub struct Sources<'a> {
+    modules: &'a [Module],
+    by_name: BTreeMap<&'a str, Found>,
+    scopes: Vec<Scope<'a>>,
+}
+
+impl<'a> Sources<'a> {
+    /// The modules, with their names. Takes memory for these.
+    pub fn new(alloc: Global, modules: &'a [Module]) -> Result<Sources<'a>, AllocError> {
+        let mut by_name = BTreeMap::new(alloc);
+        let mut scopes = Vec::new(alloc);
+        for (place, module) in modules.iter().enumerate() {
+            enter(&mut by_name, module.name.name.as_str(), place)?;
+            scopes.push(scope_of(alloc, module)?)?;
+        }
+        Ok(Sources {
+            modules,
+            by_name,
+            scopes,
+        })
+    }
+
+    /// The modules.
+    pub fn modules(&self) -> &'a [Module] {
+        self.modules
+    }
+
+    /// The module of this place.
+    pub fn module_at(&self, place: usize) -> Option<&'a Module> {
+        self.modules.get(place)
+    }
+
+    /// The assignment that stands there.
+    pub fn assignment_at(&self, spot: Spot) -> Option<&'a Assignment> {
+        let module = self.module_at(spot.module)?;
+        module.assignments.get(spot.assignment)
+    }
+
+    /// Where the module itself assigns the name.
+    pub fn own(&self, module: usize, name: &'a str) -> Option<Spot> {
+        match self.scopes.get(module)?.assigned.get(&name) {
+            Some(Found::One(assignment)) => Some(Spot {
+                module,
+                assignment: *assignment,
+            }),
+            _ => None,
+        }
+    }
+
+    /// Where the name is assigned that a module uses.
+    pub fn find(&self, module: usize, reference: &'a Reference) -> Result<Spot, Cause<'a>> {
+        let name = reference.name.as_str();
+        match &reference.module {
+            Some(named) => self.find_in(named.as_str(), name),
+            None => self.find_from(module, name),
+        }
+    }
+
+    /// Where the name is assigned that is used in this module without another one in front.
+    pub fn find_from(&self, module: usize, name: &'a str) -> Result<Spot, Cause<'a>> {
+        let mut module = module;
+        for _step in 0..MAX_STEPS {
+            let Some(scope) = self.scopes.get(module) else {
+                break;
+            };
+            match scope.assigned.get(&name) {
+                Some(Found::One(assignment)) => {
+                    let assignment = *assignment;
+                    return Ok(Spot { module, assignment });
+                }
+                Some(Found::Several) => return Err(Cause::Repeated(name)),
+                None => {}
+            }
+            match scope.imported.get(&name) {
+                Some(from) => module = self.module_of(from.name.as_str(), name)?,
+                None => break,
+            }
+        }
+        Err(Cause::NotAssigned(name))
+    }
+
+    /// Where the name is assigned that a module gives by its own name.
+    pub fn find_in(&self, module: &'a str, name: &'a str) -> Result<Spot, Cause<'a>> {
+        let module = self.module_of(module, name)?;
+        self.find_from(module, name)
+    }
+
+    // The module of this name, from which another name is wanted.
+    fn module_of(&self, module: &'a str, wanted: &'a str) -> Result<usize, Cause<'a>> {
+        match self.by_name.get(&module) {
+            Some(Found::One(place)) => Ok(*place),
+            Some(Found::Several) => Err(Cause::RepeatedModule(module)),
+            None => Err(Cause::NotGiven(wanted, module)),
+        }
+    }
+
+    /// Where the modules assign the name, each in its first assignment.
+    pub fn all(&self, alloc: Global, name: &'a str) -> Result<Vec<Spot>, AllocError> {
+        let mut spots = Vec::new(alloc);
+        for module in 0..self.scopes.len() {
+            if let Some(spot) = self.own(module, name) {
+                if self.type_at(spot).is_some() {
+                    spots.push(spot)?;
+                }
+            }
+        }
+        Ok(spots)
+    }
+
+    /// The type that is assigned there.
+    pub fn type_at(&self, spot: Spot) -> Option<&'a Type> {
+        match &self.assignment_at(spot)?.body {
+            Body::Type(ty) => Some(ty),
+            Body::Value(_, _) | Body::LeftOut(_) => None,
+        }
+    }
+
+    /// The value that is assigned there, and its type.
+    pub fn value_at(&self, spot: Spot) -> Option<(&'a Type, &'a Value)> {
+        match &self.assignment_at(spot)?.body {
+            Body::Value(ty, value) => Some((ty, value)),
+            Body::Type(_) | Body::LeftOut(_) => None,
+        }
+    }
+}
+
+// The names of a module.
+fn scope_of<'a>(alloc: Global, module: &'a Module) -> Result<Scope<'a>, AllocError> {
+    let mut assigned = BTreeMap::new(alloc);
+    for (place, assignment) in module.assignments.iter().enumerate() {
+        enter(&mut assigned, assignment.name.name.as_str(), place)?;
+    }
+    let mut imported = BTreeMap::new(alloc);
+    for import in &module.imports {
+        for word in &import.names {
+            imported.insert(word.name.as_str(), &import.module)?;
+        }
+    }
+    Ok(Scope { assigned, imported })
+}
+
+// Enters a name with its place, or that it stands for several.
+fn enter<'a>(
+    names: &mut BTreeMap<&'a str, Found>,
+    name: &'a str,
+    place: usize,
+) -> Result<(), AllocError> {
+    let found = match names.get(&name) {
+        Some(_) => Found::Several,
+        None => Found::One(place),
+    };
+    names.insert(name, found)?;
+    Ok(())
+}
