@@ -1,0 +1,145 @@
+//! CHOICE (X.680 clause 29).
+
+use crate::lists::is_tagged;
+use crate::trimmer::{Draft, Trimmer};
+use published::{Alternative as Written, Alternatives, Place};
+use std::alloc::{AllocError, Global};
+use syntax::{Alternative, Expr};
+use trim_rules::{Cause, Fault, MAX_PARTS, Root, Section, first_number, identifier, is_automatic};
+
+/// The alternatives of a CHOICE that are made, and what is wrong with the others.
+#[derive(Drop)]
+struct Chosen<'a> {
+    /// Those that are made.
+    made: Vec<Alternative>,
+    /// What is wrong with those that are left out.
+    lost: Vec<Fault<'a>>,
+    /// Whether one is an untagged CHOICE without some of its alternatives.
+    is_cut: bool,
+}
+
+impl<'a> Trimmer<'a> {
+    /// The alternatives of a CHOICE, additions behind the root.
+    #[cycle(drafting)]
+    pub fn choice(
+        &mut self,
+        alloc: Global,
+        place: Place,
+        alternatives: &'a Alternatives,
+    ) -> Result<Draft, AllocError> {
+        let root = alternatives.root.len();
+        let count = root.saturating_add(alternatives.additions.len());
+        if count == 0 || count > MAX_PARTS {
+            return self.refuse(alloc, place, Cause::Parts);
+        }
+        if let Some(marker) = alternatives.marker {
+            self.drop_part(alloc, marker, "an extension marker")?;
+        }
+        let is_automatic = self.is_automatic_choice(alternatives);
+        let mut chosen = Chosen {
+            made: Vec::new(alloc),
+            lost: Vec::new(alloc),
+            is_cut: false,
+        };
+        let first = first_of(is_automatic, Section::Root, root);
+        self.alternatives(alloc, first, &alternatives.root, &mut chosen)?;
+        let first = first_of(is_automatic, Section::Additions, root);
+        self.alternatives(alloc, first, &alternatives.additions, &mut chosen)?;
+        self.chosen(alloc, chosen)
+    }
+
+    // Whether the alternatives are tagged automatically, which is judged as they are written.
+    fn is_automatic_choice(&self, alternatives: &Alternatives) -> bool {
+        let is_tag_written = has_tag(&alternatives.root) || has_tag(&alternatives.additions);
+        is_automatic(self.work.tagging, is_tag_written)
+    }
+
+    // Alternatives, of which the first has this automatic tag if there is one.
+    #[cycle(drafting)]
+    fn alternatives(
+        &mut self,
+        alloc: Global,
+        first: Option<usize>,
+        alternatives: &'a [Written],
+        chosen: &mut Chosen<'a>,
+    ) -> Result<(), AllocError> {
+        for (place, written) in alternatives.iter().enumerate() {
+            let number = first.map(|first| first.saturating_add(place));
+            self.alternative(alloc, number, written, chosen)?;
+        }
+        Ok(())
+    }
+
+    // An alternative, which is left out where it is not taken and may be.
+    #[cycle(drafting)]
+    fn alternative(
+        &mut self,
+        alloc: Global,
+        number: Option<usize>,
+        written: &'a Written,
+        chosen: &mut Chosen<'a>,
+    ) -> Result<(), AllocError> {
+        let mark = self.mark();
+        self.work.path.push(written.name.name.as_str())?;
+        let draft = self.part(alloc, number, &written.body)?;
+        chosen.is_cut = chosen.is_cut || draft.is_cut;
+        if self.work.made.faults.len() == mark.faults {
+            chosen.made.push(Alternative {
+                name: identifier(alloc, &written.name.name)?,
+                body: draft.expr,
+            })?;
+        } else if self.can_leave_out_since(mark) && self.is_told_apart(alloc, number, written)? {
+            chosen.is_cut = true;
+            let why = self.why_since(alloc, mark)?;
+            for _one in mark.faults..self.work.made.faults.len() {
+                if let Some(fault) = self.work.made.faults.pop() {
+                    chosen.lost.push(fault)?;
+                }
+            }
+            self.leave_out(alloc, written.body.place, mark, why.as_str())?;
+        }
+        self.work.path.pop();
+        Ok(())
+    }
+
+    // Whether no value that takes the alternative can be taken for another one: it is no untagged open type.
+    fn is_told_apart(
+        &mut self,
+        alloc: Global,
+        number: Option<usize>,
+        written: &'a Written,
+    ) -> Result<bool, AllocError> {
+        Ok(number.is_some() || self.root_of(alloc, &written.body)? != Root::Open)
+    }
+
+    // The CHOICE of what is made. Where none is, what is wrong with all is wrong with it.
+    fn chosen(&mut self, alloc: Global, chosen: Chosen<'a>) -> Result<Draft, AllocError> {
+        let Chosen { made, lost, is_cut } = chosen;
+        if made.is_empty() {
+            for fault in lost {
+                self.work.made.faults.push(fault)?;
+            }
+            return Ok(Draft::nothing());
+        }
+        Ok(Draft {
+            expr: Expr::Choice(made),
+            is_cut,
+        })
+    }
+}
+
+// The automatic tag of the first alternative of a section.
+fn first_of(is_automatic: bool, section: Section, root: usize) -> Option<usize> {
+    if is_automatic {
+        Some(first_number(section, root, 0))
+    } else {
+        None
+    }
+}
+
+// Whether the type of an alternative is written with a tag (X.680 29.2).
+fn has_tag(alternatives: &[Written]) -> bool {
+    alternatives
+        .iter()
+        .any(|alternative| is_tagged(&alternative.body))
+}

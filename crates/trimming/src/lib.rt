@@ -1,0 +1,21 @@
+//! Modules as they are published, trimmed to asn1x's profile: one module for a type that is asked for.
+#![tactic(auto)]
+
+mod bits;
+mod choices;
+mod defaults;
+mod drafting;
+mod items;
+mod leaving;
+mod lists;
+mod node;
+mod open;
+mod reaching;
+mod reporting;
+mod tagging;
+mod trimmer;
+mod trimming;
+mod walking;
+
+pub use trim_rules::{Given, Kind, Message, Request, Substitute, given_of, with_module};
+pub use trimming::{Refusal, Stop, Trimmed, trim};

@@ -1,0 +1,266 @@
+//! SEQUENCE and SET (X.680 clauses 25 and 27).
+
+use crate::leaving::Mark;
+use crate::tagging::Label;
+use crate::trimmer::{Draft, Trimmer};
+use published::{
+    Component as Written, Components, Form, Place, Presence as WrittenPresence, TagMode, Type, Word,
+};
+use std::alloc::{AllocError, Global};
+use syntax::{Component, Expr, Group, Presence, TagClass};
+use trim_rules::{
+    Cause, MAX_PARTS, Root, Section, Standing, first_number, identifier, is_automatic, presence_of,
+    standing_of, standing_of_addition,
+};
+
+/// What a list says of one of its components.
+#[derive(Clone, Copy)]
+struct Slot {
+    /// SEQUENCE or SET.
+    group: Group,
+    /// Its automatic tag, where its list has them.
+    number: Option<usize>,
+    /// How it may be absent.
+    standing: Standing,
+    /// Whether an open type here cannot be taken for another component where it is left out.
+    is_apart: bool,
+}
+
+/// A list that is being made.
+#[derive(Clone, Copy)]
+struct List {
+    /// SEQUENCE or SET.
+    group: Group,
+    /// Whether it is tagged automatically.
+    is_automatic: bool,
+    /// How many components are in the root before the additions.
+    root: usize,
+    /// How many are behind them.
+    tail: usize,
+    /// How many components there are.
+    count: usize,
+}
+
+impl<'a> Trimmer<'a> {
+    /// The components of a list, additions among them as components that may be absent.
+    #[cycle(drafting)]
+    pub fn list(
+        &mut self,
+        alloc: Global,
+        place: Place,
+        group: Group,
+        components: &'a Components,
+    ) -> Result<Draft, AllocError> {
+        let list = list_of(self.is_automatic_list(components), group, components);
+        if list.count > MAX_PARTS {
+            return self.refuse(alloc, place, Cause::Parts);
+        }
+        if let Some(marker) = components.marker {
+            self.drop_part(alloc, marker, "an extension marker")?;
+        }
+        let mut made = Vec::new(alloc);
+        self.section(alloc, list, Section::Root, &components.root, &mut made)?;
+        self.section(
+            alloc,
+            list,
+            Section::Additions,
+            &components.additions,
+            &mut made,
+        )?;
+        self.section(alloc, list, Section::Tail, &components.tail, &mut made)?;
+        Ok(Draft::whole(Expr::List(group, made)))
+    }
+
+    // Whether the components are tagged automatically, which is judged as they are written.
+    fn is_automatic_list(&self, components: &Components) -> bool {
+        let is_tag_written = has_tag(&components.root)
+            || has_tag(&components.additions)
+            || has_tag(&components.tail);
+        is_automatic(self.work.tagging, is_tag_written)
+    }
+
+    // The components of a section of a list.
+    #[cycle(drafting)]
+    fn section(
+        &mut self,
+        alloc: Global,
+        list: List,
+        section: Section,
+        components: &'a [Written],
+        made: &mut Vec<Component>,
+    ) -> Result<(), AllocError> {
+        let first = first_number(section, list.root, list.tail);
+        for (place, written) in components.iter().enumerate() {
+            let Some(word) = &written.name else {
+                self.refuse(alloc, written.body.place, Cause::ComponentsOf)?;
+                continue;
+            };
+            let slot = Slot {
+                group: list.group,
+                number: number_in(list, first, place),
+                standing: standing_in(section, written),
+                is_apart: is_apart(list, section, components, place),
+            };
+            self.component(alloc, slot, word, written, made)?;
+        }
+        Ok(())
+    }
+
+    // A component, which is left out where it is not taken and may be.
+    #[cycle(drafting)]
+    fn component(
+        &mut self,
+        alloc: Global,
+        slot: Slot,
+        word: &'a Word,
+        written: &'a Written,
+        made: &mut Vec<Component>,
+    ) -> Result<(), AllocError> {
+        let mark = self.mark();
+        self.work.path.push(word.name.as_str())?;
+        let draft = self.part(alloc, slot.number, &written.body)?;
+        if draft.is_cut && slot.group == Group::Set {
+            self.refuse(alloc, written.body.place, Cause::CutChoice)?;
+        }
+        let presence = self.presence(alloc, written, slot.standing)?;
+        if self.work.made.faults.len() == mark.faults {
+            made.push(Component {
+                name: identifier(alloc, &word.name)?,
+                body: draft.expr,
+                presence,
+            })?;
+        } else if self.can_leave_out(alloc, slot, written, mark)? {
+            let why = self.why_since(alloc, mark)?;
+            self.leave_out(alloc, written.body.place, mark, why.as_str())?;
+        }
+        self.work.path.pop();
+        Ok(())
+    }
+
+    /// The type of a component or an alternative, with its automatic tag where it has one.
+    #[cycle(drafting)]
+    pub fn part(
+        &mut self,
+        alloc: Global,
+        number: Option<usize>,
+        body: &'a Type,
+    ) -> Result<Draft, AllocError> {
+        let Some(number) = number else {
+            return self.draft(alloc, body);
+        };
+        let Ok(number) = u32::try_from(number) else {
+            return self.refuse(alloc, body.place, Cause::Parts);
+        };
+        let label = Label {
+            place: body.place,
+            class: TagClass::ContextSpecific,
+            number,
+            mode: TagMode::Unmarked,
+        };
+        self.labelled(alloc, label, body)
+    }
+
+    // Whether a component may be left out: it may be absent, all that is wrong with it allows so, and no
+    // value that holds it is then taken for another.
+    fn can_leave_out(
+        &mut self,
+        alloc: Global,
+        slot: Slot,
+        written: &'a Written,
+        mark: Mark,
+    ) -> Result<bool, AllocError> {
+        if slot.standing == Standing::Required || !self.can_leave_out_since(mark) {
+            return Ok(false);
+        }
+        let is_open = slot.number.is_none() && self.root_of(alloc, &written.body)? == Root::Open;
+        Ok(!is_open || slot.is_apart)
+    }
+
+    // What stands behind the component.
+    fn presence(
+        &mut self,
+        alloc: Global,
+        written: &'a Written,
+        standing: Standing,
+    ) -> Result<Presence, AllocError> {
+        let literal = match &written.presence {
+            WrittenPresence::Default(value) => self.literal(alloc, &written.body, value)?,
+            WrittenPresence::Required | WrittenPresence::Optional => None,
+        };
+        match presence_of(standing, literal) {
+            Some(presence) => Ok(presence),
+            None => {
+                self.refuse(alloc, place_of(written), Cause::Default)?;
+                Ok(Presence::Required)
+            }
+        }
+    }
+}
+
+// Where the DEFAULT of a component stands, or else its type.
+fn place_of(written: &Written) -> Place {
+    match &written.presence {
+        WrittenPresence::Default(value) => value.place,
+        WrittenPresence::Required | WrittenPresence::Optional => written.body.place,
+    }
+}
+
+// The numbers of components of a list.
+fn list_of(is_automatic: bool, group: Group, components: &Components) -> List {
+    let root = components.root.len();
+    let tail = components.tail.len();
+    List {
+        group,
+        is_automatic,
+        root,
+        tail,
+        count: root
+            .saturating_add(tail)
+            .saturating_add(components.additions.len()),
+    }
+}
+
+// The automatic tag of the component at this place of a section, whose first one has this number.
+fn number_in(list: List, first: usize, place: usize) -> Option<usize> {
+    if list.is_automatic {
+        Some(first.saturating_add(place))
+    } else {
+        None
+    }
+}
+
+// Whether the type of a component is written with a tag (X.680 25.3).
+fn has_tag(components: &[Written]) -> bool {
+    components
+        .iter()
+        .any(|component| is_tagged(&component.body))
+}
+
+/// Whether the type is written with a tag.
+pub fn is_tagged(ty: &Type) -> bool {
+    matches!(&ty.form, Form::Tagged(_, _))
+}
+
+// How a component of this section may be absent.
+fn standing_in(section: Section, written: &Written) -> Standing {
+    let standing = standing_of(&written.presence);
+    match section {
+        Section::Additions => standing_of_addition(standing),
+        Section::Root | Section::Tail => standing,
+    }
+}
+
+// Whether an open type here cannot be taken for another component: the last of a SEQUENCE without additions,
+// behind one that is always there.
+fn is_apart(list: List, section: Section, components: &[Written], place: usize) -> bool {
+    let is_last = section == Section::Root && list.count == place.saturating_add(1);
+    let before = match place.checked_sub(1) {
+        Some(before) => components.get(before),
+        None => None,
+    };
+    let is_behind_required = match before {
+        Some(before) => standing_of(&before.presence) == Standing::Required,
+        None => true,
+    };
+    list.group == Group::Sequence && is_last && is_behind_required
+}

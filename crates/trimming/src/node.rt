@@ -1,0 +1,68 @@
+//! A type that is reached from the one that is asked for.
+
+use names::Name;
+use published::{Type, Word};
+use std::alloc::Global;
+use syntax::Expr;
+use trim_rules::{Fault, Message, Root, Spot};
+
+/// How far a type is.
+#[derive(Clone, Copy, Debug, PartialEq, Eq)]
+pub enum State {
+    /// Not looked at.
+    New,
+    /// Begun: it waits for types that it refers to.
+    Open,
+    /// Made, or refused.
+    Done,
+}
+
+/// A type that is reached, which may be one of several copies of an assignment.
+#[derive(Drop)]
+pub struct Node<'a> {
+    /// Where it is assigned.
+    pub spot: Spot,
+    /// How often it may still refer to itself.
+    pub level: usize,
+    /// Its name where it is assigned.
+    pub word: &'a Word,
+    /// The type as it is written.
+    pub body: &'a Type,
+    /// Its name in the module that is written.
+    pub name: Name,
+    /// How far it is.
+    pub state: State,
+    /// What it is at its root, once it is made.
+    pub root: Root,
+    /// Whether it is an untagged CHOICE without some of its alternatives.
+    pub is_cut: bool,
+    /// Whether it is made, and neither refers to itself nor to a type that does.
+    pub is_finite: bool,
+    /// What came of it.
+    pub made: Made<'a>,
+}
+
+/// What came of a type.
+#[derive(Drop)]
+pub struct Made<'a> {
+    /// The type in the profile, where nothing is wrong with it.
+    pub expr: Option<Expr>,
+    /// What is wrong with it.
+    pub faults: Vec<Fault<'a>>,
+    /// What is left out of it.
+    pub messages: Vec<Message>,
+    /// The types that it refers to.
+    pub uses: Vec<usize>,
+}
+
+impl Made<'_> {
+    /// Nothing.
+    pub fn new(alloc: Global) -> Self {
+        Made {
+            expr: None,
+            faults: Vec::new(alloc),
+            messages: Vec::new(alloc),
+            uses: Vec::new(alloc),
+        }
+    }
+}

@@ -1,0 +1,125 @@
+//! What is told of the types that are made.
+
+use crate::trimmer::Trimmer;
+use crate::trimming::Refusal;
+use std::alloc::{AllocError, Global};
+use std::mem;
+use trim_rules::{Cause, Kind, Message};
+
+/// Types in the order in which they are found.
+#[derive(Drop)]
+struct Found {
+    /// Of each type, whether it is found.
+    marks: Vec<bool>,
+    /// Those that are.
+    places: Vec<usize>,
+}
+
+impl Found {
+    // None of so many.
+    fn new(alloc: Global, count: usize) -> Result<Found, AllocError> {
+        Ok(Found {
+            marks: vec![in alloc; false; count]?,
+            places: Vec::new(alloc),
+        })
+    }
+
+    fn add(&mut self, place: usize) -> Result<(), AllocError> {
+        if let Some(mark) = self.marks.get_mut(place) {
+            if !*mark {
+                *mark = true;
+                self.places.push(place)?;
+            }
+        }
+        Ok(())
+    }
+}
+
+impl<'a> Trimmer<'a> {
+    /// All that is wrong with a type, in order of place; nothing, where it is made.
+    pub fn refusals(&self, alloc: Global, root: usize) -> Result<Refusal, AllocError> {
+        let mut found = Found::new(alloc, self.nodes.len())?;
+        found.add(root)?;
+        let mut refusal = Refusal {
+            messages: Vec::new(alloc),
+            is_name_missing: false,
+        };
+        for turn in 0..self.nodes.len() {
+            let Some(place) = found.places.get(turn) else {
+                break;
+            };
+            let place = *place;
+            self.refusals_at(alloc, place, &mut found, &mut refusal)?;
+        }
+        refusal
+            .messages
+            .sort_by_key(|message: &Message| place_of(message))?;
+        Ok(refusal)
+    }
+
+    // What is wrong with one type itself; those that it is not taken for are found.
+    fn refusals_at(
+        &self,
+        alloc: Global,
+        place: usize,
+        found: &mut Found,
+        refusal: &mut Refusal,
+    ) -> Result<(), AllocError> {
+        let Some(node) = self.nodes.get(place) else {
+            return Ok(());
+        };
+        for fault in &node.made.faults {
+            refusal.is_name_missing |= matches!(&fault.cause, Cause::NotAssigned(_));
+            match fault.cause {
+                Cause::Within(_, other) => found.add(other)?,
+                _ => refusal.messages.push(Message {
+                    place: Some(fault.place),
+                    kind: Kind::Refused,
+                    text: fault.text(alloc)?,
+                })?,
+            }
+        }
+        Ok(())
+    }
+
+    /// The types that are written: the one that is asked for, and all that are reached from it.
+    pub fn kept(&self, alloc: Global, root: usize) -> Result<Vec<usize>, AllocError> {
+        let mut found = Found::new(alloc, self.nodes.len())?;
+        found.add(root)?;
+        for turn in 0..self.nodes.len() {
+            let Some(place) = found.places.get(turn) else {
+                break;
+            };
+            let place = *place;
+            if let Some(node) = self.nodes.get(place) {
+                for used in &node.made.uses {
+                    found.add(*used)?;
+                }
+            }
+        }
+        Ok(found.places)
+    }
+
+    /// What was left out of these types, in order of place.
+    pub fn left_out(&mut self, alloc: Global, kept: &[usize]) -> Result<Vec<Message>, AllocError> {
+        let mut messages = Vec::new(alloc);
+        for place in kept {
+            if let Some(node) = self.nodes.get_mut(*place) {
+                let told = mem::replace(&mut node.made.messages, Vec::new(alloc));
+                for message in told {
+                    messages.push(message)?;
+                }
+            }
+        }
+        messages.sort_by_key(|message: &Message| place_of(message))?;
+        Ok(messages)
+    }
+}
+
+// Where a message is about, in order of text.
+fn place_of(message: &Message) -> (u32, u32, u32) {
+    match message.place {
+        Some(place) => (place.file, place.line, place.column),
+        None => (0, 0, 0),
+    }
+}

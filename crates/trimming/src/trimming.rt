@@ -1,0 +1,244 @@
+//! From modules as they are published to a module of the profile.
+
+ghost use Rattle.std.specs.Prelude.{IfOk, OnOk, string_bytes};
+ghost use Rattle.trimming.specs.Trimmed.{IsTrimmed};
+
+use crate::trimmer::Trimmer;
+use notation::{Fault, parse, resolve};
+use published::{Module, Place};
+use std::alloc::{AllocError, AllocFailed, Global};
+use trim_rules::{Cause, Kind, Message, Request, Sources, Spot, put_expr, spelled};
+
+/// A module that is trimmed to the profile.
+#[derive(Debug, Drop)]
+pub struct Trimmed {
+    /// Its text.
+    pub text: String,
+    /// The name of the type that was asked for, in it.
+    pub name: String,
+    /// What is narrowed and dropped, in order of place.
+    pub messages: Vec<Message>,
+}
+
+/// What is not taken.
+#[derive(Debug, Drop)]
+pub struct Refusal {
+    /// All of it, in order of place.
+    pub messages: Vec<Message>,
+    /// Whether a name is among it that is not assigned, which a part that is no ASN.1 may have assigned.
+    pub is_name_missing: bool,
+}
+
+/// Why nothing is written.
+#[derive(Debug, Drop)]
+pub enum Stop {
+    /// Something is not taken.
+    Refused(Refusal),
+    /// A growth was refused.
+    NoMemory,
+}
+
+impl From<AllocError> for Stop {
+    fn from(_refused: AllocError) -> Stop {
+        Stop::NoMemory
+    }
+}
+
+impl<T: Drop> From<AllocFailed<T>> for Stop {
+    fn from(_refused: AllocFailed<T>) -> Stop {
+        Stop::NoMemory
+    }
+}
+
+/// The module of the profile that has the type that is asked for, and what it reaches.
+pub fn trim<'a>(alloc: Global, modules: &'a [Module], request: &'a Request) -> Result<Trimmed, Stop>
+    ensures { IfOk result (λ trimmed. IsTrimmed (string_bytes trimmed.text) (string_bytes trimmed.name)) }
+{
+    let sources = Sources::new(alloc, modules)?;
+    let spot = asked(alloc, &sources, request)?;
+    let mut trimmer = Trimmer::new(alloc, sources, request);
+    let root = made(alloc, &mut trimmer, request, spot)?;
+    let kept = trimmer.kept(alloc, root)?;
+    let messages = trimmer.left_out(alloc, kept.as_slice())?;
+    let text = text_of(alloc, &trimmer, spot, kept.as_slice())?;
+    let name = name_of(alloc, &trimmer, root)?;
+    checked(
+        alloc,
+        &trimmer,
+        spot,
+        Trimmed {
+            text,
+            name,
+            messages,
+        },
+    )
+}
+
+// Where the type stands that is asked for.
+fn asked<'a>(alloc: Global, sources: &Sources<'a>, request: &'a Request) -> Result<Spot, Stop> {
+    let name = request.name.as_str();
+    if let Some(module) = &request.module {
+        return match sources.find_in(module.as_str(), name) {
+            Ok(spot) => Ok(spot),
+            Err(cause) => Err(refused(alloc, None, format!(in alloc; "{cause}")?)),
+        };
+    }
+    let spots = sources.all(alloc, name)?;
+    match spots.as_slice() {
+        [spot] => Ok(*spot),
+        [] => Err(refused(
+            alloc,
+            None,
+            format!(in alloc; "no module assigns a type {name}")?,
+        )),
+        _ => Err(refused(
+            alloc,
+            None,
+            modules_with(alloc, sources, name, spots.as_slice())?,
+        )),
+    }
+}
+
+// That several modules assign the name, and which.
+fn modules_with(
+    alloc: Global,
+    sources: &Sources<'_>,
+    name: &str,
+    spots: &[Spot],
+) -> Result<String, AllocError> {
+    let mut text = format!(in alloc; "{name} stands in several modules; give one of ")?;
+    for (place, spot) in spots.iter().enumerate() {
+        if place > 0 {
+            text.push_str(", ")?;
+        }
+        if let Some(module) = sources.module_at(spot.module) {
+            text.push_str(module.name.name.as_str())?;
+            text.push('.')?;
+            text.push_str(name)?;
+        }
+    }
+    Ok(text)
+}
+
+// Makes the type that stands there, and all that it refers to.
+fn made<'a>(
+    alloc: Global,
+    trimmer: &mut Trimmer<'a>,
+    request: &Request,
+    spot: Spot,
+) -> Result<usize, Stop> {
+    trimmer.work.level = request.unroll;
+    let root = match trimmer.reach(alloc, spot)? {
+        Ok(root) => root,
+        Err(cause) => return Err(refused(alloc, None, format!(in alloc; "{cause}")?)),
+    };
+    trimmer.walk(alloc, root)?;
+    let refusal = trimmer.refusals(alloc, root)?;
+    if refusal.messages.is_empty() {
+        Ok(root)
+    } else {
+        Err(Stop::Refused(refusal))
+    }
+}
+
+// The name of a type that is written.
+fn name_of(alloc: Global, trimmer: &Trimmer<'_>, node: usize) -> Result<String, AllocError> {
+    match trimmer.nodes.get(node) {
+        Some(node) => String::from_str(alloc, node.name.as_str()),
+        None => Ok(String::new(alloc)),
+    }
+}
+
+// The text of the module with these types.
+fn text_of(
+    alloc: Global,
+    trimmer: &Trimmer<'_>,
+    spot: Spot,
+    kept: &[usize],
+) -> Result<String, AllocError> {
+    let mut text = String::new(alloc);
+    if let Some(module) = trimmer.sources.module_at(spot.module) {
+        text.push_str(spelled(alloc, module.name.name.as_str())?.as_str())?;
+    }
+    text.push_str(" DEFINITIONS EXPLICIT TAGS ::= BEGIN\n")?;
+    for place in kept {
+        if let Some(node) = trimmer.nodes.get(*place) {
+            if let Some(expr) = &node.made.expr {
+                text.push('\n')?;
+                text.push_str(node.name.as_str())?;
+                text.push_str(" ::= ")?;
+                put_expr(&mut text, expr, 0)?;
+                text.push('\n')?;
+            }
+        }
+    }
+    text.push_str("\nEND\n")?;
+    Ok(text)
+}
+
+// The module, where its text is one of the profile, in which the name means a type.
+fn checked(
+    alloc: Global,
+    trimmer: &Trimmer<'_>,
+    spot: Spot,
+    trimmed: Trimmed,
+) -> Result<Trimmed, Stop>
+    ensures { IfOk result (λ found. IsTrimmed (string_bytes found.text) (string_bytes found.name)) }
+{
+    match check(alloc, trimmed.text.as_str(), trimmed.name.as_str()) {
+        Ok(()) => Ok(trimmed),
+        Err(fault) => Err(not_of_profile(alloc, place_of(trimmer, spot), fault.number)?),
+    }
+}
+
+// Reads the text as asn1x does, and looks the name up in it.
+fn check(alloc: Global, text: &str, name: &str) -> Result<(), Fault>
+    ensures { OnOk result (IsTrimmed text.now name.now) }
+{
+    let parsed = parse(alloc, text)?;
+    let _meant = resolve(alloc, &parsed, name)?;
+    Ok(())
+}
+
+// That the module is none of the profile.
+fn not_of_profile(alloc: Global, place: Option<Place>, number: u32) -> Result<Stop, AllocError> {
+    if number == 33 {
+        return Ok(Stop::NoMemory);
+    }
+    let why = match number {
+        26 => "names that repeat",
+        27 => "numbers that repeat",
+        28 => "tags that are not distinct",
+        29 => "IMPLICIT in front of a CHOICE",
+        30 => "a DEFAULT that is none of its type",
+        31 => "more than the limits of asn1x allow",
+        _ => "what asn1x does not take",
+    };
+    let text = format!(in alloc;
+        "the type as it is trimmed has {why}, which asn1x refuses with {number}"
+    )?;
+    Ok(refused(alloc, place, text))
+}
+
+// Where the type stands that was asked for.
+fn place_of(trimmer: &Trimmer<'_>, spot: Spot) -> Option<Place> {
+    let assignment = trimmer.sources.assignment_at(spot)?;
+    Some(assignment.name.place)
+}
+
+// One refusal.
+fn refused(alloc: Global, place: Option<Place>, text: String) -> Stop {
+    let mut messages = Vec::new(alloc);
+    let message = Message {
+        place,
+        kind: Kind::Refused,
+        text,
+    };
+    match messages.push(message) {
+        Ok(()) => Stop::Refused(Refusal {
+            messages,
+            is_name_missing: place.is_none(),
+        }),
+        Err(_) => Stop::NoMemory,
+    }
+}
