@@ -1,0 +1,15 @@
+//! The program `asn1x-trim` but for its files: its words, and what it does with the octets of files.
+#![tactic(auto)]
+
+mod command;
+mod command_line;
+mod lines;
+mod reading;
+mod running;
+mod words;
+
+pub use command_line::{Line, LineFault};
+pub use lines::no_words;
+pub use reading::{Files, read_file};
+pub use running::run;
+pub use words::line;

@@ -1,0 +1,79 @@
+//! Judges the program's words.
+
+use crate::command::command;
+use crate::command_line::{Line, LineFault};
+use clap::ArgMatches;
+use clap::error::ErrorKind;
+use std::alloc::Global;
+use trimming::{Given, Request, given_of, with_module};
+
+/// The deepest that a type is written out.
+const MAX_UNROLL: u8 = 60;
+
+/// The command line that the program's words are, its own name first. `clap` judges them: `--help` and
+/// `--version` are its faults too.
+pub fn line(alloc: Global, words: &[&str]) -> Result<Line, LineFault> {
+    let matches = command(alloc)?.try_get_matches_from(words)?;
+    let Some(words) = matches.get_strs("WORDS") else {
+        return Err(wrong(alloc, "no files"));
+    };
+    let Some((ty, paths)) = words.split_last() else {
+        return Err(wrong(alloc, "no type"));
+    };
+    let mut files = Vec::new(alloc);
+    for path in paths {
+        files.push(String::from_str(alloc, path)?)?;
+    }
+    let request = request_of(alloc, &matches, ty)?;
+    Ok(Line { files, request })
+}
+
+// What is asked for, the type being named by this word.
+fn request_of(alloc: Global, matches: &ArgMatches<'_>, ty: &str) -> Result<Request, LineFault> {
+    let (module, name) = with_module(ty);
+    Ok(Request {
+        module: match module {
+            Some(module) => Some(String::from_str(alloc, module)?),
+            None => None,
+        },
+        name: String::from_str(alloc, name)?,
+        given: givens_of(alloc, matches)?,
+        narrow: matches.get_flag("narrow"),
+        unroll: unroll_of(alloc, matches)?,
+        verbose: matches.get_flag("verbose"),
+    })
+}
+
+// The types of open types.
+fn givens_of(alloc: Global, matches: &ArgMatches<'_>) -> Result<Vec<Given>, LineFault> {
+    let mut givens = Vec::new(alloc);
+    if let Some(words) = matches.get_strs("as") {
+        for word in words {
+            match given_of(alloc, word)? {
+                Some(given) => givens.push(given)?,
+                None => return Err(wrong(alloc, "--as wants TYPE.COMPONENT=TYPE")),
+            }
+        }
+    }
+    Ok(givens)
+}
+
+// How deep a type that refers to itself is written out.
+fn unroll_of(alloc: Global, matches: &ArgMatches<'_>) -> Result<usize, LineFault> {
+    let word = matches.get_str("unroll").unwrap_or("0");
+    match word.parse::<u8>() {
+        Ok(depth) if depth <= MAX_UNROLL => Ok(usize::from(depth)),
+        _ => Err(wrong(alloc, "--unroll wants a number from 0 to 60")),
+    }
+}
+
+/// Words that are no command line, for this reason.
+pub fn wrong(alloc: Global, why: &str) -> LineFault {
+    match command(alloc) {
+        Ok(mut command) => match command.error(ErrorKind::ValueValidation, why) {
+            Ok(error) => LineFault::from(error),
+            Err(_) => LineFault::NoMemory,
+        },
+        Err(_) => LineFault::NoMemory,
+    }
+}
