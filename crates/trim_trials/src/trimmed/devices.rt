@@ -1,0 +1,73 @@
+//! Files and writers that fail, and words that are wrong.
+
+use super::{OneFile, ran};
+use std::io;
+use std::io::{ErrorKind, Write};
+use std::test::Fail;
+use trimmer::{line, run};
+
+// A device whose every write fails.
+#[derive(Drop)]
+struct Failing;
+
+impl Write for Failing {
+    fn write(&mut self, _buf: &[u8]) -> io::Result<usize> {
+        Err(io::Error::from(ErrorKind::StorageFull))
+    }
+
+    fn flush(&mut self) -> io::Result<()> {
+        Err(io::Error::from(ErrorKind::StorageFull))
+    }
+}
+
+#[test]
+fn a_full_disk(rt: HostRuntime) -> Result<(), Fail> {
+    let words = ["asn1x-trim", "m.asn", "T"];
+    let line = line(rt.alloc(), words.as_slice())?;
+    let mut files = OneFile(b"M DEFINITIONS ::= BEGIN T ::= NULL END");
+    let mut err = Vec::new(rt.alloc());
+    let status = run(rt.alloc(), &line, &mut files, &mut Failing, &mut err);
+    assert_eq!(rt;
+        err.as_slice(),
+        b"asn1x-trim: cannot write the module\n".as_slice()
+    );
+    assert_eq!(rt; status, 3);
+    Ok(())
+}
+
+#[test]
+fn a_missing_file(rt: HostRuntime) -> Result<(), Fail> {
+    let ran = ran(rt.alloc(), "", "n.asn T")?;
+    assert_eq!(rt; ran.err.as_str(), "asn1x-trim: cannot read n.asn\n");
+    assert_eq!(rt; ran.status, 3);
+    Ok(())
+}
+
+#[test]
+fn wrong_words(rt: HostRuntime) -> Result<(), Fail> {
+    // (words, status)
+    let cases = [
+        ("", 64),
+        ("m.asn", 64),
+        ("m.asn T --as T", 64),
+        ("m.asn T --as T.a=", 64),
+        ("m.asn T --unroll 61", 64),
+        ("m.asn T --unroll x", 64),
+        ("m.asn T --wide", 64),
+        ("--help", 0),
+        ("--version", 0),
+    ];
+    for (words, wanted) in cases {
+        let mut list = Vec::new(rt.alloc());
+        list.push("asn1x-trim")?;
+        for word in words.split_whitespace() {
+            list.push(word)?;
+        }
+        let status = match line(rt.alloc(), list.as_slice()) {
+            Ok(_) => 1,
+            Err(fault) => fault.status(),
+        };
+        assert_eq!(rt; status, wanted, "for {words}");
+    }
+    Ok(())
+}

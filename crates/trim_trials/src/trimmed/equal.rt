@@ -1,0 +1,62 @@
+//! A module of the profile trims to one whose types are equal to its own.
+
+use super::ran;
+use notation::{Fault, parse, resolve};
+use std::alloc::{AllocError, Global};
+use std::test::Fail;
+use trimmer::LineFault;
+use types::WellTyped;
+
+// Name; the module. What stands between tokens is odd in places.
+const MODULES: &str = "
+Call; -- The records of a telephone exchange. -- Calls DEFINITIONS IMPLICIT TAGS ::= BEGIN Call ::= [APPLICATION 1] SET { caller [0] Number, called [1] Party, started [2] GeneralizedTime, seconds [3] INTEGER DEFAULT 0, outcome [4] ENUMERATED { answered, busy, noAnswer(5) } DEFAULT answered, services [5] SET OF OBJECT IDENTIFIER OPTIONAL, note [6] UTF8String OPTIONAL } Party ::= CHOICE { number Number, name [1] PrintableString, emergency [2] NULL } Number ::= [APPLICATION 2] NumericString END
+T; M DEFINITIONS::=BEGIN T::=SEQUENCE{a BOOLEAN DEFAULT TRUE,b INTEGER DEFAULT -5,c BIT STRING DEFAULT'1'B,d OCTET STRING DEFAULT'0F'H OPTIONAL}END
+T; M DEFINITIONS::=BEGIN T::=SEQUENCE{a BOOLEAN DEFAULT FALSE,b INTEGER DEFAULT 5,c BIT STRING DEFAULT'1'B,d[0]OCTET STRING DEFAULT'0F'H}END
+T; M/**/DEFINITIONS/*DEFINITIONS*/AUTOMATIC--x--TAGS/*::=*/::=BEGIN T::=SET{a U,b CHOICE{x U,y NULL},c SEQUENCE OF U,d SET OF CHOICE{z RELATIVE-OID}}U::=[5]EXPLICIT BMPString END
+T; M DEFINITIONS AUTOMATIC TAGS ::= BEGIN T ::= SEQUENCE { a [0] INTEGER, b U } U ::= CHOICE { x V, y W } V ::= VisibleString W ::= IA5String END
+T; M DEFINITIONS AUTOMATIC TAGS ::= BEGIN T ::= CHOICE { a U, b U, c CHOICE { d U } } U ::= CHOICE { x NULL } END
+T; M DEFINITIONS EXPLICIT TAGS ::= BEGIN T ::= [0] [PRIVATE 1] IMPLICIT [APPLICATION 2] U U ::= SET { a UTCTime OPTIONAL, b [268435455] NULL } END
+T; M DEFINITIONS IMPLICIT TAGS ::= BEGIN T ::= BIT STRING { z(65535), a(0) } END
+T; M DEFINITIONS ::= BEGIN T ::= SEQUENCE { a ENUMERATED { x(-170141183460469231731687303715884105728), y, z(170141183460469231731687303715884105727) } DEFAULT y, b OBJECT IDENTIFIER } END
+T; M DEFINITIONS ::= BEGIN T ::= SEQUENCE { } END
+T; M DEFINITIONS IMPLICIT TAGS ::= BEGIN T ::= SEQUENCE { a [0] U DEFAULT '0100'B, b [1] U DEFAULT ''B } U ::= BIT STRING { p(1), q(1) } END
+T; M DEFINITIONS ::= BEGIN T ::= SEQUENCE { a UTF8String DEFAULT \"a\"\"-- b\", b NumericString DEFAULT \"1 2\", c PrintableString DEFAULT \"\" } END
+";
+
+// The type that the module of this text means by the name.
+fn meant(alloc: Global, text: &str, name: &str) -> Result<WellTyped, Fault> {
+    resolve(alloc, &parse(alloc, text)?, name)
+}
+
+// What the program writes of the module for the name.
+fn written(alloc: Global, text: &str, name: &str) -> Result<String, LineFault> {
+    Ok(ran(alloc, text, name)?.out)
+}
+
+// Whether the types of the module as it is, and as it is trimmed, are equal; or both are refused.
+fn are_equal(alloc: Global, before: &str, after: &str, name: &str) -> Result<bool, AllocError> {
+    match (meant(alloc, before, name), meant(alloc, after, name)) {
+        (Ok(before), Ok(after)) => Ok(before.as_type() == after.as_type()),
+        (Err(_), Err(_)) => Ok(after.is_empty()),
+        _ => Ok(false),
+    }
+}
+
+// Whether the row's module trims to an equal one.
+fn is_kept(alloc: Global, row: &str) -> Result<bool, LineFault> {
+    let Some((name, text)) = row.split_once("; ") else {
+        return Ok(false);
+    };
+    let after = written(alloc, text, name)?;
+    Ok(are_equal(alloc, text, after.as_str(), name)?)
+}
+
+#[test]
+fn modules_of_the_profile(rt: HostRuntime) -> Result<(), Fail> {
+    for row in MODULES.lines() {
+        if !row.is_empty() {
+            assert!(rt; is_kept(rt.alloc(), row)?, "at {row}");
+        }
+    }
+    Ok(())
+}

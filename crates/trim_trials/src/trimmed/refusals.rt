@@ -1,0 +1,67 @@
+//! What is refused, each with its place.
+
+use super::{ran, squeezed};
+use std::alloc::Global;
+use std::test::Fail;
+use trimmer::LineFault;
+
+// Words; assignments, from line 2 on, in a module M with IMPLICIT TAGS; what is printed on standard error.
+const REFUSALS: &str = "
+T; T ::= SEQUENCE { a ANY, b X.&Type }; m.asn:2:20: refused: an open type at T.a; give --as T.a=TYPE m.asn:2:27: refused: an open type at T.b; give --as T.b=TYPE
+T; T ::= SEQUENCE { COMPONENTS OF U } U ::= SEQUENCE { a NULL }; m.asn:2:32: refused: COMPONENTS OF at T; write the components out
+T; T ::= [0] IMPLICIT CHOICE { a NULL }; m.asn:2:7: refused: IMPLICIT in front of a CHOICE or an open type at T
+T --as T=NULL; T ::= [0] IMPLICIT ANY; m.asn:2:7: refused: IMPLICIT in front of a CHOICE or an open type at T
+T --as T=NULL; T ::= [0] X.&id; m.asn:2:7: refused: a tag without a keyword in front of a field of a class at T; write EXPLICIT or IMPLICIT behind the tag
+T; T ::= [UNIVERSAL 3] IMPLICIT INTEGER; m.asn:2:7: refused: a tag of the class UNIVERSAL at T
+T; T ::= SEQUENCE { a S DEFAULT {} } S ::= SEQUENCE OF NULL; m.asn:2:30: refused: a DEFAULT of a kind that asn1x does not take at T.a
+T --narrow; T ::= SEQUENCE { a REAL, b P {NULL}, c x < C } C ::= CHOICE { x NULL }; m.asn:2:20: refused: REAL at T.a; --narrow leaves it out where values may do without it m.asn:2:28: refused: a type with parameters at T.b m.asn:2:40: refused: a selection type at T.c
+T; T ::= SEQUENCE { a EXTERNAL, b TeletexString, c [0] EXPLICIT T61String }; m.asn:2:20: refused: EXTERNAL at T.a; --narrow leaves it out where values may do without it m.asn:2:32: refused: TeletexString at T.b; --narrow leaves it out where values may do without it m.asn:2:62: refused: TeletexString at T.c; --narrow leaves it out where values may do without it
+T; T ::= SEQUENCE OF T; m.asn:2:19: refused: T refers to itself at T; give --unroll N
+T; T ::= SET { a U, b V } U ::= W; m.asn:2:20: refused: V is neither assigned nor imported at T.b m.asn:2:30: refused: W is neither assigned nor imported at U
+T; T ::= [v] NULL v INTEGER ::= w; m.asn:2:7: refused: a number that is not known, or out of range at T
+T; T ::= [268435456] NULL; m.asn:2:7: refused: a number that is not known, or out of range at T
+U; T ::= NULL; asn1x-trim: refused: no module assigns a type U
+N.T; T ::= NULL; asn1x-trim: refused: T is of the module N, which is in none of the files
+T; T ::= NULL T ::= NULL; asn1x-trim: refused: no module assigns a type T
+T; T ::= SET { a NULL, b NULL }; m.asn:2:1: refused: the type as it is trimmed has tags that are not distinct, which asn1x refuses with 28
+T --narrow; T ::= SET { a C } C ::= CHOICE { x REAL, y NULL }; m.asn:2:15: refused: a CHOICE without all of its alternatives in a SET at T.a
+T --narrow; T ::= SET { a ANY OPTIONAL }; m.asn:2:15: refused: an open type at T.a; give --as T.a=TYPE
+T --narrow; T ::= SEQUENCE { a NULL OPTIONAL, b ANY OPTIONAL }; m.asn:2:37: refused: an open type at T.b; give --as T.b=TYPE
+T --narrow; T ::= CHOICE { a NULL, b ANY }; m.asn:2:26: refused: an open type at T.b; give --as T.b=TYPE
+";
+
+// Whether what is printed of a row's assignments is what the row says, and nothing is written.
+fn is_as_wanted(alloc: Global, row: &str) -> Result<bool, LineFault> {
+    let Some((words, rest)) = row.split_once("; ") else {
+        return Ok(false);
+    };
+    let Some((assignments, wanted)) = rest.split_once("; ") else {
+        return Ok(false);
+    };
+    let text = format!(in alloc; "M DEFINITIONS IMPLICIT TAGS ::= BEGIN\n{assignments}\nEND")?;
+    let ran = ran(alloc, text.as_str(), words)?;
+    let err = squeezed(alloc, ran.err.as_str())?;
+    Ok(err.as_str() == wanted && ran.out.is_empty() && ran.status == 1)
+}
+
+#[test]
+fn refusals(rt: HostRuntime) -> Result<(), Fail> {
+    for row in REFUSALS.lines() {
+        if !row.is_empty() {
+            assert!(rt; is_as_wanted(rt.alloc(), row)?, "at {row}");
+        }
+    }
+    Ok(())
+}
+
+#[test]
+fn names_of_several_modules(rt: HostRuntime) -> Result<(), Fail> {
+    let text = "A DEFINITIONS ::= BEGIN T ::= NULL END B DEFINITIONS ::= BEGIN T ::= BOOLEAN END";
+    let wanted = "asn1x-trim: refused: T stands in several modules; give one of A.T, B.T\n";
+    let refused = ran(rt.alloc(), text, "T")?;
+    assert_eq!(rt; refused.err.as_str(), wanted);
+    assert_eq!(rt; refused.status, 1);
+    let written = ran(rt.alloc(), text, "B.T")?;
+    assert_eq!(rt; written.status, 0);
+    Ok(())
+}

@@ -1,0 +1,112 @@
+//! Each step of trimming, before and after.
+
+use super::{ran, squeezed};
+use std::alloc::Global;
+use std::test::Fail;
+use trimmer::LineFault;
+
+// Tag default; words; assignments of a module M; what is written of them, and on standard error. A line with `#`
+// says what allows the step.
+const STEPS: &str = "
+# constraints and the names of numbers have no part in an encoding (X.690 8.3, 8.6 to 8.12)
+; T; T ::= INTEGER (0..5); T ::= INTEGER;
+; T; T ::= INTEGER { one(1) } (one); T ::= INTEGER;
+; T; T ::= SEQUENCE SIZE (1..4) OF OCTET STRING (SIZE (2)) (CONTAINING U) U ::= NULL; T ::= SEQUENCE OF OCTET STRING;
+; T; T ::= SET OF item PrintableString (FROM (\"a\"..\"z\")); T ::= SET OF PrintableString;
+# the names of bits say that bits 0 at the end mean nothing (X.680 22, X.690 11.2.2), with SIZE too
+; T; T ::= BIT STRING { a(0), b(v) } (SIZE (4)) v INTEGER ::= 2; T ::= BIT STRING { a(0), b(2) };
+# a tag without a keyword (X.680 31.2.7)
+EXPLICIT TAGS; T; T ::= [0] INTEGER; T ::= [0] EXPLICIT INTEGER;
+IMPLICIT TAGS; T; T ::= [0] INTEGER; T ::= [0] IMPLICIT INTEGER;
+; T; T ::= [APPLICATION v] EXPLICIT INTEGER v INTEGER ::= 7; T ::= [APPLICATION 7] EXPLICIT INTEGER;
+IMPLICIT TAGS; T; T ::= [0] C C ::= D D ::= CHOICE { a NULL }; T ::= [0] EXPLICIT C C ::= D D ::= CHOICE { a NULL };
+IMPLICIT TAGS; T; T ::= [0] C C ::= [1] CHOICE { a NULL }; T ::= [0] IMPLICIT C C ::= [1] EXPLICIT CHOICE { a NULL };
+IMPLICIT TAGS; T --as T=NULL; T ::= [PRIVATE 1] ANY; T ::= [PRIVATE 1] EXPLICIT NULL;
+# automatic tags, by the lists as they are written (X.680 25.3, 25.7 and 29.2)
+AUTOMATIC TAGS; T; T ::= SEQUENCE { a NULL, b C } C ::= CHOICE { x NULL, y NULL }; T ::= SEQUENCE { a [0] IMPLICIT NULL, b [1] EXPLICIT C } C ::= CHOICE { x [0] IMPLICIT NULL, y [1] IMPLICIT NULL };
+AUTOMATIC TAGS; T; T ::= SEQUENCE { a [3] INTEGER, b BOOLEAN }; T ::= SEQUENCE { a [3] IMPLICIT INTEGER, b BOOLEAN };
+AUTOMATIC TAGS; T; T ::= SEQUENCE { a INTEGER, b U } U ::= [7] BOOLEAN; T ::= SEQUENCE { a [0] IMPLICIT INTEGER, b [1] IMPLICIT U } U ::= [7] IMPLICIT BOOLEAN;
+AUTOMATIC TAGS; T; T ::= SEQUENCE { a INTEGER, ..., b NULL, [[ c NULL, d NULL ]], ..., e BOOLEAN }; T ::= SEQUENCE { a [0] IMPLICIT INTEGER, b [2] IMPLICIT NULL OPTIONAL, c [3] IMPLICIT NULL OPTIONAL, d [4] IMPLICIT NULL OPTIONAL, e [1] IMPLICIT BOOLEAN };
+AUTOMATIC TAGS; T --narrow; T ::= SEQUENCE { a REAL OPTIONAL, b NULL }; T ::= SEQUENCE { b [1] IMPLICIT NULL }; m.asn:2:20: narrowed: T.a is left out: REAL at T.a
+# additions may be absent, in values of an earlier version
+; T; T ::= SEQUENCE { a NULL, ..., b INTEGER, c BOOLEAN DEFAULT TRUE, d UTF8String OPTIONAL }; T ::= SEQUENCE { a NULL, b INTEGER OPTIONAL, c BOOLEAN DEFAULT TRUE, d UTF8String OPTIONAL };
+; T; T ::= CHOICE { a NULL, ..., b INTEGER }; T ::= CHOICE { a NULL, b INTEGER };
+# items without a number (X.680 20)
+; T; T ::= ENUMERATED { a, z(25), ..., d }; T ::= ENUMERATED { a(0), z(25), d(1) };
+; T; T ::= ENUMERATED { a, b(3), ..., c(1) }; T ::= ENUMERATED { a(0), b(3), c(1) };
+; T; T ::= ENUMERATED { a, b, ..., c(3), d }; T ::= ENUMERATED { a(0), b(1), c(3), d(4) };
+; T; T ::= ENUMERATED { a(v), b, c(-1), d } v INTEGER ::= 1; T ::= ENUMERATED { a(1), b(0), c(-1), d(2) };
+# values behind DEFAULT as literals
+; T; T ::= SEQUENCE { a V DEFAULT two, b INTEGER DEFAULT -7, c [5] W DEFAULT w } V ::= [1] INTEGER { two(2) } W ::= V w V ::= two; T ::= SEQUENCE { a V DEFAULT 2, b INTEGER DEFAULT -7, c [5] EXPLICIT W DEFAULT 2 } V ::= [1] EXPLICIT INTEGER W ::= V;
+; T; T ::= SEQUENCE { a E DEFAULT y, b BOOLEAN DEFAULT t } E ::= ENUMERATED { x, y } y E ::= x t BOOLEAN ::= TRUE; T ::= SEQUENCE { a E DEFAULT y, b BOOLEAN DEFAULT TRUE } E ::= ENUMERATED { x(0), y(1) };
+; T; T ::= SEQUENCE { a B DEFAULT { y, x }, b [0] B DEFAULT {}, c [1] B DEFAULT '0101'B } B ::= BIT STRING { x(1), y(4) }; T ::= SEQUENCE { a B DEFAULT '01001'B, b [0] EXPLICIT B DEFAULT ''B, c [1] EXPLICIT B DEFAULT '0101'B } B ::= BIT STRING { x(1), y(4) };
+; T; T ::= SEQUENCE { a OCTET STRING DEFAULT '0F'H, b IA5String DEFAULT s } s IA5String ::= \"a\"\"b\"; T ::= SEQUENCE { a OCTET STRING DEFAULT '0F'H, b IA5String DEFAULT \"a\"\"b\" };
+# under an implicit tag a character string has the octets of an OCTET STRING (X.690 8.14 and 8.23)
+; T; T ::= [0] IMPLICIT U U ::= TeletexString; T ::= [0] IMPLICIT OCTET STRING;
+AUTOMATIC TAGS; T; T ::= SEQUENCE { a GeneralString, b ObjectDescriptor }; T ::= SEQUENCE { a [0] IMPLICIT OCTET STRING, b [1] IMPLICIT OCTET STRING };
+; T; T ::= ISO646String; T ::= VisibleString;
+# the types of open types
+; T --as T.a=U --as V=NULL; T ::= SEQUENCE { a ANY DEFINED BY b, b V } U ::= BOOLEAN V ::= FOO.&Type FOO ::= TYPE-IDENTIFIER; T ::= SEQUENCE { a U, b V } U ::= BOOLEAN V ::= NULL;
+; T --as T.a.b=INTEGER; T ::= SET OF SEQUENCE { a CHOICE { b ANY } }; T ::= SET OF SEQUENCE { a CHOICE { b INTEGER } };
+# what may be absent is left out, so values that hold it are refused
+; T --narrow; T ::= CHOICE { a REAL, b NULL, c U } U ::= SEQUENCE { x EXTERNAL }; T ::= CHOICE { b NULL }; m.asn:2:18: narrowed: T.a is left out: REAL at T.a m.asn:2:34: narrowed: T.c is left out: EXTERNAL at U.x
+; T --narrow; T ::= SEQUENCE { a U OPTIONAL, b NULL DEFAULT NULL } U ::= CHOICE { x REAL, y REAL }; T ::= SEQUENCE { }; m.asn:2:20: narrowed: T.a is left out: REAL at U.x m.asn:2:34: narrowed: T.b is left out: a DEFAULT of a kind that asn1x does not take at T.b
+; T --narrow; T ::= SEQUENCE { a OBJECT IDENTIFIER, b ANY DEFINED BY a OPTIONAL }; T ::= SEQUENCE { a OBJECT IDENTIFIER }; m.asn:2:41: narrowed: T.b is left out: an open type at T.b
+# a type that refers to itself is written out, its last level narrowed
+; T --unroll 1; T ::= CHOICE { a U, b NULL } U ::= SET OF T; T ::= CHOICE { a U, b NULL } U ::= SET OF T-2 T-2 ::= CHOICE { b NULL }; m.asn:2:18: narrowed: T.a is left out: T refers to itself at U
+; T --unroll 2; T ::= SEQUENCE { a NULL, b T OPTIONAL }; T ::= SEQUENCE { a NULL, b T-2 OPTIONAL } T-2 ::= SEQUENCE { a NULL, b T-3 OPTIONAL } T-3 ::= SEQUENCE { a NULL }; m.asn:2:28: narrowed: T.b is left out: T refers to itself at T.b
+# what is dropped is told
+; T --verbose; T ::= INTEGER { a(1) } (0..1); T ::= INTEGER; m.asn:2:7: dropped: names of numbers of T m.asn:2:24: dropped: a constraint of T
+";
+
+// Whether what is written of a row's assignments, and told, is what the row says.
+fn is_as_wanted(alloc: Global, row: &str) -> Result<bool, LineFault> {
+    let mut columns = row.split(';');
+    let tags = columns.next().unwrap_or("");
+    let words = columns.next().unwrap_or("").trim();
+    let assignments = columns.next().unwrap_or("").trim();
+    let wanted = columns.next().unwrap_or("").trim();
+    let told = columns.next().unwrap_or("").trim();
+    let text = format!(in alloc; "M DEFINITIONS {tags} ::= BEGIN\n{assignments}\nEND")?;
+    let ran = ran(alloc, text.as_str(), words)?;
+    let wanted = format!(in alloc; "M DEFINITIONS EXPLICIT TAGS ::= BEGIN {wanted} END")?;
+    let out = squeezed(alloc, ran.out.as_str())?;
+    let err = squeezed(alloc, ran.err.as_str())?;
+    Ok(out.as_str() == wanted.as_str() && err.as_str() == told && ran.status == 0)
+}
+
+#[test]
+fn steps(rt: HostRuntime) -> Result<(), Fail> {
+    for row in STEPS.lines() {
+        if !row.is_empty() && !row.starts_with('#') {
+            assert!(rt; is_as_wanted(rt.alloc(), row)?, "at {row}");
+        }
+    }
+    Ok(())
+}
+
+// Two modules, of which one imports from the other.
+const TWO: &str = "
+A DEFINITIONS IMPLICIT TAGS ::= BEGIN IMPORTS U, v FROM B { 1 2 3 } ;
+T ::= SEQUENCE { a U, b Time, c [v] B.Time }
+Time ::= NULL
+END
+B { 1 2 3 } DEFINITIONS EXPLICIT TAGS ::= BEGIN EXPORTS U, Time ;
+U ::= [1] Time
+Time ::= [2] INTEGER (0..v)
+v INTEGER ::= 9
+Time-2 ::= NULL
+END";
+
+#[test]
+fn modules_that_import(rt: HostRuntime) -> Result<(), Fail> {
+    let ran = ran(rt.alloc(), TWO, "T")?;
+    let wanted =
+        "A DEFINITIONS EXPLICIT TAGS ::= BEGIN T ::= SEQUENCE { a U, b Time, c [9] IMPLICIT Time-2 } \
+U ::= [1] EXPLICIT Time-2 Time ::= NULL Time-2 ::= [2] EXPLICIT INTEGER END";
+    let out = squeezed(rt.alloc(), ran.out.as_str())?;
+    assert_eq!(rt; out.as_str(), wanted);
+    assert_eq!(rt; ran.err.as_str(), "");
+    assert_eq!(rt; ran.status, 0);
+    Ok(())
+}
