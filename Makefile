@@ -1,6 +1,6 @@
 PREFIX ?= $(HOME)/.local
 
-.PHONY: demo examples test growths install try clean rt
+.PHONY: demo examples test growths install companions try clean rt
 
 # Converts 01 01 2a, a BOOLEAN under BER, to DER, then checks, shows and converts the values of examples/, by a
 # program that is compiled once, without a proof. examples/demo/ has the words of each run. Of the text of a
@@ -43,9 +43,18 @@ growths: rt
 
 # Proves the program and each library that it stands on, and puts it on the path, with its manual page and completion.
 install: rt
-	@install/proved.sh
+	@install/proved.sh asn1x
 	@$(call put,crates/asn1x/out/asn1x)
 	@echo 'installed $(program), which is proved, and its manual page (man asn1x)'
+
+# Proves the programs beside it, asn1x-view and asn1x-trim, and puts them on the path with their manual pages.
+companions: rt
+	@install/proved.sh asn1x_view asn1x_trim
+	@for name in view trim; do \
+	    install -D -m 755 crates/asn1x_$$name/out/asn1x_$$name "$(program)-$$name" && \
+	    install -D -m 644 docs/asn1x-$$name.1 "$(DESTDIR)$(PREFIX)/share/man/man1/asn1x-$$name.1" && \
+	    echo "installed $(program)-$$name, which is proved, and its manual page (man asn1x-$$name)" || exit 1; \
+	done
 
 # Puts the program on the path as it is without a proof, compiled with run-time checks.
 try: rt

@@ -1,13 +1,16 @@
 #!/bin/sh
-# Proves asn1x and each library that it stands on, the lowest first, and builds it as crates/asn1x/out/asn1x.
+# Proves programs and each library that they stand on, the lowest first, and builds them as crates/NAME/out/NAME.
 #
-#     install/proved.sh
+#     install/proved.sh NAME..
 #
 # It needs rt. A line is printed for each crate: how many there are, what it took, and about how long the rest will
-# take, by the times so far and the minutes of processor time in docs/CONTRIBUTING.md, with a minute for the program.
+# take, by the times so far and the minutes of processor time in docs/CONTRIBUTING.md, with a minute for each program.
 # What an earlier check or install on this machine proved of the same files is used again, and takes a second or two.
 # Nothing is built where a proof fails.
 set -eu
+
+[ $# -gt 0 ] || { echo 'usage: install/proved.sh NAME..' >&2; exit 2; }
+programs=" $* "
 
 cd "$(dirname "$0")/.."
 command -v rt >/dev/null || { echo "proved: rt is missing: put the kit's bin folder on the path" >&2; exit 2; }
@@ -19,13 +22,14 @@ minutes_of() {
     awk -F '|' -v name="\`$1\`" '{ gsub(" ", "") } $2 == name { print $3 + 0 }' docs/CONTRIBUTING.md
 }
 
-# The libraries that asn1x stands on, as crates.txt lists them, and asn1x, each with its minutes.
+# The libraries that the programs stand on, as crates.txt lists them, and the programs, each with its minutes.
 crates() {
-    tac crates.txt | awk -F ':' '
-        $1 == "asn1x" || needed[$1] { split($2, names, " "); for (i in names) needed[names[i]] = 1; print $1 }' | tac |
+    tac crates.txt | awk -F ':' -v programs="$programs" '
+        index(programs, " " $1 " ") || needed[$1] { split($2, names, " "); for (i in names) needed[names[i]] = 1; print $1 }' |
+        tac |
         while read -r crate; do
             echo "$crate $(minutes_of "$crate")"
-        done | awk '{ print $1, ($2 > 0 ? $2 : $1 == "asn1x" ? 0 : 1) }'
+        done | awk '{ print $1, ($2 > 0 ? $2 : 1) }'
 }
 
 # Seconds as words.
@@ -33,11 +37,11 @@ words() {
     if [ "$1" -lt 100 ]; then echo "$1 s"; else echo "$((($1 + 30) / 60)) min"; fi
 }
 
-# Proves a crate; of asn1x, which is a program, the run of its stored words builds it too.
+# Proves a crate; a program is built by a run.
 prove() {
     cd "crates/$1"
-    case $1 in
-    asn1x) rt run -- convert @builtin BOOLEAN data/in.hex --hex --to der >/dev/null ;;
+    case $programs in
+    *" $1 "*) rt run -- --help >/dev/null ;;
     *) rt lib >&2 ;;
     esac
 }
@@ -48,11 +52,11 @@ echo "proving $count crates: minutes from nothing, and seconds for each library 
 begun=$(date +%s) number=0
 echo "$list" | while read -r crate _; do
     number=$((number + 1)) since=$(date +%s)
-    printf '%2d of %d  %-12s' "$number" "$count" "$crate"
+    printf '%2d of %d  %-16s' "$number" "$count" "$crate"
     (prove "$crate") 2>"$said" || { echo ' NOT PROVED'; cat "$said" >&2; exit 1; }
     now=$(date +%s)
     left=$(echo "$list" | awk -v at="$number" -v took=$((now - begun)) '
-        { if (NR <= at) done += $2; else left += $2 } END { printf "%d", 60 + took * left / done }')
+        { if (NR <= at) done += $2; else left += $2 } END { printf "%d", took * left / done }')
     printf ' proved  %6s' "$(words $((now - since)))"
     [ "$number" = "$count" ] && echo || echo "  about $(words "$left") left"
 done
