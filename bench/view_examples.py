@@ -2,10 +2,10 @@
 """Holds the lines of asn1x-view over the values in examples/ to openssl, to asn1x and to the files in examples/view/.
 
 Runs from the top. Needs openssl and both built programs: ASN1X and VIEW name them, else those in crates/*/out are
-taken. The offset, the depth, the head and the contents of each identifier are those of `openssl asn1parse`; the lines are
-those of examples/view/NAME.lines. Then one octet is changed in each of the places that examples/view/changed.txt lists:
-the last line is the one that stands there, and its number the one of `asn1x check`. Prints what differs, and ends with 1
-where something does.
+taken. The offset, the depth, the head and the contents of each identifier are those of `openssl asn1parse`; the
+lines are those of examples/view/NAME.lines. Then one octet is changed in each of the places that
+examples/view/changed.txt lists: the last line is the one that stands there, and its number the one of `asn1x check`.
+Prints what differs, and ends with 1 where something does.
 """
 import os
 import re
