@@ -17,8 +17,8 @@
 #                       the same with indefinite lengths                                               5.5
 #     booleans          2,000,000 BOOLEANs                                                             3
 #
-# What is written is converted and checked again. From DER, and from CER, records may take 0.8 times the time that the
-# same octets take from BER, and `check` 1.1 times.
+# What is written is converted and checked again. From DER to DER, and from CER to CER, records may take 0.8 times the
+# time that the same octets take from BER, and `check` 1.1 times.
 #
 # Of each, CER may take 1.5 times the time that DER takes, `check` no more than it, and `show` 3 times it.
 # A run over one NULL may take 2 ms. At most 3 MiB may be resident over values of at most 4 KiB, and 30 MiB over
@@ -105,10 +105,10 @@ strict_row() {
     local rule=$1 ber
     "$program" convert "${input[@]}" --to "$rule" >"$work/strict"
     local -a again=("${input[@]:0:2}" "$work/strict")
-    measure $runs "$program" convert "${again[@]}" --to der
+    measure $runs "$program" convert "${again[@]}" --to "$rule"
     ber=$took
-    measure $runs "$program" convert "${again[@]}" --from "$rule" --to der
-    hold "  from $rule over from BER" 80 "$took" "$ber"
+    measure $runs "$program" convert "${again[@]}" --from "$rule" --to "$rule"
+    hold "  from $rule to it over from BER" 80 "$took" "$ber"
     measure $runs "$program" check "${again[@]}"
     ber=$took
     measure $runs "$program" check "${again[@]}" --from "$rule"
