@@ -1,5 +1,4 @@
 pub mod AcceptedLemmas
-pub mod PartsOrderLemmas
 pub mod PartsForthLemmas
 pub mod PartsDueLemmas
 pub mod PartsBeginLemmas

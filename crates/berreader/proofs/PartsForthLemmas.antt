@@ -10,7 +10,7 @@ use Rattle.types.proofs.ListLemmas.{not_in_nil, contains_first, contains_cases}
 use Rattle.types.proofs.NestingLemmas.{nested_above}
 use Rattle.types.proofs.BeginningLemmas.{all_permutation}
 use Rattle.contents.specs.Parts.{Parts, Seat, IsPart, IsNextOf, IsVacant, IsDue, IsLeft, IsLeftOfSeat, IsRunLeft, CanFill, taken_seat, once_come, IsValueOf}
-use Rattle.berreader.proofs.PartsOrderLemmas.{permutation_others}
+use Rattle.contents.proofs.OthersLemmas.{permutation_others}
 
 -- the contents octets begin with a part that is due, and what follows it completes the rest
 pub record IsStep (levels : ℕ) (parts : Parts) (octets : List ℕ) : Type 0 where

@@ -19,3 +19,4 @@ pub mod PartsPutLemmas
 pub mod PartsValueLemmas
 pub mod PartsOpenLemmas
 pub mod CutLemmas
+pub mod OthersLemmas

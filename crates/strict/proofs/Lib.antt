@@ -23,7 +23,6 @@ pub mod ChosenLemmas
 pub mod AloneLemmas
 pub mod LeastLemmas
 pub mod BegunLemmas
-pub mod OthersLemmas
 pub mod MemberLemmas
 pub mod DueLemmas
 pub mod SetLemmas
