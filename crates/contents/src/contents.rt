@@ -6,9 +6,8 @@ ghost use Rattle.primitives.specs.Integer.{IsWideInteger};
 ghost use Rattle.types.specs.Conforms.{Conforms};
 ghost use Rattle.types.specs.Leaf.{IsLeaf};
 ghost use Rattle.types.specs.Refusal.{IsFinal};
-ghost use Rattle.types.specs.Shape.{Val};
 ghost use Rattle.types.specs.View.{ty_view, value_view};
-ghost use Rattle.contents.specs.Contents.{HoldsContents, IsEnumerated, IsOfContents, IsTextual, refusal_of_fault, text_view, wide_view};
+ghost use Rattle.contents.specs.Contents.{HoldsNoValue, HoldsValue, IsEnumerated, IsOfContents, IsTextual, refusal_of_fault, text_view, wide_view};
 
 use primitives::{
     Fault, is_wide_integer, read_bits, read_boolean, read_integer, read_null, read_oid,
@@ -24,10 +23,8 @@ use types::{Refusal, Ty, Value, conforms};
 /// their end (X.690 11.2.2).
 pub fn read_contents(alloc: Global, ty: &Ty, contents: &[u8]) -> Result<Value, Refusal>
     requires { IsLeaf (ty_view ty.now) }
-    ensures value { IfOk result (λ value. Conforms (ty_view ty.now) (value_view value)
-        × HoldsContents ber (ty_view ty.now) (value_view value) contents.now) }
-    ensures none { IfErr result (λ refusal. IsFinal refusal → (v : Val) → Conforms (ty_view ty.now) v →
-        ¬ HoldsContents ber (ty_view ty.now) v contents.now) }
+    ensures value { IfOk result (λ value. HoldsValue ber (ty_view ty.now) (value_view value) contents.now) }
+    ensures none { IfErr result (λ refusal. IsFinal refusal → HoldsNoValue ber (ty_view ty.now) contents.now) }
     ensures numbers { IfErr result IsOfContents }
 {
     match ty {
@@ -94,10 +91,8 @@ fn read_wide_integer(alloc: Global, contents: &[u8]) -> Result<Value, Refusal>
 // The item of an ENUMERATED whose number the contents octets are.
 fn read_item(ty: &Ty, contents: &[u8]) -> Result<Value, Refusal>
     requires { IsEnumerated ty.now }
-    ensures value { IfOk result (λ value. Conforms (ty_view ty.now) (value_view value)
-        × HoldsContents ber (ty_view ty.now) (value_view value) contents.now) }
-    ensures none { IsErr result → (v : Val) → Conforms (ty_view ty.now) v →
-        ¬ HoldsContents ber (ty_view ty.now) v contents.now }
+    ensures value { IfOk result (λ value. HoldsValue ber (ty_view ty.now) (value_view value) contents.now) }
+    ensures none { IsErr result → HoldsNoValue ber (ty_view ty.now) contents.now }
     ensures numbers { IfErr result (λ refusal. refusal ≡ Refusal.Contents) }
 {
     let Some(number) = read_integer(contents) else {
@@ -114,10 +109,8 @@ fn read_item(ty: &Ty, contents: &[u8]) -> Result<Value, Refusal>
 // The text of a character string or a time that the contents octets are.
 fn read_text(alloc: Global, ty: &Ty, contents: &[u8]) -> Result<Value, Refusal>
     requires { IsTextual ty.now }
-    ensures value { IfOk result (λ value. Conforms (ty_view ty.now) (value_view value)
-        × HoldsContents ber (ty_view ty.now) (value_view value) contents.now) }
-    ensures none { IfErr result (λ refusal. IsFinal refusal → (v : Val) → Conforms (ty_view ty.now) v →
-        ¬ HoldsContents ber (ty_view ty.now) v contents.now) }
+    ensures value { IfOk result (λ value. HoldsValue ber (ty_view ty.now) (value_view value) contents.now) }
+    ensures none { IfErr result (λ refusal. IsFinal refusal → HoldsNoValue ber (ty_view ty.now) contents.now) }
     ensures numbers { IfErr result IsOfContents }
 {
     match Vec::from_slice(alloc, contents) {

@@ -9,6 +9,7 @@
 
 mod choices;
 mod contents;
+mod filling;
 mod frame;
 mod head;
 mod holding;
@@ -21,6 +22,7 @@ mod segments;
 
 pub use choices::{begins, is_node, node_of, node_within, wrap};
 pub use contents::read_contents;
+pub use filling::fill;
 pub use frame::{Frame, INLINE, OUTSIDE};
 pub use head::{Extent, named, read_extent, read_head_tag, read_tag};
 pub use holding::{Holding, holding_of};

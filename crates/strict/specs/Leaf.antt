@@ -1,18 +1,15 @@
 -- Encodings of types without parts under the canonical rules: primitive ones, and strings that CER cuts (X.690 9.2).
-use Rattle.std.specs.Prelude.{◌≡◌, ◌≤◌, ⊤, ℕ, Bool, false, List, ◌++◌, Option, MatchOption, length, take, drop, slice_range}
+use Rattle.std.specs.Prelude.{◌≡◌, ◌≤◌, ⊤, ℕ, Bool, false, List, ◌++◌, length, take, drop, slice_range}
 use Rattle.octets.specs.declared.tag.Tag.{Tag}
 use Rattle.octets.specs.Rule.{cer, der}
 use Rattle.primitives.specs.Bits.{IsBits}
 use Rattle.primitives.specs.Boolean.{IsBoolean}
-use Rattle.primitives.specs.Oid.{IsOid, IsOidValue}
 use Rattle.types.specs.declared.refusal.Refusal.{Refusal}
 use Rattle.types.specs.declared.refusal.Refusal.TheVariants.{Contents, Alphabet, NotCanonical, NoMemory}
-use Rattle.types.specs.declared.value.Value.{Value}
 use Rattle.types.specs.Conforms.{Conforms}
 use Rattle.types.specs.Form.{IsDefinite}
 use Rattle.types.specs.Leaf.{tag_of}
-use Rattle.types.specs.Shape.{StringType, SimpleValue, StringValue, Shape, Val}
-use Rattle.types.specs.View.{value_view}
+use Rattle.types.specs.Shape.{SimpleType, StringType, SimpleValue, StringValue, Shape, Val}
 use Rattle.types.specs.Strings.{segment_octets, AreOctets, IsCut}
 use Rattle.contents.specs.declared.joined.Kind.{Kind}
 use Rattle.contents.specs.declared.joined.Kind.TheVariants.{Bits, Octets}
@@ -94,26 +91,18 @@ pub record IsBooleanOf (v : Val) (contents : List ℕ) : Type 0 where
 abbrev pub bits_view : List Bool → Val
 bits_view bits = Val.string (StringValue.bits bits)
 
--- the value of an OCTET STRING with these octets
-abbrev pub octets_view : List ℕ → Val
-octets_view octets = Val.string (StringValue.octets octets)
-
--- these are the contents octets of an OBJECT IDENTIFIER of this value
-pub record IsOidOf (v : Val) (contents : List ℕ) : Type 0 where
-  pub arcs : List ℕ
-  pub is : v ≡ Val.simple (SimpleValue.oid arcs)
-  pub within : IsOidValue arcs
-  pub spelt : IsOid arcs contents
-
 -- these are those of a BIT STRING of this value
 pub record IsBitsOf (v : Val) (contents : List ℕ) : Type 0 where
   pub bits : List Bool
   pub is : v ≡ bits_view bits
   pub spelt : IsBits der bits contents
 
--- they are those of the value in the slot
-abbrev pub IsFilled : Shape → List ℕ → Option Value → Type 0
-IsFilled type contents slot = MatchOption slot ⊥ (λ value. Conforms type (value_view value) × HoldsContents der type (value_view value) contents)
+-- the contents octets of a value of the type are alike under every rule
+abbrev pub IsSpeltAlike : Shape → Type 0
+IsSpeltAlike (Shape.simple tag SimpleType.boolean) = ⊥
+IsSpeltAlike (Shape.string tag StringType.bit_string) = ⊥
+IsSpeltAlike (Shape.string tag (StringType.named_bits names)) = ⊥
+IsSpeltAlike type = ⊤
 
 -- 6, 7, 12 and 17: what contents octets are refused with
 abbrev pub IsOfSpelling : Refusal → Type 0

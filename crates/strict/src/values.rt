@@ -8,7 +8,7 @@ ghost use Rattle.types.specs.Leaf.{IsLeaf};
 ghost use Rattle.types.specs.Refusal.{IsFinal};
 ghost use Rattle.types.specs.Shape.{Val};
 ghost use Rattle.types.specs.View.{ty_view, value_view};
-ghost use Rattle.contents.specs.Contents.{HoldsContents};
+ghost use Rattle.contents.specs.Contents.{HoldsNoValue, HoldsValue};
 ghost use Rattle.strict.specs.Leaf.{IsBitString, IsBooleanOf, IsOfSpelling, bits_view};
 
 use contents::read_contents;
@@ -22,10 +22,8 @@ use types::{Refusal, Ty, Value, conforms};
 // but not as the rules have them.
 pub fn read_value(alloc: Global, ty: &Ty, contents: &[u8]) -> Result<Value, Refusal>
     requires { IsLeaf (ty_view ty.now) }
-    ensures value { IfOk result (λ value. Conforms (ty_view ty.now) (value_view value)
-        × HoldsContents der (ty_view ty.now) (value_view value) contents.now) }
-    ensures none { IfErr result (λ refusal. IsFinal refusal → (v : Val) → Conforms (ty_view ty.now) v →
-        ¬ HoldsContents der (ty_view ty.now) v contents.now) }
+    ensures value { IfOk result (λ value. HoldsValue der (ty_view ty.now) (value_view value) contents.now) }
+    ensures none { IfErr result (λ refusal. IsFinal refusal → HoldsNoValue der (ty_view ty.now) contents.now) }
     ensures numbers { IfErr result IsOfSpelling }
 {
     match ty {
@@ -65,10 +63,8 @@ pub fn read_truth(contents: &[u8]) -> Result<Value, Refusal>
 // The bits: unused ones are 0 (X.690 11.2.1).
 fn read_bit_string(alloc: Global, ty: &Ty, contents: &[u8]) -> Result<Value, Refusal>
     requires { IsBitString (ty_view ty.now) }
-    ensures value { IfOk result (λ value. Conforms (ty_view ty.now) (value_view value)
-        × HoldsContents der (ty_view ty.now) (value_view value) contents.now) }
-    ensures none { IfErr result (λ refusal. IsFinal refusal → (v : Val) → Conforms (ty_view ty.now) v →
-        ¬ HoldsContents der (ty_view ty.now) v contents.now) }
+    ensures value { IfOk result (λ value. HoldsValue der (ty_view ty.now) (value_view value) contents.now) }
+    ensures none { IfErr result (λ refusal. IsFinal refusal → HoldsNoValue der (ty_view ty.now) contents.now) }
     ensures numbers { IfErr result IsOfSpelling }
 {
     match read_bits(alloc, contents) {

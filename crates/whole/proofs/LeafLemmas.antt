@@ -7,12 +7,12 @@ use Rattle.types.specs.Form.{IsPrimitive}
 use Rattle.types.specs.Leaf.{tag_of}
 use Rattle.types.specs.Shape.{Shape}
 use Rattle.types.specs.View.{value_view}
+use Rattle.contents.specs.Contents.{IsFilled}
 use Rattle.contents.specs.Parts.{IsPartOf}
 use Rattle.contents.proofs.WithinLemmas.{part_of_contents}
-use Rattle.whole.specs.Reading.{IsHeld}
 
 -- what the contents octets hold is what they encode
-pub part_held : (levels : ℕ) (type : Shape) (contents octets : List ℕ) (slot : Option Value) → IsUsable (tag_of type) → IsHeld type contents slot → IsPrimitive ber (tag_of type) contents octets
+pub part_held : (levels : ℕ) (type : Shape) (contents octets : List ℕ) (slot : Option Value) → IsUsable (tag_of type) → IsFilled ber type contents slot → IsPrimitive ber (tag_of type) contents octets
     → MatchOption slot ⊥ (λ value. IsPartOf levels type (value_view value) octets)
 part_held levels type contents octets None usable held primitive = held
 part_held levels type contents octets (Some value) usable held primitive = part_of_contents levels type (value_view value) contents octets usable held.0 held.1 primitive

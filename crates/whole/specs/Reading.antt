@@ -2,18 +2,11 @@
 use Rattle.std.specs.Prelude.{◌≡◌, ◌≤◌, ℕ, List, [], ◌∷◌, Option, length, take, map, option_map, MatchOption}
 use Rattle.std.specs.List.{concat}
 use Rattle.octets.specs.declared.tag.Tag.{Tag}
-use Rattle.octets.specs.Rule.{ber}
 use Rattle.types.specs.declared.value.Value.{Value}
 use Rattle.types.specs.Shape.{Val, Shape}
 use Rattle.types.specs.View.{ComponentView, value_view, components_of}
-use Rattle.types.specs.Conforms.{Conforms}
 use Rattle.types.specs.Encoding.{standing}
-use Rattle.contents.specs.Contents.{HoldsContents}
 use Rattle.contents.specs.Parts.{Parts, IsPartOf, IsCome, Holds, ArePartsOf, IsDue, IsPut}
-
--- these are the contents octets of the value in the slot
-abbrev pub IsHeld : Shape → List ℕ → Option Value → Type 0
-IsHeld type contents slot = MatchOption slot ⊥ (λ value. Conforms type (value_view value) × HoldsContents ber type (value_view value) contents)
 
 -- so many octets are an encoding of the value in the slot, in which at most so many constructed ones nest
 abbrev pub IsRead : ℕ → Shape → List ℕ → Option Value → ℕ → Type 0

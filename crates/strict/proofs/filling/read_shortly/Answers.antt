@@ -4,10 +4,10 @@ use Rattle.strict.specs.Leaf.{IsPlace}
 use Rattle.strict.proofs.FillLemmas.{filled_read}
 use Rattle.strict.proofs.filling.read_shortly.Goals as goal
 
-pub returns-then-fill : goal.returns-then-fill
-returns-then-fill c = λ rule.
+pub returns-then-fill_canonical : goal.returns-then-fill_canonical
+returns-then-fill_canonical c = λ rule.
     let octets = c.args.octets.now in
     let room = c.args.room in
     let stop = c.in_ok-stop.stop in
     let place = subst (λ t. IsPlace t room octets 2 stop) (sym c.in_ok-tag.ensures.tag) c.in_ok-stop.ensures.place in
-    filled_read rule (ty_view c.args.ty.now) room stop octets c.fill.new.slot c.in_ok-tag.ensures.leaf place c.in_ok-stop.ensures.short (c.fill.ensures c.if-fill.true)
+    filled_read rule (ty_view c.args.ty.now) room stop octets c.fill_canonical.new.slot c.in_ok-tag.ensures.leaf place c.in_ok-stop.ensures.short (c.fill_canonical.ensures c.if-fill_canonical.true)

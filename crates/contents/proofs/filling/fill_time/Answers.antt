@@ -6,7 +6,7 @@ use Rattle.types.specs.Conforms.{Conforms}
 use Rattle.types.specs.Shape.{StringType, StringValue, Shape, Val}
 use Rattle.types.proofs.ViewLemmas.{value-Text}
 use Rattle.contents.specs.Contents.{HoldsContents}
-use Rattle.whole.proofs.leaf.fill_time.Goals as goal
+use Rattle.contents.proofs.filling.fill_time.Goals as goal
 
 pub returns-in-Ok : goal.returns-in-Ok
 returns-in-Ok c = λ filled.
