@@ -1,5 +1,6 @@
 -- Lemmas on what a refusal says of octets.
-use Rattle.std.proofs.Common.{◌≡◌, ℕ, List, [], ◌++◌, Ok, Err, IfErr, IsErrAnd, refl, sym, ap, ◌∙◌, subst, append-nil}
+use Rattle.std.proofs.Common.{◌≡◌, ℕ, List, [], ◌++◌, ◌-◌, Ok, Err, IfErr, IsErrAnd, length, take, drop, refl, sym, ap, ◌∙◌, subst, append-nil}
+use Rattle.std.proofs.lemmas.List.{take_rest}
 use Rattle.std.specs.declared.result.Result.{Result}
 use Rattle.types.specs.declared.refusal.Refusal.{Refusal}
 use Rattle.types.specs.declared.refusal.Refusal.TheVariants.{Truncated}
@@ -23,6 +24,10 @@ bars_never r Q octets bars final more q = bars more final q
 pub bars_by : (r : Refusal) (Q P : List ℕ → Type 0) (octets inner : List ℕ) → ((more : List ℕ) → Q (octets ++ more) → P (inner ++ more)) → Bars r P inner → Bars r Q octets
 bars_by r Q P octets inner step bars = λ more may q. bars more may (step more q)
 
+-- where the one stands behind so many octets
+bars_rest : (r : Refusal) (Q P : List ℕ → Type 0) (octets : List ℕ) (at : ℕ) → ((more : List ℕ) → Q (octets ++ more) → P (drop at octets ++ more)) → Bars r P (take (length octets - at) (drop at octets)) → Bars r Q octets
+bars_rest r Q P octets at step bars = bars_by r Q P octets (take (length octets - at) (drop at octets)) (λ more q. subst (λ o. P (o ++ more)) (sym (take_rest octets at)) (step more q)) bars
+
 -- through a `?`
 pub bars_through : {T : Type 0} (result : Result T Refusal) (x : Refusal) (Q : List ℕ → Type 0) (octets : List ℕ) → IsErrAnd result (λ e. e ≡ x) → Bars x Q octets → IfErr result (λ r. Bars r Q octets)
 bars_through (Ok v) x Q octets h bars = tt
@@ -31,3 +36,11 @@ bars_through (Err e) x Q octets h bars = subst (λ r. Bars r Q octets) (sym h) b
 -- by another name
 pub bars_named : (r n : Refusal) (Q : List ℕ → Type 0) (octets : List ℕ) → ((more : List ℕ) → MayFollow n more → MayFollow r more) → Bars r Q octets → Bars n Q octets
 bars_named r n Q octets follows bars = λ more may q. bars more (follows more may) q
+
+-- what stands behind so many octets, through a `?`
+pub bars_behind : {T : Type 0} (result : Result T Refusal) (x : Refusal) (Q P : List ℕ → Type 0) (octets : List ℕ) (at : ℕ) → IsErrAnd result (λ e. e ≡ x) → ((more : List ℕ) → Q (octets ++ more) → P (drop at octets ++ more)) → Bars x P (take (length octets - at) (drop at octets)) → IfErr result (λ r. Bars r Q octets)
+bars_behind result x Q P octets at h step bars = bars_through result x Q octets h (bars_rest x Q P octets at step bars)
+
+-- and by another name
+pub bars_inside : (r n : Refusal) (Q P : List ℕ → Type 0) (octets : List ℕ) (at : ℕ) → ((more : List ℕ) → MayFollow n more → MayFollow r more) → ((more : List ℕ) → Q (octets ++ more) → P (drop at octets ++ more)) → Bars r P (take (length octets - at) (drop at octets)) → Bars n Q octets
+bars_inside r n Q P octets at follows step bars = bars_named r n Q octets follows (bars_rest r Q P octets at step bars)

@@ -80,6 +80,9 @@ begun_below [] place tag h = absurd h
 begun_below (c ∷ cs) zero tag h = omega arith
 begun_below (c ∷ cs) (suc place) tag h = omega (arith, begun_below cs place tag h)
 
+pub begun_within : (fields : List Field) (place : ℕ) (tag : Tag) → IsBegunAt (map field_view fields) place tag → place < length fields
+begun_within fields place tag begun = omega (arith, begun_below (map field_view fields) place tag begun, length-map fields field_view)
+
 begun_tags : (cs : List ComponentView) (place : ℕ) (tag : Tag) → IsBegunAt cs place tag → Contains (tags_of_components (components_of cs)) tag
 begun_tags [] place tag h = absurd h
 begun_tags (c ∷ cs) zero tag h = contains_left (first_tags c.type) (tags_of_components (components_of cs)) tag h

@@ -22,13 +22,16 @@ use Rattle.strict.specs.Components.{IsFront, EndsOrBegins, HasPresent, IsPresent
 use Rattle.strict.specs.Members.{IsBegunAt, IsEmptyAt, IsOrderTagOf, ComesBehind, AreFilled, HasMembers}
 use Rattle.strict.proofs.PartLemmas.{one_of, same_part, one_begins, no_end_here}
 use Rattle.strict.proofs.FrontLemmas.{same_tag, within_of, tag_within, begins_whole}
-use Rattle.strict.proofs.BegunLemmas.{begun_once}
+use Rattle.strict.proofs.BegunLemmas.{begun_once, begun_within}
 use Rattle.strict.proofs.MemberLemmas.{IsComponentAt, IsNextMember, next_member}
 
-pub component_at : (fields : List Field) (i : ℕ) (f : Field) → i < length fields → f ≡ get_or fields i f → IsComponentAt (map field_view fields) i (field_view f)
+component_at : (fields : List Field) (i : ℕ) (f : Field) → i < length fields → f ≡ get_or fields i f → IsComponentAt (map field_view fields) i (field_view f)
 component_at [] i f below is = absurd (omega (arith, below))
 component_at (x ∷ fields) zero f below is = ap field_view (sym is)
 component_at (x ∷ fields) (suc i) f below is = component_at fields i f (omega (arith, below)) is
+
+pub begun_at : (fields : List Field) (i : ℕ) (f : Field) (tag : Tag) → IsBegunAt (map field_view fields) i tag → f ≡ get_or fields i f → IsComponentAt (map field_view fields) i (field_view f)
+begun_at fields i f tag begun is = component_at fields i f (begun_within fields i tag begun) is
 
 component_once : (cs : List ComponentView) (i : ℕ) (c d : ComponentView) → IsComponentAt cs i c → IsComponentAt cs i d → c ≡ d
 component_once [] i c d h g = absurd h

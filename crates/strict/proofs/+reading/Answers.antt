@@ -23,7 +23,7 @@ use Rattle.strict.specs.Reading.{IsRead, HasPart, HasChoice, HasAlone}
 use Rattle.strict.specs.Items.{HasItems, AreItemsRead, HasOrdered, AreOrderedRead, between}
 use Rattle.strict.specs.Components.{IsFront, EndsOrBegins, HasPresent, IsPresentRead, HasComponents, AreComponentsRead, BarsComponents}
 use Rattle.strict.specs.Members.{IsBegunAt, IsEmptyAt, IsOrderTagOf, HasMembers, AreMembersRead, AreFilled}
-use Rattle.strict.proofs.BarsLemmas.{bars_of, bars_by, bars_through, bars_named}
+use Rattle.strict.proofs.BarsLemmas.{bars_of, bars_by, bars_through, bars_behind, bars_inside}
 use Rattle.strict.proofs.PartLemmas.{read_some}
 use Rattle.strict.proofs.FieldLemmas.{field_type, field_requirement, run_at, first_of, whole_of}
 use Rattle.strict.proofs.FrontLemmas.{IsStandingKnown, front_known}
@@ -35,8 +35,8 @@ use Rattle.strict.proofs.OrderedLemmas.{ordered_or_end, ordered_stands, none_ord
 use Rattle.strict.proofs.ChosenLemmas as choices
 use Rattle.strict.proofs.ChosenLemmas.{tag_of_part, choice_of_part, not_this, this_one, none_left, distinct_from, good_at, chosen_read}
 use Rattle.strict.proofs.AloneLemmas.{alone_inside, ends_alone, explicit_read}
-use Rattle.strict.proofs.BegunLemmas.{begun_below, empty_length}
-use Rattle.strict.proofs.DueLemmas.{members_begin, members_filled, none_goes_on, is_due, present_due, none_before, component_at, component_all}
+use Rattle.strict.proofs.BegunLemmas.{begun_within, empty_length}
+use Rattle.strict.proofs.DueLemmas.{members_begin, members_filled, none_goes_on, is_due, present_due, none_before, begun_at, component_all}
 use Rattle.strict.proofs.SetLemmas.{come_length, no_members, member_more, set_read, members_inside, good_members}
 use Rattle.strict.proofs.+reading.Goals as goal
 
@@ -48,12 +48,9 @@ items::read_items-returns-in_err-ends-clause-refused t c =
     let d = c.args.inside.now.definite in
     let room = c.args.inside.now.room in
     let at = c.loop-item.at in
-    let all : take (length octets - at) (drop at octets) ≡ drop at octets = take_rest octets at in
     let Q = HasItems rule type d room in
     let P : List ℕ → Type 0 = λ o. EndsHere d (room - at) o ⊎ BeginsAboveZero o in
-    bars_through c.from_residual.result _ Q octets c.from_residual.ensures.1
-    (bars_by _ Q P octets (take (length octets - at) (drop at octets)) (λ more h. subst (λ x. P (x ++ more)) (sym all) (item_or_end rule type d (room - at) (drop at octets ++ more) c.requires.good (c.loop-item.invariant.forth more h)))
-    c.in_err-ends.ensures.refused)
+    bars_behind c.from_residual.result _ Q P octets at c.from_residual.ensures.1 (λ more h. item_or_end rule type d (room - at) (drop at octets ++ more) c.requires.good (c.loop-item.invariant.forth more h)) c.in_err-ends.ensures.refused
 
 pub items::read_items-returns-in_err-used-clause-refused : goal.items::read_items-returns-in_err-used-clause-refused
 items::read_items-returns-in_err-used-clause-refused t c =
@@ -63,23 +60,19 @@ items::read_items-returns-in_err-used-clause-refused t c =
     let d = c.args.inside.now.definite in
     let room = c.args.inside.now.room in
     let at = c.loop-item.at in
-    let all : take (length octets - at) (drop at octets) ≡ drop at octets = take_rest octets at in
     let Q = HasItems rule type d room in
     let P = HasPart rule type (room - at) in
     let known : IsEndKnown false d (room - at) (take (length octets - at) (drop at octets)) = let off : c.in_ok-ends.field-0 ≡ false = search rules in subst (λ b. IsEndKnown b d (room - at) (take (length octets - at) (drop at octets))) off c.in_ok-ends.ensures.value in
-    bars_through c.from_residual-in_err-used.result _ Q octets c.from_residual-in_err-used.ensures.1
-    (bars_by _ Q P octets (take (length octets - at) (drop at octets)) (λ more h.
-    let goes : EndsHere d (room - at) (drop at octets ++ more) → ⊥ = subst (λ x. EndsHere d (room - at) (x ++ more) → ⊥) all (known more) in
-    subst (λ x. P (x ++ more)) (sym all) (item_stands rule type d (room - at) (drop at octets ++ more) goes (c.loop-item.invariant.forth more h)))
-    c.in_err-used.ensures.refused)
+    bars_behind c.from_residual-in_err-used.result _ Q P octets at c.from_residual-in_err-used.ensures.1 (λ more h.
+        let goes : EndsHere d (room - at) (drop at octets ++ more) → ⊥ = subst (λ x. EndsHere d (room - at) (x ++ more) → ⊥) (take_rest octets at) (known more) in
+        item_stands rule type d (room - at) (drop at octets ++ more) goes (c.loop-item.invariant.forth more h)) c.in_err-used.ensures.refused
 
 pub items::read_items-loop-item-smaller : goal.items::read_items-loop-item-smaller
 items::read_items-loop-item-smaller t c =
     let octets = c.args.octets.now in
     let type = ty_view c.args.inner.now in
     let at = c.loop-item.at in
-    let all : take (length octets - at) (drop at octets) ≡ drop at octets = take_rest octets at in
-    let read = subst (λ x. IsRead (rule_of c.args.rule) type (c.args.inside.now.room - at) x c.read_one.new.slot c.in_ok-used.used) all c.in_ok-used.ensures.value in
+    let read = subst (λ x. IsRead (rule_of c.args.rule) type (c.args.inside.now.room - at) x c.read_one.new.slot c.in_ok-used.used) (take_rest octets at) c.in_ok-used.ensures.value in
     let some = read_some (rule_of c.args.rule) type (c.args.inside.now.room - at) (drop at octets) c.read_one.new.slot c.in_ok-used.used c.requires.good read in
     omega (arith, some, read.0, length-drop at octets, c.loop-item.invariant.there)
 
@@ -91,9 +84,8 @@ items::read_items-loop-item-preserved t c =
     let room = c.args.inside.now.room in
     let at = c.loop-item.at in
     let used = c.in_ok-used.used in
-    let all : take (length octets - at) (drop at octets) ≡ drop at octets = take_rest octets at in
     let v = c.in-Some.value in
-    let read : IsRead rule type (room - at) (drop at octets) (Some v) used = subst₂ (λ x s. IsRead rule type (room - at) x s used) all c.in-Some.is c.in_ok-used.ensures.value in
+    let read : IsRead rule type (room - at) (drop at octets) (Some v) used = subst₂ (λ x s. IsRead rule type (room - at) x s used) (take_rest octets at) c.in-Some.is c.in_ok-used.ensures.value in
     let more = item_read rule type c.args.inside.now.definite room octets c.loop-item.items.items v at used c.requires.good c.loop-item.invariant read in
     subst (λ l. AreItemsRead rule type c.args.inside.now.definite room octets l (at + used)) (sym (c.push_reserved.ensures.items ∙ ap (λ l. l ++ (v ∷ [])) c.reserve.ensures.items)) more
 
@@ -110,13 +102,9 @@ items::read_ordered-returns-in_err-ends-clause-refused t c =
     let at = c.loop-item.at in
     let before = c.loop-item.before in
     let last = between octets before at in
-    let inner = take (length octets - at) (drop at octets) in
-    let all : inner ≡ drop at octets = take_rest octets at in
     let Q = HasOrdered rule type d room [] in
     let P : List ℕ → Type 0 = λ o. EndsHere d (room - at) o ⊎ BeginsAboveZero o in
-    bars_through c.from_residual.result _ Q octets c.from_residual.ensures.1
-    (bars_by _ Q P octets inner (λ more h. subst (λ x. P (x ++ more)) (sym all) (ordered_or_end rule type d (room - at) last (drop at octets ++ more) c.requires.good (c.loop-item.invariant.forth more h)))
-    c.in_err-ends.ensures.refused)
+    bars_behind c.from_residual.result _ Q P octets at c.from_residual.ensures.1 (λ more h. ordered_or_end rule type d (room - at) last (drop at octets ++ more) c.requires.good (c.loop-item.invariant.forth more h)) c.in_err-ends.ensures.refused
 
 pub items::read_ordered-returns-in_err-used-clause-refused : goal.items::read_ordered-returns-in_err-used-clause-refused
 items::read_ordered-returns-in_err-used-clause-refused t c =
@@ -129,16 +117,13 @@ items::read_ordered-returns-in_err-used-clause-refused t c =
     let before = c.loop-item.before in
     let last = between octets before at in
     let inner = take (length octets - at) (drop at octets) in
-    let all : inner ≡ drop at octets = take_rest octets at in
     let Q = HasOrdered rule type d room [] in
     let P = HasPart rule type (room - at) in
     let off : c.in_ok-ends.field-0 ≡ false = search rules in
     let known : IsEndKnown false d (room - at) inner = subst (λ b. IsEndKnown b d (room - at) inner) off c.in_ok-ends.ensures.value in
-    bars_through c.from_residual-in_err-used.result _ Q octets c.from_residual-in_err-used.ensures.1
-    (bars_by _ Q P octets inner (λ more h.
-    let goes : EndsHere d (room - at) (drop at octets ++ more) → ⊥ = subst (λ x. EndsHere d (room - at) (x ++ more) → ⊥) all (known more) in
-    subst (λ x. P (x ++ more)) (sym all) (ordered_stands rule type d (room - at) last (drop at octets ++ more) goes (c.loop-item.invariant.forth more h)))
-    c.in_err-used.ensures.refused)
+    bars_behind c.from_residual-in_err-used.result _ Q P octets at c.from_residual-in_err-used.ensures.1 (λ more h.
+        let goes : EndsHere d (room - at) (drop at octets ++ more) → ⊥ = subst (λ x. EndsHere d (room - at) (x ++ more) → ⊥) (take_rest octets at) (known more) in
+        ordered_stands rule type d (room - at) last (drop at octets ++ more) goes (c.loop-item.invariant.forth more h)) c.in_err-used.ensures.refused
 
 pub items::read_ordered-returns-then-comes_before-clause-refused : goal.items::read_ordered-returns-then-comes_before-clause-refused
 items::read_ordered-returns-then-comes_before-clause-refused t c = λ more may h.
@@ -151,9 +136,7 @@ items::read_ordered-returns-then-comes_before-clause-refused t c = λ more may h
     let before = c.loop-item.before in
     let used = c.in_ok-used.used in
     let v = c.in-Some.value in
-    let inner = take (length octets - at) (drop at octets) in
-    let all : inner ≡ drop at octets = take_rest octets at in
-    let read : IsRead rule type (room - at) (drop at octets) (Some v) used = subst₂ (λ x s. IsRead rule type (room - at) x s used) all c.in-Some.is c.in_ok-used.ensures.value in
+    let read : IsRead rule type (room - at) (drop at octets) (Some v) used = subst₂ (λ x s. IsRead rule type (room - at) x s used) (take_rest octets at) c.in-Some.is c.in_ok-used.ensures.value in
     let size : (at + used) - at ≡ used = omega arith in
     let told : c.comes_before.result ≡ is_lt (slice_cmp nat_cmp (take used (drop at octets)) (between octets before at)) = subst (λ n. c.comes_before.result ≡ is_lt (slice_cmp nat_cmp (take n (drop at octets)) (between octets before at))) size c.comes_before.ensures in
     none_out_of_order rule type d room octets more c.loop-item.items.items v before at used c.requires.good c.loop-item.invariant read (sym told ∙ c.if-comes_before.true) h
@@ -165,9 +148,7 @@ items::read_ordered-loop-item-smaller t c =
     let type = ty_view c.args.inner.now in
     let room = c.args.inside.now.room in
     let at = c.loop-item.at in
-    let inner = take (length octets - at) (drop at octets) in
-    let all : inner ≡ drop at octets = take_rest octets at in
-    let read = subst (λ x. IsRead rule type (room - at) x c.read_one.new.slot c.in_ok-used.used) all c.in_ok-used.ensures.value in
+    let read = subst (λ x. IsRead rule type (room - at) x c.read_one.new.slot c.in_ok-used.used) (take_rest octets at) c.in_ok-used.ensures.value in
     let some = read_some rule type (room - at) (drop at octets) c.read_one.new.slot c.in_ok-used.used c.requires.good read in
     omega (arith, some, read.0, length-drop at octets, c.loop-item.invariant.there)
 
@@ -182,9 +163,7 @@ items::read_ordered-loop-item-preserved t c =
     let before = c.loop-item.before in
     let used = c.in_ok-used.used in
     let v = c.in-Some.value in
-    let inner = take (length octets - at) (drop at octets) in
-    let all : inner ≡ drop at octets = take_rest octets at in
-    let read : IsRead rule type (room - at) (drop at octets) (Some v) used = subst₂ (λ x s. IsRead rule type (room - at) x s used) all c.in-Some.is c.in_ok-used.ensures.value in
+    let read : IsRead rule type (room - at) (drop at octets) (Some v) used = subst₂ (λ x s. IsRead rule type (room - at) x s used) (take_rest octets at) c.in-Some.is c.in_ok-used.ensures.value in
     let size : (at + used) - at ≡ used = omega arith in
     let told : c.comes_before.result ≡ is_lt (slice_cmp nat_cmp (take used (drop at octets)) (between octets before at)) = subst (λ n. c.comes_before.result ≡ is_lt (slice_cmp nat_cmp (take n (drop at octets)) (between octets before at))) size c.comes_before.ensures in
     let more = ordered_read rule type d room octets c.loop-item.items.items v before at used c.requires.good c.loop-item.invariant read (sym told ∙ c.if-comes_before.false) in
@@ -280,8 +259,7 @@ items::read_list-returns-in-Ok-clause-value t c =
     let inside = c.in_ok-inside.inside in
     let used = c.in-Ok.used in
     let items = c.read_items.new.items in
-    let all : take (length octets - inside.start) (drop inside.start octets) ≡ drop inside.start octets = take_rest octets inside.start in
-    let read = subst (λ x. AreItemsRead rule type inside.definite inside.room x items.items used × EndsHere inside.definite (inside.room - used) (drop used x)) all c.in-Ok.ensures.value in
+    let read = subst (λ x. AreItemsRead rule type inside.definite inside.room x items.items used × EndsHere inside.definite (inside.room - used) (drop used x)) (take_rest octets inside.start) c.in-Ok.ensures.value in
     list_read rule c.args.tag type c.args.room octets inside items used c.close.result c.in_ok-inside.ensures.value read.0 read.1 c.close.ensures
 
 pub items::read_list-returns-in-Err-clause-refused : goal.items::read_list-returns-in-Err-clause-refused
@@ -290,14 +268,9 @@ items::read_list-returns-in-Err-clause-refused t c =
     let rule = rule_of c.args.rule in
     let type = ty_view c.args.inner.now in
     let inside = c.in_ok-inside.inside in
-    let start = inside.start in
-    let inner = take (length octets - start) (drop start octets) in
-    let all : inner ≡ drop start octets = take_rest octets start in
     let Q = HasPart rule (Shape.sequence_of c.args.tag type) c.args.room in
     let P = HasItems rule type inside.definite inside.room in
-    bars_named c.in-Err.refusal c.named.result Q octets c.named.ensures.follows
-    (bars_by _ Q P octets inner (λ more h. subst (λ x. P (x ++ more)) (sym all) (items_inside rule c.args.tag type c.args.room octets more inside c.in_ok-inside.ensures.value h))
-    c.in-Err.ensures.refused)
+    bars_inside c.in-Err.refusal c.named.result Q P octets inside.start c.named.ensures.follows (λ more h. items_inside rule c.args.tag type c.args.room octets more inside c.in_ok-inside.ensures.value h) c.in-Err.ensures.refused
 
 pub items::read_set_of-returns-in-Ok-clause-value : goal.items::read_set_of-returns-in-Ok-clause-value
 items::read_set_of-returns-in-Ok-clause-value t c =
@@ -307,8 +280,7 @@ items::read_set_of-returns-in-Ok-clause-value t c =
     let inside = c.in_ok-inside.inside in
     let used = c.in-Ok.used in
     let items = c.read_ordered.new.items in
-    let all : take (length octets - inside.start) (drop inside.start octets) ≡ drop inside.start octets = take_rest octets inside.start in
-    let read = subst (λ x. (before : ℕ) × AreOrderedRead rule type inside.definite inside.room x items.items before used × EndsHere inside.definite (inside.room - used) (drop used x)) all c.in-Ok.ensures.value in
+    let read = subst (λ x. (before : ℕ) × AreOrderedRead rule type inside.definite inside.room x items.items before used × EndsHere inside.definite (inside.room - used) (drop used x)) (take_rest octets inside.start) c.in-Ok.ensures.value in
     set_of_read c.args.rule c.args.tag type c.args.room octets inside items read.0 used c.close.result c.in_ok-inside.ensures.value read.1 read.2 c.close.ensures
 
 pub items::read_set_of-returns-in-Err-clause-refused : goal.items::read_set_of-returns-in-Err-clause-refused
@@ -317,14 +289,9 @@ items::read_set_of-returns-in-Err-clause-refused t c =
     let rule = rule_of c.args.rule in
     let type = ty_view c.args.inner.now in
     let inside = c.in_ok-inside.inside in
-    let start = inside.start in
-    let inner = take (length octets - start) (drop start octets) in
-    let all : inner ≡ drop start octets = take_rest octets start in
     let Q = HasPart rule (Shape.set_of c.args.tag type) c.args.room in
     let P = HasOrdered rule type inside.definite inside.room [] in
-    bars_named c.in-Err.refusal c.named.result Q octets c.named.ensures.follows
-    (bars_by _ Q P octets inner (λ more h. subst (λ x. P (x ++ more)) (sym all) (ordered_inside c.args.rule c.args.tag type c.args.room octets more inside c.in_ok-inside.ensures.value h))
-    c.in-Err.ensures.refused)
+    bars_inside c.in-Err.refusal c.named.result Q P octets inside.start c.named.ensures.follows (λ more h. ordered_inside c.args.rule c.args.tag type c.args.room octets more inside c.in_ok-inside.ensures.value h) c.in-Err.ensures.refused
 
 pub parts::read_chosen-returns-clause-refused : goal.parts::read_chosen-returns-clause-refused
 parts::read_chosen-returns-clause-refused t c = λ more may h.
@@ -343,13 +310,9 @@ parts::read_alone-returns-in_err-front_tag-clause-refused t c =
     let d = c.args.inside.now.definite in
     let room = c.args.inside.now.room in
     let used = c.in_ok-used.used in
-    let inner = take (length octets - used) (drop used octets) in
-    let all : inner ≡ drop used octets = take_rest octets used in
     let Q = HasAlone rule type d room in
     let P = EndsOrBegins d (room - used) in
-    bars_through c.from_residual-in_err-front_tag.result _ Q octets c.from_residual-in_err-front_tag.ensures.1
-    (bars_by _ Q P octets inner (λ more h. inl (subst (λ x. EndsHere d (room - used) (x ++ more)) (sym all) (ends_alone rule type d room octets more c.read_one.new.slot used c.requires.good c.in_ok-used.ensures.value h)))
-    c.in_err-front_tag.ensures.refused)
+    bars_behind c.from_residual-in_err-front_tag.result _ Q P octets used c.from_residual-in_err-front_tag.ensures.1 (λ more h. inl (ends_alone rule type d room octets more c.read_one.new.slot used c.requires.good c.in_ok-used.ensures.value h)) c.in_err-front_tag.ensures.refused
 
 pub parts::read_alone-returns-in-Some-clause-refused : goal.parts::read_alone-returns-in-Some-clause-refused
 parts::read_alone-returns-in-Some-clause-refused t c = λ more may h.
@@ -360,9 +323,8 @@ parts::read_alone-returns-in-Some-clause-refused t c = λ more may h.
     let room = c.args.inside.now.room in
     let used = c.in_ok-used.used in
     let inner = take (length octets - used) (drop used octets) in
-    let all : inner ≡ drop used octets = take_rest octets used in
     let front : IsFront (Some c.in-Some.field-0) d (room - used) inner = subst (λ f. IsFront f d (room - used) inner) c.in-Some.is c.in_ok-front_tag.ensures.value in
-    front.1 more (subst (λ x. EndsHere d (room - used) (x ++ more)) (sym all) (ends_alone rule type d room octets more c.read_one.new.slot used c.requires.good c.in_ok-used.ensures.value h))
+    front.1 more (subst (λ x. EndsHere d (room - used) (x ++ more)) (sym (take_rest octets used)) (ends_alone rule type d room octets more c.read_one.new.slot used c.requires.good c.in_ok-used.ensures.value h))
 
 pub parts::read_explicit-returns-in-Ok-clause-value : goal.parts::read_explicit-returns-in-Ok-clause-value
 parts::read_explicit-returns-in-Ok-clause-value t c =
@@ -372,8 +334,7 @@ parts::read_explicit-returns-in-Ok-clause-value t c =
     let inside = c.in_ok-inside.inside in
     let used = c.in-Ok.used in
     let slot = c.read_alone.new.slot in
-    let all : take (length octets - inside.start) (drop inside.start octets) ≡ drop inside.start octets = take_rest octets inside.start in
-    let read = subst (λ x. IsRead rule type inside.room x slot used × EndsHere inside.definite (inside.room - used) (drop used x)) all c.in-Ok.ensures.value in
+    let read = subst (λ x. IsRead rule type inside.room x slot used × EndsHere inside.definite (inside.room - used) (drop used x)) (take_rest octets inside.start) c.in-Ok.ensures.value in
     explicit_read rule c.args.tag type c.args.room octets inside slot used c.close.result c.in_ok-inside.ensures.value read.0 read.1 c.close.ensures
 
 pub parts::read_explicit-returns-in-Err-clause-refused : goal.parts::read_explicit-returns-in-Err-clause-refused
@@ -382,14 +343,9 @@ parts::read_explicit-returns-in-Err-clause-refused t c =
     let rule = rule_of c.args.rule in
     let type = ty_view c.args.inner.now in
     let inside = c.in_ok-inside.inside in
-    let start = inside.start in
-    let inner = take (length octets - start) (drop start octets) in
-    let all : inner ≡ drop start octets = take_rest octets start in
     let Q = HasPart rule (Shape.explicit c.args.tag type) c.args.room in
     let P = HasAlone rule type inside.definite inside.room in
-    bars_named c.in-Err.refusal c.named.result Q octets c.named.ensures.follows
-    (bars_by _ Q P octets inner (λ more h. subst (λ x. P (x ++ more)) (sym all) (alone_inside rule c.args.tag type c.args.room octets more inside c.in_ok-inside.ensures.value h))
-    c.in-Err.ensures.refused)
+    bars_inside c.in-Err.refusal c.named.result Q P octets inside.start c.named.ensures.follows (λ more h. alone_inside rule c.args.tag type c.args.room octets more inside c.in_ok-inside.ensures.value h) c.in-Err.ensures.refused
 
 pub components::read_sequence-read_components-requires : goal.components::read_sequence-read_components-requires
 components::read_sequence-read_components-requires t c =
@@ -405,8 +361,7 @@ components::read_sequence-returns-in-Ok-read_components-clause-value t c =
     let inside = c.in_ok-inside.inside in
     let used = c.in-Ok-read_components.used in
     let slots = c.read_components.new.slots in
-    let all : take (length octets - inside.start) (drop inside.start octets) ≡ drop inside.start octets = take_rest octets inside.start in
-    let read = subst (λ x. AreComponentsRead rule components [] inside.definite inside.room x slots.items used × EndsHere inside.definite (inside.room - used) (drop used x)) all c.in-Ok-read_components.ensures.value in
+    let read = subst (λ x. AreComponentsRead rule components [] inside.definite inside.room x slots.items used × EndsHere inside.definite (inside.room - used) (drop used x)) (take_rest octets inside.start) c.in-Ok-read_components.ensures.value in
     sequence_read rule c.args.tag c.args.fields.now c.args.room octets inside slots used c.close.result c.in_ok-inside.ensures.value read.0 read.1 c.close.ensures
 
 pub components::read_sequence-returns-in-Err-clause-refused : goal.components::read_sequence-returns-in-Err-clause-refused
@@ -415,14 +370,9 @@ components::read_sequence-returns-in-Err-clause-refused t c =
     let rule = rule_of c.args.rule in
     let components = map field_view c.args.fields.now in
     let inside = c.in_ok-inside.inside in
-    let start = inside.start in
-    let inner = take (length octets - start) (drop start octets) in
-    let all : inner ≡ drop start octets = take_rest octets start in
     let Q = HasPart rule (Shape.sequence c.args.tag (components_view c.args.fields.now)) c.args.room in
     let P = HasComponents rule components inside.definite inside.room in
-    bars_named c.in-Err.refusal c.named.result Q octets c.named.ensures.follows
-    (bars_by _ Q P octets inner (λ more h. subst (λ x. P (x ++ more)) (sym all) (components_inside rule c.args.tag components c.args.room octets more inside c.in_ok-inside.ensures.value h))
-    c.in-Err.ensures.refused)
+    bars_inside c.in-Err.refusal c.named.result Q P octets inside.start c.named.ensures.follows (λ more h. components_inside rule c.args.tag components c.args.room octets more inside c.in_ok-inside.ensures.value h) c.in-Err.ensures.refused
 
 pub components::read_components-loop-place-init : goal.components::read_components-loop-place-init
 components::read_components-loop-place-init t c =
@@ -451,15 +401,11 @@ components::read_components-returns-in_err-at-clause-refused t c =
     let is = c.index-fields-place.is in
     let run = run_at fields i f bound is c.requires.good c.requires.runs in
     let at = c.loop-place.at in
-    let inner = take (length octets - at) (drop at octets) in
-    let all : inner ≡ drop at octets = take_rest octets at in
     let others = map field_view (drop (i + 1) fields) in
     let so_far = subst (λ l. AreComponentsRead rule (map field_view (take i fields)) l d room octets (take i c.loop-place.slots.items) at) run.here c.loop-place.invariant.0 in
     let Q = HasComponents rule (map field_view fields) d room in
     let P = HasComponents rule (field_view f ∷ others) d (room - at) in
-    bars_through c.from_residual.result _ Q octets c.from_residual.ensures.1
-    (bars_by _ Q P octets inner (λ more h. subst (λ x. P (x ++ more)) (sym all) (so_far.forth more (subst (λ l. HasComponents rule l d room (octets ++ more)) (whole_of fields i f bound is) h)))
-    (c.in_err-at.ensures.refused others run.runs run.goods))
+    bars_behind c.from_residual.result _ Q P octets at c.from_residual.ensures.1 (λ more h. so_far.forth more (subst (λ l. HasComponents rule l d room (octets ++ more)) (whole_of fields i f bound is) h)) (c.in_err-at.ensures.refused others run.runs run.goods)
 
 pub components::read_components-overflow_add-at : goal.components::read_components-overflow_add-at
 components::read_components-overflow_add-at t c =
@@ -483,13 +429,12 @@ components::read_components-loop-place-preserved t c =
     let is = c.index-fields-place.is in
     let run = run_at fields i f bound is c.requires.good c.requires.runs in
     let at = c.loop-place.at in
-    let all : take (length octets - at) (drop at octets) ≡ drop at octets = take_rest octets at in
     let others = map field_view (drop (i + 1) fields) in
     let slots = c.loop-place.slots.items in
     let so_far = subst (λ l. AreComponentsRead rule (map field_view (take i fields)) l d room octets (take i slots) at) run.here c.loop-place.invariant.0 in
     let used = c.in_ok-at.field-0 in
     let slot = c.read_component.new.slot in
-    let one = subst (λ x. AreComponentsRead rule (field_view f ∷ []) others d (room - at) x (slot ∷ []) used) all (c.in_ok-at.ensures.value others run.runs run.goods) in
+    let one = subst (λ x. AreComponentsRead rule (field_view f ∷ []) others d (room - at) x (slot ∷ []) used) (take_rest octets at) (c.in_ok-at.ensures.value others run.runs run.goods) in
     let more = component_more rule (map field_view (take i fields)) (field_view f) others d room octets (take i slots) slot at used so_far one in
     let filled : take (i + 1) (set slots i slot) ≡ take i slots ++ (slot ∷ []) = take_more_set slots i slot (omega (arith, bound, c.loop-place.invariant.1)) in (
       subst₂ (λ first l. AreComponentsRead rule first others d room octets l (at + used)) (sym (first_of fields i f bound is)) (sym filled) more,
@@ -504,14 +449,10 @@ components::read_components-returns-in_err-tag-clause-refused t c =
     let d = c.args.inside.now.definite in
     let room = c.args.inside.now.room in
     let at = c.loop-place.at in
-    let inner = take (length octets - at) (drop at octets) in
-    let all : inner ≡ drop at octets = take_rest octets at in
     let read = all_read rule fields c.loop-place.place d room octets c.loop-place.slots.items at c.loop-place-test.false c.loop-place.invariant.1 c.loop-place.invariant.0 in
     let Q = HasComponents rule (map field_view fields) d room in
     let P = EndsOrBegins d (room - at) in
-    bars_through c.from_residual-in_err-tag.result _ Q octets c.from_residual-in_err-tag.ensures.1
-    (bars_by _ Q P octets inner (λ more h. inl (subst (λ x. EndsHere d (room - at) (x ++ more)) (sym all) (ends_behind_all rule (map field_view fields) d room octets more c.loop-place.slots.items at read h)))
-    c.in_err-tag.ensures.refused)
+    bars_behind c.from_residual-in_err-tag.result _ Q P octets at c.from_residual-in_err-tag.ensures.1 (λ more h. inl (ends_behind_all rule (map field_view fields) d room octets more c.loop-place.slots.items at read h)) c.in_err-tag.ensures.refused
 
 pub components::read_components-returns-in-Some-clause-refused : goal.components::read_components-returns-in-Some-clause-refused
 components::read_components-returns-in-Some-clause-refused t c = λ more may h.
@@ -521,10 +462,8 @@ components::read_components-returns-in-Some-clause-refused t c = λ more may h.
     let d = c.args.inside.now.definite in
     let room = c.args.inside.now.room in
     let at = c.loop-place.at in
-    let inner = take (length octets - at) (drop at octets) in
-    let all : inner ≡ drop at octets = take_rest octets at in
     let read = all_read rule fields c.loop-place.place d room octets c.loop-place.slots.items at c.loop-place-test.false c.loop-place.invariant.1 c.loop-place.invariant.0 in
-    let front : IsFront (Some c.in-Some.tag) d (room - at) (drop at octets) = subst₂ (λ f x. IsFront f d (room - at) x) c.in-Some.is all c.in_ok-tag.ensures.value in
+    let front : IsFront (Some c.in-Some.tag) d (room - at) (drop at octets) = subst₂ (λ f x. IsFront f d (room - at) x) c.in-Some.is (take_rest octets at) c.in_ok-tag.ensures.value in
     front.1 more (ends_behind_all rule (map field_view fields) d room octets more c.loop-place.slots.items at read h)
 
 pub components::read_components-returns-in-None-clause-value : goal.components::read_components-returns-in-None-clause-value
@@ -533,9 +472,7 @@ components::read_components-returns-in-None-clause-value t c =
     let d = c.args.inside.now.definite in
     let room = c.args.inside.now.room in
     let at = c.loop-place.at in
-    let inner = take (length octets - at) (drop at octets) in
-    let all : inner ≡ drop at octets = take_rest octets at in
-    let ends : EndsHere d (room - at) (drop at octets) = subst₂ (λ f x. IsFront f d (room - at) x) c.in-None.is all c.in_ok-tag.ensures.value in
+    let ends : EndsHere d (room - at) (drop at octets) = subst₂ (λ f x. IsFront f d (room - at) x) c.in-None.is (take_rest octets at) c.in_ok-tag.ensures.value in
     (all_read (rule_of c.args.rule) c.args.fields.now c.loop-place.place d room octets c.loop-place.slots.items at c.loop-place-test.false c.loop-place.invariant.1 c.loop-place.invariant.0, ends)
 
 pub components::read_component-returns-in-Ok-clause-value : goal.components::read_component-returns-in-Ok-clause-value
@@ -561,11 +498,8 @@ components::read_component-returns-then-is_next-clause-refused t c = λ others r
     let view = field_view f in
     let d = c.args.definite in
     let room = c.args.room in
-    let found = front_known c.in_ok-front-in-Err.front c.is_next.result (ty_view f.ty) d room octets c.in_ok-front-in-Err.ensures.value c.is_next.ensures in
-    let known : IsStandingKnown true view.type d room octets = subst₂ (λ b t. IsStandingKnown b t d room octets) c.if-is_next.true (sym (field_type f)) found in
-    let Q = HasComponents (rule_of rule) (view ∷ others) d room in
-    let P = HasPresent (rule_of rule) view room in
-    bars_by _ Q P octets octets (λ more h. present_stands rule view others d room octets more runs goods known h) c.in-Err.ensures.refused
+    let known : IsStandingKnown true view.type d room octets = subst₂ (λ b t. IsStandingKnown b t d room octets) c.if-is_next.true (sym (field_type f)) (front_known c.in_ok-front-in-Err.front c.is_next.result (ty_view f.ty) d room octets c.in_ok-front-in-Err.ensures.value c.is_next.ensures) in
+    bars_by _ (HasComponents (rule_of rule) (view ∷ others) d room) (HasPresent (rule_of rule) view room) octets octets (λ more h. present_stands rule view others d room octets more runs goods known h) c.in-Err.ensures.refused
 
 pub components::read_component-returns-then-not-may_be_absent-clause-refused : goal.components::read_component-returns-then-not-may_be_absent-clause-refused
 components::read_component-returns-then-not-may_be_absent-clause-refused t c = λ others runs goods more may h.
@@ -574,8 +508,7 @@ components::read_component-returns-then-not-may_be_absent-clause-refused t c = �
     let view = field_view f in
     let d = c.args.definite in
     let room = c.args.room in
-    let found = front_known c.in_ok-front-in-Err.front c.is_next.result (ty_view f.ty) d room octets c.in_ok-front-in-Err.ensures.value c.is_next.ensures in
-    let known : IsStandingKnown false view.type d room octets = subst₂ (λ b t. IsStandingKnown b t d room octets) c.if-is_next.false (sym (field_type f)) found in
+    let known : IsStandingKnown false view.type d room octets = subst₂ (λ b t. IsStandingKnown b t d room octets) c.if-is_next.false (sym (field_type f)) (front_known c.in_ok-front-in-Err.front c.is_next.result (ty_view f.ty) d room octets c.in_ok-front-in-Err.ensures.value c.is_next.ensures) in
     let left = none_stands c.args.rule view others d room (octets ++ more) c.requires.good.type (known more) h in
     let yes : c.may_be_absent.result ≡ true = c.may_be_absent.ensures.1 (subst MayBeAbsent (field_requirement f) left.may) in
     let no : c.may_be_absent.result ≡ false = c.if-not-may_be_absent.true in
@@ -588,8 +521,7 @@ components::read_component-returns-else-not-may_be_absent-clause-value t c = λ 
     let view = field_view f in
     let d = c.args.definite in
     let room = c.args.room in
-    let found = front_known c.in_ok-front-in-Err.front c.is_next.result (ty_view f.ty) d room octets c.in_ok-front-in-Err.ensures.value c.is_next.ensures in
-    let known : IsStandingKnown false view.type d room octets = subst₂ (λ b t. IsStandingKnown b t d room octets) c.if-is_next.false (sym (field_type f)) found in
+    let known : IsStandingKnown false view.type d room octets = subst₂ (λ b t. IsStandingKnown b t d room octets) c.if-is_next.false (sym (field_type f)) (front_known c.in_ok-front-in-Err.front c.is_next.result (ty_view f.ty) d room octets c.in_ok-front-in-Err.ensures.value c.is_next.ensures) in
     let may : MayBeAbsent view.requirement = subst MayBeAbsent (sym (field_requirement f)) (c.may_be_absent.ensures.0 c.if-not-may_be_absent.false) in
     absent_read c.args.rule view others d room octets c.clear.new.slot c.clear.ensures may c.requires.good.type known
 
@@ -600,11 +532,10 @@ components::read_present-returns-in_err-used-clause-refused t c =
     let f = c.args.field.now in
     let view = field_view f in
     let room = c.args.room in
-    let same : ty_view f.ty ≡ view.type = sym (field_type f) in
     let Q = HasPresent rule view room in
     let P = HasPart rule (ty_view f.ty) room in
     bars_through c.from_residual.result _ Q octets c.from_residual.ensures.1
-    (bars_by _ Q P octets octets (λ more h. subst (λ t. HasPart rule t room (octets ++ more)) (sym same) (part_of_present rule view room (octets ++ more) h)) c.in_err-used.ensures.refused)
+    (bars_by _ Q P octets octets (λ more h. subst (λ t. HasPart rule t room (octets ++ more)) (field_type f) (part_of_present rule view room (octets ++ more) h)) c.in_err-used.ensures.refused)
 
 pub components::read_present-returns-then-is_spelt_out-clause-refused : goal.components::read_present-returns-then-is_spelt_out-clause-refused
 components::read_present-returns-then-is_spelt_out-clause-refused t c = λ more may h.
@@ -635,22 +566,15 @@ members::read_members-returns-in_err-tag-clause-refused t c =
     let slots = c.loop-tag.slots.items in
     let last = c.loop-tag.last in
     let read = c.loop-tag.invariant in
-    let inner = take (length octets - at) (drop at octets) in
-    let all : inner ≡ drop at octets = take_rest octets at in
     let Q = HasMembers rule cs (map (λ k. None) cs) None d room in
     let P = EndsOrBegins d (room - at) in
-    bars_through c.from_residual.result _ Q octets c.from_residual.ensures.1
-    (bars_by _ Q P octets inner (λ more h. subst (λ x. P (x ++ more)) (sym all) (members_begin rule cs slots last d (room - at) (drop at octets ++ more) c.requires.good (read.forth more h)))
-    c.in_err-tag.ensures.refused)
+    bars_behind c.from_residual.result _ Q P octets at c.from_residual.ensures.1 (λ more h. members_begin rule cs slots last d (room - at) (drop at octets ++ more) c.requires.good (read.forth more h)) c.in_err-tag.ensures.refused
 
 pub members::read_members-place_due-requires-clause-slots : goal.members::read_members-place_due-requires-clause-slots
 members::read_members-place_due-requires-clause-slots t c =
-    let rule = rule_of c.args.rule in
     let fields = c.args.fields.now in
-    let cs = map field_view fields in
-    let slots = c.loop-tag.slots.items in
     let read = c.loop-tag.invariant in
-    ap length c.deref.ensures.value ∙ (come_length rule cs slots read.encodings read.each ∙ length-map fields field_view)
+    ap length c.deref.ensures.value ∙ (come_length (rule_of c.args.rule) (map field_view fields) c.loop-tag.slots.items read.encodings read.each ∙ length-map fields field_view)
 
 pub members::read_members-returns-in_err-place-clause-refused : goal.members::read_members-returns-in_err-place-clause-refused
 members::read_members-returns-in_err-place-clause-refused t c =
@@ -664,34 +588,18 @@ members::read_members-returns-in_err-place-clause-refused t c =
     let slots = c.loop-tag.slots.items in
     let last = c.loop-tag.last in
     let read = c.loop-tag.invariant in
-    let inner = take (length octets - at) (drop at octets) in
-    let all : inner ≡ drop at octets = take_rest octets at in
     let tag = c.in-Some.tag in
-    let front : IsFront (Some tag) d (room - at) (drop at octets) = subst₂ (λ f x. IsFront f d (room - at) x) c.in-Some.is all c.in_ok-tag.ensures.value in
+    let front : IsFront (Some tag) d (room - at) (drop at octets) = subst₂ (λ f x. IsFront f d (room - at) x) c.in-Some.is (take_rest octets at) c.in_ok-tag.ensures.value in
     let Q = HasMembers rule cs (map (λ k. None) cs) None d room in
     let none = subst (λ (l : List (Option Value)). (place : ℕ) → IsBegunAt cs place tag → IsEmptyAt l place → ⊥) c.deref.ensures.value c.in_err-place.ensures.never in
     bars_through c.from_residual-in_err-place.result _ Q octets c.from_residual-in_err-place.ensures.1
     (λ more may h. none_goes_on rule cs slots last d (room - at) (drop at octets) more tag front none (read.forth more h))
 
 pub members::read_members-offset_bounds-fields-place : goal.members::read_members-offset_bounds-fields-place
-members::read_members-offset_bounds-fields-place t c =
-    let fields = c.args.fields.now in
-    let cs = map field_view fields in
-    let tag = c.in-Some.tag in
-    let place = c.in_ok-place.place in
-    let begun : IsBegunAt cs place tag = c.in_ok-place.ensures.value.0 in
-    let below : place < length fields = omega (arith, begun_below cs place tag begun, length-map fields field_view) in
-    search (rules, below)
+members::read_members-offset_bounds-fields-place t c = search (rules, begun_within c.args.fields.now c.in_ok-place.place c.in-Some.tag c.in_ok-place.ensures.value.0)
 
 pub members::read_members-bounds-fields-place : goal.members::read_members-bounds-fields-place
-members::read_members-bounds-fields-place t c =
-    let fields = c.args.fields.now in
-    let cs = map field_view fields in
-    let tag = c.in-Some.tag in
-    let place = c.in_ok-place.place in
-    let begun : IsBegunAt cs place tag = c.in_ok-place.ensures.value.0 in
-    let below : place < length fields = omega (arith, begun_below cs place tag begun, length-map fields field_view) in
-    below
+members::read_members-bounds-fields-place t c = begun_within c.args.fields.now c.in_ok-place.place c.in-Some.tag c.in_ok-place.ensures.value.0
 
 pub members::read_members-order_tag-order-requires : goal.members::read_members-order_tag-order-requires
 members::read_members-order_tag-order-requires t c =
@@ -700,11 +608,9 @@ members::read_members-order_tag-order-requires t c =
     let tag = c.in-Some.tag in
     let place = c.in_ok-place.place in
     let begun : IsBegunAt cs place tag = c.in_ok-place.ensures.value.0 in
-    let below : place < length fields = omega (arith, begun_below cs place tag begun, length-map fields field_view) in
     let f = c.index-fields-place.result in
     let view = field_view f in
-    let is = c.index-fields-place.is in
-    let here = component_at fields place f below is in
+    let here = begun_at fields place f tag begun c.index-fields-place.is in
     let good = component_all IsGoodComponent cs place view here c.requires.good in
     subst IsGoodType (field_type f) good.type
 
@@ -720,17 +626,13 @@ members::read_members-returns-then-not-comes_behind-clause-refused t c = λ more
     let slots = c.loop-tag.slots.items in
     let last = c.loop-tag.last in
     let read = c.loop-tag.invariant in
-    let inner = take (length octets - at) (drop at octets) in
-    let all : inner ≡ drop at octets = take_rest octets at in
     let tag = c.in-Some.tag in
-    let front : IsFront (Some tag) d (room - at) (drop at octets) = subst₂ (λ f x. IsFront f d (room - at) x) c.in-Some.is all c.in_ok-tag.ensures.value in
+    let front : IsFront (Some tag) d (room - at) (drop at octets) = subst₂ (λ f x. IsFront f d (room - at) x) c.in-Some.is (take_rest octets at) c.in_ok-tag.ensures.value in
     let place = c.in_ok-place.place in
     let begun : IsBegunAt cs place tag = c.in_ok-place.ensures.value.0 in
-    let below : place < length fields = omega (arith, begun_below cs place tag begun, length-map fields field_view) in
     let f = c.index-fields-place.result in
     let view = field_view f in
-    let is = c.index-fields-place.is in
-    let here = component_at fields place f below is in
+    let here = begun_at fields place f tag begun c.index-fields-place.is in
     let order = c.order_tag-order.result in
     let ordered : IsOrderTagOf rule view.type tag order = subst (λ t. IsOrderTagOf rule t tag order) (sym (field_type f)) c.order_tag-order.ensures in
     let due = λ (more : List ℕ) (k : HasMembers rule cs slots last d (room - at) (drop at octets ++ more)). is_due rule cs slots last place view order d (room - at) (drop at octets) more tag c.requires.distinct front begun here ordered k in
@@ -747,7 +649,7 @@ members::read_members-index_mut-requires t c =
     let tag = c.in-Some.tag in
     let place = c.in_ok-place.place in
     let begun : IsBegunAt cs place tag = c.in_ok-place.ensures.value.0 in
-    let below : place < length fields = omega (arith, begun_below cs place tag begun, length-map fields field_view) in
+    let below = begun_within fields place tag begun in
     let many : length slots ≡ length fields = come_length rule cs slots read.encodings read.each ∙ length-map fields field_view in
     omega (arith, below, many)
 
@@ -758,13 +660,11 @@ members::read_members-read_present-requires t c =
     let tag = c.in-Some.tag in
     let place = c.in_ok-place.place in
     let begun : IsBegunAt cs place tag = c.in_ok-place.ensures.value.0 in
-    let below : place < length fields = omega (arith, begun_below cs place tag begun, length-map fields field_view) in
     let f = c.index-fields-place.result in
     let view = field_view f in
-    let is = c.index-fields-place.is in
-    let here = component_at fields place f below is in
+    let here = begun_at fields place f tag begun c.index-fields-place.is in
     let good = component_all IsGoodComponent cs place view here c.requires.good in
-    (search (rules, node.the_lemmas, field.the_lemmas, below, is), (good, omega (arith, c.requires.room)))
+    (search (rules, node.the_lemmas, field.the_lemmas, begun_within fields place tag begun, c.index-fields-place.is), (good, omega (arith, c.requires.room)))
 
 pub members::read_members-returns-in_err-at-clause-refused : goal.members::read_members-returns-in_err-at-clause-refused
 members::read_members-returns-in_err-at-clause-refused t c =
@@ -778,35 +678,22 @@ members::read_members-returns-in_err-at-clause-refused t c =
     let slots = c.loop-tag.slots.items in
     let last = c.loop-tag.last in
     let read = c.loop-tag.invariant in
-    let inner = take (length octets - at) (drop at octets) in
-    let all : inner ≡ drop at octets = take_rest octets at in
     let tag = c.in-Some.tag in
-    let front : IsFront (Some tag) d (room - at) (drop at octets) = subst₂ (λ f x. IsFront f d (room - at) x) c.in-Some.is all c.in_ok-tag.ensures.value in
+    let front : IsFront (Some tag) d (room - at) (drop at octets) = subst₂ (λ f x. IsFront f d (room - at) x) c.in-Some.is (take_rest octets at) c.in_ok-tag.ensures.value in
     let place = c.in_ok-place.place in
     let begun : IsBegunAt cs place tag = c.in_ok-place.ensures.value.0 in
-    let below : place < length fields = omega (arith, begun_below cs place tag begun, length-map fields field_view) in
     let f = c.index-fields-place.result in
     let view = field_view f in
-    let is = c.index-fields-place.is in
-    let here = component_at fields place f below is in
+    let here = begun_at fields place f tag begun c.index-fields-place.is in
     let order = c.order_tag-order.result in
     let ordered : IsOrderTagOf rule view.type tag order = subst (λ t. IsOrderTagOf rule t tag order) (sym (field_type f)) c.order_tag-order.ensures in
     let due = λ (more : List ℕ) (k : HasMembers rule cs slots last d (room - at) (drop at octets ++ more)). is_due rule cs slots last place view order d (room - at) (drop at octets) more tag c.requires.distinct front begun here ordered k in
     let Q = HasMembers rule cs (map (λ k. None) cs) None d room in
     let P = HasPresent rule view (room - at) in
-    bars_through c.from_residual-in_err-at.result _ Q octets c.from_residual-in_err-at.ensures.1
-    (bars_by _ Q P octets inner (λ more h. subst (λ x. P (x ++ more)) (sym all) (present_due rule cs slots last place view order d (room - at) (drop at octets ++ more) (due more (read.forth more h))))
-    c.in_err-at.ensures.refused)
+    bars_behind c.from_residual-in_err-at.result _ Q P octets at c.from_residual-in_err-at.ensures.1 (λ more h. present_due rule cs slots last place view order d (room - at) (drop at octets ++ more) (due more (read.forth more h))) c.in_err-at.ensures.refused
 
 pub members::read_members-overflow_add-behind : goal.members::read_members-overflow_add-behind
-members::read_members-overflow_add-behind t c =
-    let fields = c.args.fields.now in
-    let cs = map field_view fields in
-    let tag = c.in-Some.tag in
-    let place = c.in_ok-place.place in
-    let begun : IsBegunAt cs place tag = c.in_ok-place.ensures.value.0 in
-    let below : place < length fields = omega (arith, begun_below cs place tag begun, length-map fields field_view) in
-    search (rules, below)
+members::read_members-overflow_add-behind t c = search (rules, begun_within c.args.fields.now c.in_ok-place.place c.in-Some.tag c.in_ok-place.ensures.value.0)
 
 pub members::read_members-loop-tag-smaller : goal.members::read_members-loop-tag-smaller
 members::read_members-loop-tag-smaller t c =
@@ -817,19 +704,15 @@ members::read_members-loop-tag-smaller t c =
     let room = c.args.inside.now.room in
     let at = c.loop-tag.at in
     let read = c.loop-tag.invariant in
-    let inner = take (length octets - at) (drop at octets) in
-    let all : inner ≡ drop at octets = take_rest octets at in
     let tag = c.in-Some.tag in
     let place = c.in_ok-place.place in
     let begun : IsBegunAt cs place tag = c.in_ok-place.ensures.value.0 in
-    let below : place < length fields = omega (arith, begun_below cs place tag begun, length-map fields field_view) in
     let f = c.index-fields-place.result in
     let view = field_view f in
-    let is = c.index-fields-place.is in
-    let here = component_at fields place f below is in
+    let here = begun_at fields place f tag begun c.index-fields-place.is in
     let good = component_all IsGoodComponent cs place view here c.requires.good in
     let used = c.in_ok-at.field-0 in
-    let one = subst (λ x. IsPresentRead rule view (room - at) x c.read_present.new.slot used) all c.in_ok-at.ensures.value in
+    let one = subst (λ x. IsPresentRead rule view (room - at) x c.read_present.new.slot used) (take_rest octets at) c.in_ok-at.ensures.value in
     let some = read_some rule view.type (room - at) (drop at octets) c.read_present.new.slot used good.type one.0 in
     omega (arith, some, one.0.0, length-drop at octets, read.there)
 
@@ -852,11 +735,9 @@ members::read_members-loop-tag-preserved t c =
     let place = c.in_ok-place.place in
     let begun : IsBegunAt cs place tag = c.in_ok-place.ensures.value.0 in
     let empty : IsEmptyAt slots place = subst (λ (l : List (Option Value)). IsEmptyAt l place) c.deref.ensures.value c.in_ok-place.ensures.value.1 in
-    let below : place < length fields = omega (arith, begun_below cs place tag begun, length-map fields field_view) in
     let f = c.index-fields-place.result in
     let view = field_view f in
-    let is = c.index-fields-place.is in
-    let here = component_at fields place f below is in
+    let here = begun_at fields place f tag begun c.index-fields-place.is in
     let good = component_all IsGoodComponent cs place view here c.requires.good in
     let order = c.order_tag-order.result in
     let ordered : IsOrderTagOf rule view.type tag order = subst (λ t. IsOrderTagOf rule t tag order) (sym (field_type f)) c.order_tag-order.ensures in
@@ -867,12 +748,9 @@ members::read_members-loop-tag-preserved t c =
 
 pub members::read_members-are_filled-requires : goal.members::read_members-are_filled-requires
 members::read_members-are_filled-requires t c =
-    let rule = rule_of c.args.rule in
     let fields = c.args.fields.now in
-    let cs = map field_view fields in
-    let slots = c.loop-tag.slots.items in
     let read = c.loop-tag.invariant in
-    ap length c.deref-2.ensures.value ∙ (come_length rule cs slots read.encodings read.each ∙ length-map fields field_view)
+    ap length c.deref-2.ensures.value ∙ (come_length (rule_of c.args.rule) (map field_view fields) c.loop-tag.slots.items read.encodings read.each ∙ length-map fields field_view)
 
 pub members::read_members-returns-then-not-are_filled-clause-refused : goal.members::read_members-returns-then-not-are_filled-clause-refused
 members::read_members-returns-then-not-are_filled-clause-refused t c = λ more may h.
@@ -886,10 +764,8 @@ members::read_members-returns-then-not-are_filled-clause-refused t c = λ more m
     let slots = c.loop-tag.slots.items in
     let last = c.loop-tag.last in
     let read = c.loop-tag.invariant in
-    let inner = take (length octets - at) (drop at octets) in
-    let all : inner ≡ drop at octets = take_rest octets at in
     let none : c.in_ok-tag.field-0 ≡ None = c.in_default.is in
-    let ends : EndsHere d (room - at) (drop at octets) = subst₂ (λ f x. IsFront f d (room - at) x) none all c.in_ok-tag.ensures.value in
+    let ends : EndsHere d (room - at) (drop at octets) = subst₂ (λ f x. IsFront f d (room - at) x) none (take_rest octets at) c.in_ok-tag.ensures.value in
     let filled = members_filled rule cs slots last d (room - at) (drop at octets) more c.requires.good ends (read.forth more h) in
     let yes : c.are_filled.result ≡ true = c.are_filled.ensures.1 (subst (λ (l : List (Option Value)). AreFilled cs l) (sym c.deref-2.ensures.value) filled) in
     search (rules, yes)
@@ -908,8 +784,7 @@ members::read_set-returns-in-Ok-read_members-clause-value t c =
     let inside = c.in_ok-inside.inside in
     let used = c.in-Ok-read_members.used in
     let slots = c.read_members.new.slots in
-    let all : take (length octets - inside.start) (drop inside.start octets) ≡ drop inside.start octets = take_rest octets inside.start in
-    let read = subst (λ x. AreFilled cs slots.items × ((last : Option Tag) × AreMembersRead rule cs slots.items last inside.definite inside.room x used) × EndsHere inside.definite (inside.room - used) (drop used x)) all c.in-Ok-read_members.ensures.value in
+    let read = subst (λ x. AreFilled cs slots.items × ((last : Option Tag) × AreMembersRead rule cs slots.items last inside.definite inside.room x used) × EndsHere inside.definite (inside.room - used) (drop used x)) (take_rest octets inside.start) c.in-Ok-read_members.ensures.value in
     set_read rule c.args.tag c.args.fields.now c.args.room octets inside slots read.1.0 used c.close.result c.in_ok-inside.ensures.value read.0 read.1.1 read.2 c.close.ensures
 
 pub members::read_set-returns-in-Err-clause-refused : goal.members::read_set-returns-in-Err-clause-refused
@@ -918,11 +793,6 @@ members::read_set-returns-in-Err-clause-refused t c =
     let rule = rule_of c.args.rule in
     let components = map field_view c.args.fields.now in
     let inside = c.in_ok-inside.inside in
-    let start = inside.start in
-    let inner = take (length octets - start) (drop start octets) in
-    let all : inner ≡ drop start octets = take_rest octets start in
     let Q = HasPart rule (Shape.set c.args.tag (components_view c.args.fields.now)) c.args.room in
     let P = HasMembers rule components (map (λ k. None) components) None inside.definite inside.room in
-    bars_named c.in-Err.refusal c.named.result Q octets c.named.ensures.follows
-    (bars_by _ Q P octets inner (λ more h. subst (λ x. P (x ++ more)) (sym all) (members_inside c.args.rule c.args.tag components c.args.room octets more inside c.in_ok-inside.ensures.value h))
-    c.in-Err.ensures.refused)
+    bars_inside c.in-Err.refusal c.named.result Q P octets inside.start c.named.ensures.follows (λ more h. members_inside c.args.rule c.args.tag components c.args.room octets more inside c.in_ok-inside.ensures.value h) c.in-Err.ensures.refused
