@@ -18,7 +18,7 @@ pub mod PutLemmas
 pub mod OpeningLemmas
 pub mod StraightLemmas
 pub mod TagPutLemmas
-pub mod LeastLemmas
+pub mod OrderTagLemmas
 pub mod AcceptedLemmas
 pub mod CopyLemmas
 pub mod SameValueLemmas

@@ -3,9 +3,9 @@ use Rattle.std.specs.Prelude.{◌≡◌, ℕ, List, Option, IsPermutation}
 use Rattle.std.specs.List.{AllByRecursion, AllZip, concat}
 use Rattle.octets.specs.declared.tag.Tag.{Tag}
 use Rattle.octets.specs.Rule.{Rule}
-use Rattle.types.specs.Shape.{Val, Slots, Shape, Components, Alternatives}
+use Rattle.types.specs.Shape.{Val, Slots, Shape, Components}
 use Rattle.types.specs.FirstTags.{HasDistinctTags}
-use Rattle.types.specs.WellFormed.{nodes_of, nodes_of_components, nodes_of_alternatives, IsNodeWithin}
+use Rattle.types.specs.WellFormed.{nodes_of, nodes_of_components, IsNodeWithin}
 use Rattle.types.specs.Form.{IsConstructed}
 use Rattle.types.specs.Order.{Ascends, AscendsByTag}
 use Rattle.types.specs.Encoding.{Meaning, AreSlotEncodings, standing}
@@ -20,9 +20,6 @@ HasGoodNodes shape = AreGood (nodes_of shape)
 
 abbrev pub HaveGoodNodes : Components → Type 0
 HaveGoodNodes components = AreGood (nodes_of_components components)
-
-abbrev pub HaveGoodAlternatives : Alternatives → Type 0
-HaveGoodAlternatives alternatives = AreGood (nodes_of_alternatives alternatives)
 
 -- a constructed encoding of contents octets of some kind
 pub record IsAround (IsInside : List ℕ → Type 0) (rule : Rule) (tag : Tag) (octets : List ℕ) : Type 0 where

@@ -15,11 +15,12 @@ use Rattle.types.proofs.BeginningLemmas.{encoding_begins, alternative_begins}
 use Rattle.types.proofs.LimitLemmas.{alternative_type}
 use Rattle.types.proofs.ListLemmas.{all_append, distinct_apart, distinct_right}
 use Rattle.types.proofs.ViewLemmas.{value-Chosen}
+use Rattle.types.proofs.FirstTagLemmas.{tag_within}
 use Rattle.contents.specs.Head.{IsTagWithin, IsReadTag}
 use Rattle.contents.specs.Parts.{IsGoodType}
 use Rattle.contents.proofs.HeadLemmas.{tag_of_front}
 use Rattle.strict.specs.Reading.{IsRead, HasPart, HasChoice}
-use Rattle.strict.proofs.FrontLemmas.{within_of, tag_within}
+use Rattle.strict.proofs.FrontLemmas.{within_of}
 
 -- what can stand at the front begins with a tag of the type
 pub record IsTagOf (type : Shape) (room : ℕ) (octets : List ℕ) : Type 0 where

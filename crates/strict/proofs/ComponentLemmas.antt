@@ -19,6 +19,7 @@ use Rattle.types.proofs.ListLemmas.{not_in_nil}
 use Rattle.types.proofs.TagLemmas.{contains_either}
 use Rattle.types.proofs.NodeLemmas.{all_both}
 use Rattle.types.proofs.SlotLemmas.{filled, begin_apart, run_is, run_begins}
+use Rattle.types.proofs.FirstTagLemmas.{tag_within}
 use Rattle.contents.specs.Parts.{IsGoodType, IsGoodComponent}
 use Rattle.contents.specs.Segments.{BeginsAboveZero}
 use Rattle.strict.specs.declared.canonical.Canonical.{Canonical}
@@ -26,7 +27,7 @@ use Rattle.strict.specs.Canonical.{rule_of}
 use Rattle.strict.specs.Head.{Fills, mark, EndsHere}
 use Rattle.strict.specs.Components.{HasComponents, EndsOrBegins}
 use Rattle.strict.proofs.PartLemmas.{one_of, same_part, one_begins, no_end_here, ends_here, fills_after}
-use Rattle.strict.proofs.FrontLemmas.{canonical_of, BeginsPart, tag_within, within_of, begins_front}
+use Rattle.strict.proofs.FrontLemmas.{canonical_of, BeginsPart, within_of, begins_front}
 
 pub run_within : (left : List ComponentView) (tag : Tag) → AllByRecursion IsGoodComponent left → Contains (tags_of_run (components_of left)) tag → tag.number ≤ 268_435_455
 run_within [] tag good c = absurd (not_in_nil tag c)

@@ -15,13 +15,14 @@ use Rattle.types.specs.Encoding.{IsEncoding}
 use Rattle.types.specs.FirstTags.{first_tags, AreDistinct, tags_of_components}
 use Rattle.types.specs.Order.{BeginsWith, BeginsWithOneOf, IsOrderTag, IsOrderTagIn}
 use Rattle.types.proofs.BeginningLemmas.{encoding_begins, begins_once}
+use Rattle.types.proofs.FirstTagLemmas.{tag_within}
 use Rattle.contents.specs.Parts.{IsGoodType, IsGoodComponent}
 use Rattle.contents.specs.Segments.{BeginsAboveZero}
 use Rattle.strict.specs.Head.{EndsHere}
 use Rattle.strict.specs.Components.{IsFront, EndsOrBegins, HasPresent, IsPresentRead}
 use Rattle.strict.specs.Members.{IsBegunAt, IsEmptyAt, IsOrderTagOf, ComesBehind, AreFilled, HasMembers}
 use Rattle.strict.proofs.PartLemmas.{one_of, same_part, one_begins, no_end_here}
-use Rattle.strict.proofs.FrontLemmas.{same_tag, within_of, tag_within, begins_whole}
+use Rattle.strict.proofs.FrontLemmas.{same_tag, within_of, begins_whole}
 use Rattle.strict.proofs.BegunLemmas.{begun_once, begun_within}
 use Rattle.strict.proofs.MemberLemmas.{IsComponentAt, IsNextMember, next_member}
 

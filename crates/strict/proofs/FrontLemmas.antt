@@ -1,17 +1,13 @@
 -- Lemmas on what stands at the front: a tag, or the end of contents octets.
 use Rattle.std.proofs.Common.{◌≡◌, ◌↔◌, ℕ, ◌≤◌, inl, inr, List, [], ◌∷◌, ◌++◌, Bool, true, false, Option, Some, None, IsTrue, Contains, MatchOption, length, take, drop, refl, sym, ◌∙◌, ap, subst, arith, append_assoc, length-append}
-use Rattle.std.specs.List.{AllByRecursion}
 use Rattle.std.proofs.lemmas.List.{length-take-le, take-append-drop}
 use Rattle.octets.specs.declared.tag.Tag.{Tag}
 use Rattle.octets.specs.Identifier.{IsIdentifier}
 use Rattle.octets.specs.Rule.{IsCanonical}
 use Rattle.octets.proofs.IdentifierLemmas.{identifier_unique}
-use Rattle.types.specs.Shape.{Shape, Alternatives, no_alternative, alternative}
-use Rattle.types.specs.FirstTags.{first_tags, tags_of_alternatives}
+use Rattle.types.specs.Shape.{Shape}
+use Rattle.types.specs.FirstTags.{first_tags}
 use Rattle.types.specs.Order.{BeginsWith, BeginsWithOneOf}
-use Rattle.types.specs.WellFormed.{nodes_of, nodes_of_alternatives, IsNodeWithin}
-use Rattle.types.proofs.ListLemmas.{contains_cases, all_append, not_in_nil}
-use Rattle.types.proofs.TagLemmas.{contains_either}
 use Rattle.contents.specs.Head.{IsTagWithin, IsReadTag}
 use Rattle.contents.specs.Segments.{BeginsAboveZero}
 use Rattle.strict.specs.declared.canonical.Canonical.{Canonical}
@@ -55,27 +51,6 @@ standing_known false type definite room octets tag h iff goes = λ more b above.
     let same = same_tag tag b.tag room octets more h b.head in
     let no : false ≡ true = iff.1 (subst (Contains (first_tags type)) (sym same) b.first) in
     cc
-
--- tags that begin a good type are within the limit
-one_within : (own tag : Tag) → own.number ≤ 268_435_455 → Contains (own ∷ []) tag → tag.number ≤ 268_435_455
-one_within own tag within c = elim (contains_cases own tag [] c) [ inl same ↦ subst (λ (t : Tag). t.number ≤ 268_435_455) same within | inr later ↦ absurd (not_in_nil tag later) ]
-
-mutual
-  pub tag_within : (type : Shape) (tag : Tag) → AllByRecursion IsNodeWithin (nodes_of type) → Contains (first_tags type) tag → tag.number ≤ 268_435_455
-  tag_within (Shape.simple own type) tag within c = one_within own tag within.0.0 c
-  tag_within (Shape.string own type) tag within c = one_within own tag within.0.0 c
-  tag_within (Shape.sequence own components) tag within c = one_within own tag within.0.0 c
-  tag_within (Shape.set own components) tag within c = one_within own tag within.0.0 c
-  tag_within (Shape.sequence_of own type) tag within c = one_within own tag within.0 c
-  tag_within (Shape.set_of own type) tag within c = one_within own tag within.0 c
-  tag_within (Shape.choice alternatives) tag within c = alternatives_within alternatives tag within.1 c
-  tag_within (Shape.explicit own type) tag within c = one_within own tag within.0 c
-
-  alternatives_within : (alternatives : Alternatives) (tag : Tag) → AllByRecursion IsNodeWithin (nodes_of_alternatives alternatives) → Contains (tags_of_alternatives alternatives) tag → tag.number ≤ 268_435_455
-  alternatives_within no_alternative tag within c = absurd (not_in_nil tag c)
-  alternatives_within (alternative name type others) tag within c =
-      let both = all_append IsNodeWithin (nodes_of type) (nodes_of_alternatives others) within in
-      elim (contains_either (first_tags type) (tags_of_alternatives others) tag c) [ inl here ↦ tag_within type tag both.0 here | inr later ↦ alternatives_within others tag both.1 later ]
 
 pub begins_whole : (tag : Tag) (a b octets : List ℕ) → octets ≡ a ++ b → BeginsWith tag a → BeginsWith tag octets
 begins_whole tag a b octets parts h = record { constructed = h.constructed; identifier = h.identifier; rest = h.rest ++ b; tagged = h.tagged; joined = parts ∙ (ap (λ x. x ++ b) h.joined ∙ append_assoc h.identifier h.rest b) }

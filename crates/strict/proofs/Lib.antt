@@ -21,7 +21,6 @@ pub mod ListLemmas
 pub mod OrderedLemmas
 pub mod ChosenLemmas
 pub mod AloneLemmas
-pub mod LeastLemmas
 pub mod BegunLemmas
 pub mod MemberLemmas
 pub mod DueLemmas

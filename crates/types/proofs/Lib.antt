@@ -73,3 +73,4 @@ pub mod ClassOrderInstances
 pub mod LongInstances
 pub mod LongItemInstances
 pub mod TagDepthInstances
+pub mod FirstTagLemmas

@@ -8,6 +8,7 @@ mod distinctness;
 mod equality;
 mod items;
 mod laws;
+mod least;
 mod limits;
 mod oid_values;
 mod refusal;
@@ -22,6 +23,7 @@ pub use laws::{
     equal_canonical_encodings_exactly_if_same, every_value_has_a_canonical_encoding,
     no_encoding_begins_another, one_canonical_encoding, same_values_have_the_same_encodings,
 };
+pub use least::least_tag;
 pub use names::Name;
 pub use refusal::{Refusal, TypeFault};
 pub use ty::{Alternative, Field, Item, NamedBit, Presence, Ty};

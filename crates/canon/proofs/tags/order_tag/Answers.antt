@@ -4,7 +4,7 @@ use Rattle.types.specs.Order.{IsOrderTag}
 use Rattle.types.specs.View.{ty_view}
 use Rattle.canon.specs.Rule.{rule_of}
 use Rattle.canon.specs.declared.rule.CanonicalRule.{CanonicalRule}
-use Rattle.canon.proofs.LeastLemmas.{order_tag_at_front}
+use Rattle.canon.proofs.OrderTagLemmas.{order_tag_at_front}
 use Rattle.canon.proofs.tags.order_tag.Goals as goal
 
 pub returns-in-Der : goal.returns-in-Der

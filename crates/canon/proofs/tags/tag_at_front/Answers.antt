@@ -1,6 +1,6 @@
 use Rattle.std.proofs.Common.{take, drop}
 use Rattle.octets.proofs.FrontLemmas.{whole_front}
-use Rattle.canon.proofs.LeastLemmas.{no_identifier}
+use Rattle.canon.proofs.OrderTagLemmas.{no_identifier}
 use Rattle.canon.proofs.tags.tag_at_front.Goals as goal
 
 pub returns-in-Done : goal.returns-in-Done

@@ -1,3 +1,4 @@
+use Rattle.std.specs.List.{AllByRecursion}
 use Rattle.std.proofs.Common.{◌≡◌, ◌∙◌, ◌+◌, ◌-◌, ◌<◌, ◌≤◌, List, length, get_or, sym, ap, subst, arith, rules}
 use Rattle.octets.specs.declared.tag.Tag.{Tag}
 use Rattle.types.specs.declared.ty.Alternative.{Alternative}
@@ -7,16 +8,14 @@ use Rattle.types.specs.Shape.{Shape}
 use Rattle.types.specs.FirstTags.{first_tags, tags_of_alternatives}
 use Rattle.types.specs.Order.{IsLeast}
 use Rattle.types.specs.View.{ty_view, alternatives_view}
-use Rattle.types.proofs.LimitLemmas.{alternative_type}
+use Rattle.types.specs.WellFormed.{nodes_of, IsNodeWithin}
 use Rattle.types.proofs.ViewLemmas.{ty-Choice}
-use Rattle.contents.specs.Parts.{IsGoodType}
-use Rattle.strict.proofs.ChosenLemmas.{good_at}
-use Rattle.strict.proofs.LeastLemmas.{LeastFrom, leaf_least, least_last, least_sooner, least_stays, as_many_alternatives}
-use Rattle.strict.proofs.tags.+least.Goals as goal
-use Rattle.strict.proofs.tags.+least.Goals.{least_of-then-comes_before, least_of-else-comes_before}
+use Rattle.types.proofs.FirstTagLemmas.{LeastFrom, leaf_least, alternative_within, least_last, least_sooner, least_stays, as_many_alternatives}
+use Rattle.types.proofs.least.+least.Goals as goal
+use Rattle.types.proofs.least.+least.Goals.{least_of-then-comes_before, least_of-else-comes_before}
 
-some_alternative : (xs : List Alternative) → IsGoodType (Shape.choice (alternatives_view xs)) → 1 ≤ length xs
-some_alternative xs good = omega (arith, good.within.0.0, as_many_alternatives xs)
+some_alternative : (xs : List Alternative) → AllByRecursion IsNodeWithin (nodes_of (Shape.choice (alternatives_view xs))) → 1 ≤ length xs
+some_alternative xs good = omega (arith, good.0.0, as_many_alternatives xs)
 
 pub least_tag-returns-in-Boolean : goal.least_tag-returns-in-Boolean
 least_tag-returns-in-Boolean t c = leaf_least c.args.ty.now c.in-Boolean.tag c.in-Boolean.is
@@ -33,7 +32,7 @@ least_of-least_tag-least-requires t c =
     let a = c.index-alternatives-last.result in
     let at : a ≡ get_or xs place a = c.index-alternatives-last.is in
     let bound : place < length xs = omega (arith, some_alternative xs c.requires) in
-    (search (rules, node.the_lemmas, alternative.the_lemmas, bound, at), subst (λ (b : Alternative). IsGoodType (ty_view b.ty)) at (subst IsGoodType (alternative_type a) (good_at xs place a bound at c.requires)))
+    (search (rules, node.the_lemmas, alternative.the_lemmas, bound, at), subst (λ (b : Alternative). AllByRecursion IsNodeWithin (nodes_of (ty_view b.ty))) at (alternative_within xs place a bound at c.requires.1))
 
 pub least_of-least_tag-tag-requires : goal.least_of-least_tag-tag-requires
 least_of-least_tag-tag-requires t c =
@@ -42,7 +41,7 @@ least_of-least_tag-tag-requires t c =
     let a = c.index-alternatives-last-in-loop-done.result in
     let at : a ≡ get_or xs place a = c.index-alternatives-last-in-loop-done.is in
     let bound : place < length xs = omega (arith, some_alternative xs c.requires) in
-    (search (rules, node.the_lemmas, alternative.the_lemmas, bound, at), subst (λ (b : Alternative). IsGoodType (ty_view b.ty)) at (subst IsGoodType (alternative_type a) (good_at xs place a bound at c.requires)))
+    (search (rules, node.the_lemmas, alternative.the_lemmas, bound, at), subst (λ (b : Alternative). AllByRecursion IsNodeWithin (nodes_of (ty_view b.ty))) at (alternative_within xs place a bound at c.requires.1))
 
 pub least_of-loop-done-init : goal.least_of-loop-done-init
 least_of-loop-done-init t c =

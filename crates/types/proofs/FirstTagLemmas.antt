@@ -1,5 +1,6 @@
--- Lemmas on the least tags of types.
-use Rattle.std.proofs.Common.{◌≡◌, ◌+◌, ◌⊎◌, inl, inr, ◌<◌, ◌≤◌, ℕ, zero, suc, List, [], ◌∷◌, ◌++◌, Vec, Global, length, drop, get_or, refl, sym, ap, ◌∙◌, subst, arith, append-nil}
+-- Lemmas on the tags that the encodings of a type begin with: they are within the limit, and one is the least.
+use Rattle.std.specs.List.{AllByRecursion}
+use Rattle.std.proofs.Common.{◌≡◌, ◌+◌, ◌⊎◌, inl, inr, ◌<◌, ◌≤◌, ℕ, zero, suc, List, [], ◌∷◌, ◌++◌, Vec, Global, length, drop, get_or, refl, sym, ap, ◌∙◌, subst, arith, append-nil, Contains}
 use Rattle.octets.specs.declared.tag.Tag.{Tag}
 use Rattle.octets.specs.Tag.{ComesBefore}
 use Rattle.strings.specs.declared.text.TextKind.{TextKind}
@@ -9,17 +10,37 @@ use Rattle.types.specs.declared.ty.Item.{Item}
 use Rattle.types.specs.declared.ty.NamedBit.{NamedBit}
 use Rattle.types.specs.declared.ty.Ty.{Ty}
 use Rattle.types.specs.declared.ty.Ty as node
-use Rattle.types.specs.Shape.{Shape}
+use Rattle.types.specs.Shape.{Shape, Alternatives, no_alternative, alternative}
 use Rattle.types.specs.FirstTags.{first_tags, tags_of_alternatives}
 use Rattle.types.specs.Order.{IsLeast}
 use Rattle.types.specs.View.{ty_view, alternative_view, alternatives_view}
-use Rattle.types.specs.WellFormed.{count_of_alternatives}
-use Rattle.types.proofs.ListLemmas.{not_in_nil, contains_first, contains_cases, contains_left, contains_right}
+use Rattle.types.specs.WellFormed.{nodes_of, nodes_of_alternatives, IsNodeWithin, count_of_alternatives}
+use Rattle.types.proofs.ListLemmas.{all_append, not_in_nil, contains_first, contains_cases, contains_left, contains_right}
 use Rattle.types.proofs.TagLemmas.{contains_either}
 use Rattle.types.proofs.LimitLemmas.{alternative_type}
 use Rattle.types.proofs.LoopLemmas.{left_at}
 use Rattle.types.proofs.OrderLemmas.{ComesBefore-total, ComesBefore-trans, ComesBefore-irrefl}
 use Rattle.types.proofs.ViewLemmas.{ty-Boolean, ty-Integer, ty-Enumerated, ty-Null, ty-Oid, ty-RelativeOid, ty-Bits, ty-NamedBits, ty-Octets, ty-Text, ty-Time}
+
+one_within : (own tag : Tag) → own.number ≤ 268_435_455 → Contains (own ∷ []) tag → tag.number ≤ 268_435_455
+one_within own tag within c = elim (contains_cases own tag [] c) [ inl same ↦ subst (λ (t : Tag). t.number ≤ 268_435_455) same within | inr later ↦ absurd (not_in_nil tag later) ]
+
+mutual
+  pub tag_within : (type : Shape) (tag : Tag) → AllByRecursion IsNodeWithin (nodes_of type) → Contains (first_tags type) tag → tag.number ≤ 268_435_455
+  tag_within (Shape.simple own type) tag within c = one_within own tag within.0.0 c
+  tag_within (Shape.string own type) tag within c = one_within own tag within.0.0 c
+  tag_within (Shape.sequence own components) tag within c = one_within own tag within.0.0 c
+  tag_within (Shape.set own components) tag within c = one_within own tag within.0.0 c
+  tag_within (Shape.sequence_of own type) tag within c = one_within own tag within.0 c
+  tag_within (Shape.set_of own type) tag within c = one_within own tag within.0 c
+  tag_within (Shape.choice alternatives) tag within c = alternatives_within alternatives tag within.1 c
+  tag_within (Shape.explicit own type) tag within c = one_within own tag within.0 c
+
+  alternatives_within : (alternatives : Alternatives) (tag : Tag) → AllByRecursion IsNodeWithin (nodes_of_alternatives alternatives) → Contains (tags_of_alternatives alternatives) tag → tag.number ≤ 268_435_455
+  alternatives_within no_alternative tag within c = absurd (not_in_nil tag c)
+  alternatives_within (alternative name type others) tag within c =
+      let both = all_append IsNodeWithin (nodes_of type) (nodes_of_alternatives others) within in
+      elim (contains_either (first_tags type) (tags_of_alternatives others) tag c) [ inl here ↦ tag_within type tag both.0 here | inr later ↦ alternatives_within others tag both.1 later ]
 
 pub alone_least : (tag : Tag) → IsLeast (tag ∷ []) tag
 alone_least tag = (
@@ -101,6 +122,15 @@ module _ (xs : List Alternative) where
   pub least_stays : (i j : ℕ) (a : Alternative) (tag least : Tag) → i < length xs → j ≡ suc i → a ≡ get_or xs i a → IsLeast (first_tags (ty_view a.ty)) tag → LeastFrom j least → (ComesBefore tag least → ⊥) → LeastFrom i least
   least_stays i j a tag least l next at h g not =
       least_step i a least l at (least_after _ _ tag least (subst (λ s. IsLeast (first_tags s) tag) (sym (alternative_type a)) h) (subst (λ k. LeastFrom k least) next g) not)
+
+pub alternative_within : (xs : List Alternative) (i : ℕ) (a : Alternative) → i < length xs → a ≡ get_or xs i a → AllByRecursion IsNodeWithin (nodes_of_alternatives (alternatives_view xs)) → AllByRecursion IsNodeWithin (nodes_of (ty_view a.ty))
+alternative_within [] i a l at all = absurd (omega arith)
+alternative_within (x ∷ xs) zero a l at all =
+    let both = all_append IsNodeWithin (nodes_of (alternative_view x).type) (nodes_of_alternatives (alternatives_view xs)) all in
+    subst (λ s. AllByRecursion IsNodeWithin (nodes_of s)) (alternative_type x ∙ ap (λ (y : Alternative). ty_view y.ty) (sym at)) both.0
+alternative_within (x ∷ xs) (suc i) a l at all =
+    let both = all_append IsNodeWithin (nodes_of (alternative_view x).type) (nodes_of_alternatives (alternatives_view xs)) all in
+    alternative_within xs i a (omega arith) at both.1
 
 pub as_many_alternatives : (xs : List Alternative) → count_of_alternatives (alternatives_view xs) ≡ length xs
 as_many_alternatives [] = refl

@@ -1,0 +1,55 @@
+//! The least tags of types, by which CER orders the components of a SET (X.690 9.3).
+
+ghost use Rattle.std.specs.List.{AllByRecursion};
+ghost use Rattle.types.specs.FirstTags.{first_tags, tags_of_alternatives};
+ghost use Rattle.types.specs.Order.{IsLeast};
+ghost use Rattle.types.specs.Shape.{Shape};
+ghost use Rattle.types.specs.View.{ty_view, alternatives_view};
+ghost use Rattle.types.specs.WellFormed.{nodes_of, IsNodeWithin};
+
+use crate::ty::{Alternative, Ty};
+use octets::Tag;
+
+/// The least tag that the encodings of the type begin with: its own, or, of a CHOICE, the least of its alternatives'.
+/// Takes no memory.
+#[cycle(least)]
+pub fn least_tag(ty: &Ty) -> Tag
+    requires { AllByRecursion IsNodeWithin (nodes_of (ty_view ty.now)) }
+    ensures { IsLeast (first_tags (ty_view ty.now)) result }
+{
+    match ty {
+        Ty::Boolean(tag)
+        | Ty::Integer(tag)
+        | Ty::Enumerated(tag, _)
+        | Ty::Null(tag)
+        | Ty::Oid(tag)
+        | Ty::RelativeOid(tag)
+        | Ty::Bits(tag)
+        | Ty::NamedBits(tag, _)
+        | Ty::Octets(tag)
+        | Ty::Text(tag, _)
+        | Ty::Time(tag, _) => *tag,
+        Ty::Sequence(tag, _) | Ty::Set(tag, _) => *tag,
+        Ty::SequenceOf(tag, _) => *tag,
+        Ty::SetOf(tag, _) => *tag,
+        Ty::Choice(alternatives) => least_of(alternatives),
+        Ty::Explicit(tag, _) => *tag,
+    }
+}
+
+// The least tag that the encodings of the alternatives begin with.
+#[cycle(least)]
+fn least_of(alternatives: &[Alternative]) -> Tag
+    requires { AllByRecursion IsNodeWithin (nodes_of (Shape.choice (alternatives_view alternatives.now))) }
+    ensures { IsLeast (tags_of_alternatives (alternatives_view alternatives.now)) result }
+{
+    let last = alternatives.len() - 1;
+    let mut least = least_tag(&alternatives[last].ty);
+    for done in 0..last {
+        let tag = least_tag(&alternatives[last - 1 - done].ty);
+        if tag.comes_before(least) {
+            least = tag;
+        }
+    }
+    least
+}
