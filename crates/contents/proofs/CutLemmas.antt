@@ -1,5 +1,5 @@
 -- Lemmas on octets that end inside a part of an encoding.
-use Rattle.std.proofs.Common.{◌≡◌, ◌⊎◌, inl, inr, ℕ, ◌+◌, ◌-◌, ◌<◌, ◌≤◌, List, [], ◌∷◌, ◌++◌, Bool, true, false, length, take, drop, refl, sym, ◌∙◌, ap, subst, arith, All, length-append}
+use Rattle.std.proofs.Common.{◌≡◌, ◌⊎◌, inl, inr, ℕ, ◌+◌, ◌-◌, ◌<◌, ◌≤◌, List, ◌++◌, Bool, true, false, length, take, drop, sym, ◌∙◌, ap, subst, arith, All, length-append}
 use Rattle.std.proofs.lemmas.Bool.{cases_lt}
 use Rattle.std.proofs.lemmas.List.{length-take-le, length-drop, take_all, take_rest}
 use Rattle.std.proofs.lemmas.List.Elements.{All-head}
@@ -7,10 +7,10 @@ use Rattle.std.proofs.Math.Seq.{take-append-add}
 use Rattle.octets.specs.declared.TheConstants.{MAX_ENCODING}
 use Rattle.octets.specs.declared.tag.Tag.{Tag}
 use Rattle.octets.specs.Front.{HasFront, Begins}
-use Rattle.octets.specs.Identifier.{IsIdentifier, IsSomeIdentifier}
+use Rattle.octets.specs.Identifier.{IsSomeIdentifier}
 use Rattle.octets.specs.Length.{IsLength, IsSomeLength}
 use Rattle.octets.proofs.FrontLemmas.{whole_front}
-use Rattle.types.specs.Leaf.{IsLeaf, tag_of}
+use Rattle.types.specs.Leaf.{IsLeaf}
 use Rattle.types.specs.Shape.{Shape}
 use Rattle.contents.specs.declared.frame.Frame.{Frame}
 use Rattle.contents.specs.declared.joined.Kind.{Kind}

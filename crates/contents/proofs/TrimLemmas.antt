@@ -1,5 +1,5 @@
 -- Lemmas on bits without the bits 0 at their end.
-use Rattle.std.proofs.Common.{◌≡◌, ◌+◌, ◌≤◌, inl, inr, ℕ, zero, suc, Bool, true, false, List, [], ◌∷◌, ◌++◌, replicate, length, refl, sym, ap, ◌∙◌, arith}
+use Rattle.std.proofs.Common.{◌≡◌, ◌≤◌, inl, inr, ℕ, suc, Bool, true, false, List, [], ◌∷◌, ◌++◌, replicate, length, refl, sym, ap, arith}
 use Rattle.primitives.specs.Bits.{IsTrimmed}
 use Rattle.types.proofs.TrimLemmas.{trimmed_unique}
 use Rattle.contents.specs.Joined.{behind_zero, trimmed_bits}

@@ -1,6 +1,6 @@
 -- Lemmas on the values of string types: the constructed encodings of a text or a time are those of an
 -- OCTET STRING.
-use Rattle.std.proofs.Common.{◌≡◌, ◌⊎◌, inl, inr, ℕ, Bool, false, List, ◌++◌, replicate, take, drop, refl, sym, ◌∙◌, subst, ap}
+use Rattle.std.proofs.Common.{◌≡◌, ◌⊎◌, inl, inr, ℕ, false, List, ◌++◌, replicate, take, drop, refl, sym, ◌∙◌, subst, ap}
 use Rattle.octets.specs.Front.{HasFront}
 use Rattle.octets.specs.declared.tag.Tag.{Tag}
 use Rattle.octets.specs.Rule.{ber}

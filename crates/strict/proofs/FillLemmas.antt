@@ -1,5 +1,5 @@
 -- Lemmas on values in a slot, and the contents octets that they are of.
-use Rattle.std.proofs.Common.{◌≡◌, ◌≤◌, ℕ, List, Option, Some, None, arith, slice_range}
+use Rattle.std.proofs.Common.{◌≤◌, ℕ, List, Option, Some, None, arith, slice_range}
 use Rattle.octets.specs.Rule.{ber, der}
 use Rattle.types.specs.declared.value.Value.{Value}
 use Rattle.types.specs.Shape.{SimpleType, StringType, Shape, Val}

@@ -1,4 +1,4 @@
-use Rattle.std.proofs.Common.{◌≡◌, [], ◌∷◌, false, true, inl, take, drop, ◌++◌, sym, ◌∙◌, ap, subst}
+use Rattle.std.proofs.Common.{◌≡◌, ◌∷◌, false, true, inl, take, drop, ◌++◌, sym, ◌∙◌, ap, subst}
 use Rattle.octets.specs.Length.{IsSomeLength}
 use Rattle.octets.proofs.FrontLemmas.{front_of_more, whole_front, HasFront-from_parts}
 use Rattle.octets.proofs.LengthLemmas.{length_unique}

@@ -1,4 +1,4 @@
-use Rattle.std.proofs.Common.{arith, ◌≡◌, ℕ, ◌-◌, ◌≤◌, List, [], ◌++◌, refl, false, true, length, take, drop, Err, sym, ◌∙◌, ap, subst, append-nil, slice_range}
+use Rattle.std.proofs.Common.{arith, ◌≡◌, ℕ, ◌-◌, List, [], ◌++◌, refl, false, true, length, take, drop, sym, ◌∙◌, ap, subst, append-nil}
 use Rattle.std.proofs.lemmas.List.{take_rest}
 use Rattle.octets.specs.Front.{HasFront}
 use Rattle.octets.proofs.FrontLemmas.{front_of_more}
