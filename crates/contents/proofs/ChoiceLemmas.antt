@@ -1,6 +1,7 @@
 -- Lemmas on the type within a CHOICE that an encoding is of.
 use Rattle.std.specs.List.{AllByRecursion}
-use Rattle.std.proofs.Common.{◌≡◌, ◌↔◌, ◌⊎◌, ◌+◌, ◌<◌, ◌≤◌, ℕ, zero, suc, inl, inr, List, [], ◌∷◌, ◌++◌, length, get_or, drop, refl, sym, subst, ap, ◌∙◌, arith, Contains, Vec, Box, Global}
+use Rattle.std.specs.Prelude.{IsTrue, is_some, MatchOption}
+use Rattle.std.proofs.Common.{◌≡◌, ◌↔◌, ◌⊎◌, ◌+◌, ◌<◌, ◌≤◌, ℕ, zero, suc, inl, inr, List, [], ◌∷◌, ◌++◌, length, get_or, drop, refl, sym, subst, ap, ◌∙◌, arith, Bool, Option, Some, None, Contains, Vec, Box, Global, Bor}
 use Rattle.octets.specs.declared.tag.Tag.{Tag}
 use Rattle.octets.specs.Rule.{ber}
 use Rattle.types.specs.declared.ty.Ty.{Ty}
@@ -17,7 +18,7 @@ use Rattle.types.specs.Encoding.{IsEncoding, IsAlternativeEncoding}
 use Rattle.types.proofs.BeginningLemmas.{begins_once, encoding_begins, alternative_begins}
 use Rattle.types.proofs.LimitLemmas.{alternative_type}
 use Rattle.types.proofs.ListLemmas.{not_in_nil, contains_first, contains_cases, contains_left, contains_right, distinct_apart, distinct_right, all_append}
-use Rattle.types.proofs.LoopLemmas.{IsLeftTo, left_at}
+use Rattle.types.proofs.LoopLemmas.{IsLeftTo, left_at, is_so, is_not_so}
 use Rattle.types.proofs.TagLemmas.{contains_either, tags_of_choices, tags_of_first_choice, choice_tags}
 use Rattle.types.proofs.ViewLemmas.{ty-Choice, value-Chosen}
 use Rattle.std.proofs.lemmas.List.{drop_all}
@@ -51,6 +52,17 @@ have_first tag a as' h = subst (λ tags. Contains tags tag) (sym (tags_of_first_
 pub have_later : (tag : Tag) (a : Alternative) (as' : List Alternative) → ChoicesHave tag as' → ChoicesHave tag (a ∷ as')
 have_later tag a as' h = subst (λ tags. Contains tags tag) (sym (tags_of_first_choice a as')) (contains_right (first_tags (ty_view a.ty)) (tags_of_choices as') tag h)
 
+-- the alternative at a place has its tags in the list
+pub have_at : (tag : Tag) (xs : List Alternative) (which : ℕ) (a : Alternative) → which < length xs → a ≡ get_or xs which a → Contains (first_tags (ty_view a.ty)) tag → ChoicesHave tag xs
+have_at tag [] which a below is h = absurd (omega (arith, below))
+have_at tag (x ∷ xs) zero a below is h = have_first tag x xs (subst (λ (b : Alternative). Contains (first_tags (ty_view b.ty)) tag) is h)
+have_at tag (x ∷ xs) (suc which) a below is h = have_later tag x xs (have_at tag xs which a (omega (arith, below)) is h)
+
+-- whether an alternative was found says whether one has the tag
+pub found_tells : {X : Type 0} (A : Type 0) (P : X → Type 0) (found : Option X) (told : Bool) → told ≡ is_some found → MatchOption found (A → ⊥) P → ((x : X) → P x → A) → IsTrue told ↔ A
+found_tells A P None told is none some = subst (λ b. IsTrue b ↔ A) (sym is) (is_not_so none)
+found_tells A P (Some x) told is has some = subst (λ b. IsTrue b ↔ A) (sym is) (is_so (some x has))
+
 -- the nodes of alternatives
 abbrev pub ChoicesLeadTo : Tag → Shape → List Alternative → Type 0
 ChoicesLeadTo tag node alternatives = IsNodeForOneOf tag (alternatives_view alternatives) node
@@ -67,6 +79,11 @@ lead_later tag node a as' h = inr h
 
 pub lead_nowhere : (tag : Tag) (node : Shape) → ChoicesLeadTo tag node [] → ⊥
 lead_nowhere tag node h = h
+
+pub lead_at : (tag : Tag) (node : Shape) (xs : List Alternative) (which : ℕ) (a : Alternative) → which < length xs → a ≡ get_or xs which a → IsNodeFor tag (ty_view a.ty) node → ChoicesLeadTo tag node xs
+lead_at tag node [] which a below is h = absurd (omega (arith, below))
+lead_at tag node (x ∷ xs) zero a below is h = lead_first tag node x xs (subst (λ (b : Alternative). IsNodeFor tag (ty_view b.ty) node) is h)
+lead_at tag node (x ∷ xs) (suc which) a below is h = lead_later tag node x xs (lead_at tag node xs which a (omega (arith, below)) is h)
 
 -- a CHOICE has the tags and the nodes of its alternatives
 pub choice_has : (t : Ty) (v : Vec Alternative Global) (xs : List Alternative) (tag : Tag) → t ≡ ty.Choice v → xs ≡ v.items → ChoicesHave tag xs ↔ Contains (first_tags (ty_view t)) tag
@@ -117,6 +134,13 @@ mutual
     | inl l ↦ let n = begins_node tag type l in (n.0, inl n.1)
     | inr r ↦ let n = begins_node_of tag others r in (n.0, inr n.1)
   ]
+
+-- the node of the alternative that has the tag, which one has, is the node of all
+pub leads_on : (found : Option (Bor Ty)) (tag : Tag) (xs : List Alternative) (which : ℕ) (a : Alternative) → which < length xs → a ≡ get_or xs which a → Contains (first_tags (ty_view a.ty)) tag
+    → MatchOption found ((node : Shape) → IsNodeFor tag (ty_view a.ty) node → ⊥) (λ node. IsNodeFor tag (ty_view a.ty) (ty_view node.now)) → (type : Shape) → ((node : Shape) → ChoicesLeadTo tag node xs → IsNodeFor tag type node)
+    → MatchOption found ((node : Shape) → IsNodeFor tag type node → ⊥) (λ node. IsNodeFor tag type (ty_view node.now))
+leads_on None tag xs which a below is has none type leads = let there = begins_node tag (ty_view a.ty) has in absurd (none there.0 there.1)
+leads_on (Some node) tag xs which a below is has found type leads = leads (ty_view node.now) (lead_at tag (ty_view node.now) xs which a below is found)
 
 -- a type whose encodings have a tag of their own is its own node
 pub own_node : (tag : Tag) (type : Shape) → IsNode type → Contains (first_tags type) tag → IsNodeFor tag type type
@@ -221,12 +245,6 @@ alternative_nodes (x ∷ xs) zero a below is good =
     subst (λ (b : Alternative). AreGoodNodes (nodes_of (ty_view b.ty))) (sym is) (subst (λ type. AreGoodNodes (nodes_of type)) (alternative_type x) (good_left (nodes_of (alternative_view x).type) (nodes_of_alternatives (alternatives_view xs)) good))
 alternative_nodes (x ∷ xs) (suc which) a below is good = alternative_nodes xs which a (omega (arith, below)) is (good_right (nodes_of (alternative_view x).type) (nodes_of_alternatives (alternatives_view xs)) good)
 
--- the tags of what is left differ as well
-distinct_behind : (xs : List Alternative) (i : ℕ) → AreDistinct (tags_of_choices xs) → AreDistinct (tags_of_choices (drop i xs))
-distinct_behind xs zero distinct = distinct
-distinct_behind [] (suc i) distinct = distinct
-distinct_behind (x ∷ xs) (suc i) distinct = distinct_behind xs i (distinct_right (first_tags (alternative_view x).type) (tags_of_choices xs) distinct)
-
 -- what is known of a CHOICE
 pub record IsGoodChoice (xs : List Alternative) : Type 0 where
   pub distinct : AreDistinct (tags_of_choices xs)
@@ -243,16 +261,21 @@ good_alternative xs which a below is good =
     let nodes = alternative_nodes xs which a below is good.nodes in
     record { within = nodes.2; tags = nodes.0; defaults = nodes.1 }
 
--- the first alternative that can begin with the tag is the one that has the node
-pub leads_here : (xs : List Alternative) (which : ℕ) (a : Alternative) (tag : Tag) (node : Shape) → which < length xs → a ≡ get_or xs which a → IsGoodChoice xs → IsLeftTo (ChoicesLeadTo tag node) xs which → Contains (first_tags (ty_view a.ty)) tag → ChoicesLeadTo tag node xs → IsNodeFor tag (ty_view a.ty) node
-leads_here xs which a tag node below is good left has h =
-    let here = left_at xs which a below is in
-    let others = drop (which + 1) xs in
-    elim (lead_cases tag node a others (subst (ChoicesLeadTo tag node) here (left.0 h))) [
-      | inl n ↦ n
-      | inr n ↦
-          let distinct = subst (λ l. AreDistinct (tags_of_choices l)) here (distinct_behind xs which good.distinct) in
-          absurd (distinct_apart (first_tags (ty_view a.ty)) (tags_of_choices others) (subst AreDistinct (tags_of_first_choice a others) distinct) tag has (node_tag_of tag (alternatives_view others) node n))
+-- the alternative that can begin with the tag is the one that has the node
+pub leads_here : (xs : List Alternative) (which : ℕ) (a : Alternative) (tag : Tag) (node : Shape) → which < length xs → a ≡ get_or xs which a → AreDistinct (tags_of_choices xs) → Contains (first_tags (ty_view a.ty)) tag → ChoicesLeadTo tag node xs → IsNodeFor tag (ty_view a.ty) node
+leads_here [] which a tag node below is distinct has h = absurd (omega (arith, below))
+leads_here (x ∷ xs) zero a tag node below is distinct has h =
+    let first = subst (λ (b : Alternative). Contains (first_tags (ty_view b.ty)) tag) is has in
+    elim (lead_cases tag node x xs h) [
+      | inl n ↦ subst (λ (b : Alternative). IsNodeFor tag (ty_view b.ty) node) (sym is) n
+      | inr n ↦ absurd (distinct_apart (first_tags (ty_view x.ty)) (tags_of_choices xs) (subst AreDistinct (tags_of_first_choice x xs) distinct) tag first (node_tag_of tag (alternatives_view xs) node n))
+    ]
+leads_here (x ∷ xs) (suc which) a tag node below is distinct has h =
+    let below' : which < length xs = omega (arith, below) in
+    let apart = subst AreDistinct (tags_of_first_choice x xs) distinct in
+    elim (lead_cases tag node x xs h) [
+      | inl n ↦ absurd (distinct_apart (first_tags (ty_view x.ty)) (tags_of_choices xs) apart tag (node_tag tag (ty_view x.ty) node n) (have_at tag xs which a below' is has))
+      | inr n ↦ leads_here xs which a tag node below' is (distinct_right (first_tags (ty_view x.ty)) (tags_of_choices xs) apart) has n
     ]
 
 -- the value of a CHOICE

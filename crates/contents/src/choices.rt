@@ -1,32 +1,58 @@
 //! Which type within a CHOICE an encoding is of (X.690 8.13): tags tell the alternatives apart.
 
-ghost use Rattle.std.specs.Prelude.{◌≡◌, ◌↔◌, ℕ, List, true, false, Contains, IsTrue, IfOk, MatchOption};
+ghost use Rattle.std.specs.Prelude.{◌≡◌, ◌↔◌, ◌<◌, ℕ, List, true, false, length, get_or, Contains, IsTrue, IfOk, IfSome, MatchOption};
 ghost use Rattle.octets.specs.declared.tag.Tag.{Tag};
 ghost use Rattle.octets.specs.Rule.{ber};
 ghost use Rattle.types.specs.Encoding.{IsEncoding};
-ghost use Rattle.types.specs.FirstTags.{first_tags};
+ghost use Rattle.types.specs.FirstTags.{first_tags, tags_of_alternatives};
 ghost use Rattle.types.specs.Shape.{Shape, Val};
-ghost use Rattle.types.specs.View.{ty_view, value_view};
+ghost use Rattle.types.specs.View.{alternatives_view, ty_view, value_view};
 ghost use Rattle.contents.specs.Holding.{IsNode};
 ghost use Rattle.contents.specs.Parts.{IsGoodType, IsNodeFor, IsWrapped};
 
 use octets::{NoMemory, Tag};
 use std::alloc::Global;
-use types::{Ty, Value};
+use types::{Alternative, Ty, Value};
 
 /// Whether encodings of the type can begin with the tag. Takes no memory.
+#[cycle(choices)]
 pub fn begins(ty: &Ty, tag: Tag) -> bool
     ensures { IsTrue result ↔ Contains (first_tags (ty_view ty.now)) tag }
 {
     let Ty::Choice(alternatives) = ty else {
         return ty.tag() == Some(tag);
     };
-    for alternative in alternatives {
+    by_tag(alternatives, tag).is_some()
+}
+
+/// The alternative whose encodings can begin with the tag, and its place. None where there is no such alternative.
+/// Those whose numbers follow one another are not searched. Takes no memory.
+#[cycle(choices)]
+pub fn by_tag<'a>(alternatives: &'a [Alternative], tag: Tag) -> Option<(usize, &'a Alternative)>
+    ensures { MatchOption result (¬ Contains (tags_of_alternatives (alternatives_view alternatives.now)) tag)
+        (λ p. (p.0 < length alternatives.now) × (p.1.now ≡ get_or alternatives.now p.0 p.1.now)
+        × Contains (first_tags (ty_view p.1.now.ty)) tag) }
+{
+    if let Some((which, alternative)) = by_number(alternatives, tag) {
         if begins(&alternative.ty, tag) {
-            return true;
+            return Some((which, alternative));
         }
     }
-    false
+    for (which, alternative) in alternatives.iter().enumerate() {
+        if begins(&alternative.ty, tag) {
+            return Some((which, alternative));
+        }
+    }
+    None
+}
+
+// The alternative at the place that the number of the tag says, counted from the number of the first one's.
+fn by_number<'a>(alternatives: &'a [Alternative], tag: Tag) -> Option<(usize, &'a Alternative)>
+    ensures { IfSome result (λ p. (p.0 < length alternatives.now) × (p.1.now ≡ get_or alternatives.now p.0 p.1.now)) }
+{
+    let first = alternatives.first()?.ty.tag()?;
+    let which = tag.number.checked_sub(first.number)? as usize;
+    Some((which, alternatives.get(which)?))
 }
 
 /// The type, which is no CHOICE, of the encodings of `ty` that begin with the tag: `ty` itself, or, of a CHOICE,
@@ -42,12 +68,8 @@ pub fn node_of<'a>(ty: &'a Ty, tag: Tag) -> Option<&'a Ty>
             None
         };
     };
-    for alternative in alternatives {
-        if let Some(node) = node_of(&alternative.ty, tag) {
-            return Some(node);
-        }
-    }
-    None
+    let (_, alternative) = by_tag(alternatives, tag)?;
+    node_of(&alternative.ty, tag)
 }
 
 /// The same (`node_of`), where encodings of the type can begin with the tag: only a CHOICE is looked into.
@@ -88,11 +110,9 @@ pub fn wrap(alloc: Global, ty: &Ty, tag: Tag, value: Value) -> Result<Value, NoM
     let Ty::Choice(alternatives) = ty else {
         return Ok(value);
     };
-    for (which, alternative) in alternatives.iter().enumerate() {
-        if begins(&alternative.ty, tag) {
-            let chosen = wrap(alloc, &alternative.ty, tag, value)?;
-            return Ok(Value::Chosen(which, Box::new(alloc, chosen)?));
-        }
-    }
-    Ok(value)
+    let Some((which, alternative)) = by_tag(alternatives, tag) else {
+        return Ok(value);
+    };
+    let chosen = wrap(alloc, &alternative.ty, tag, value)?;
+    Ok(Value::Chosen(which, Box::new(alloc, chosen)?))
 }

@@ -20,7 +20,7 @@ mod parts;
 mod seats;
 mod segments;
 
-pub use choices::{begins, is_node, node_of, node_within, wrap};
+pub use choices::{begins, by_tag, is_node, node_of, node_within, wrap};
 pub use contents::read_contents;
 pub use filling::fill;
 pub use frame::{Frame, INLINE, OUTSIDE};

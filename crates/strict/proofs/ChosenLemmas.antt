@@ -1,5 +1,5 @@
 -- Lemmas on the alternatives of a CHOICE, one after another.
-use Rattle.std.proofs.Common.{◌≡◌, ℕ, zero, suc, ◌+◌, ◌<◌, ◌≤◌, ◌⊎◌, inl, inr, List, [], ◌∷◌, ◌++◌, Bool, Some, Contains, Box, Global, length, take, drop, map, get_or, refl, sym, ◌∙◌, ap, subst, arith}
+use Rattle.std.proofs.Common.{◌≡◌, ℕ, zero, suc, ◌<◌, ◌≤◌, ◌⊎◌, inl, inr, List, [], ◌∷◌, ◌++◌, Bool, Some, Contains, Box, Global, length, take, map, get_or, refl, sym, ◌∙◌, ap, subst, arith}
 use Rattle.std.specs.List.{AllByRecursion}
 use Rattle.octets.specs.declared.tag.Tag.{Tag}
 use Rattle.octets.specs.Rule.{Rule}
@@ -18,6 +18,7 @@ use Rattle.types.proofs.ViewLemmas.{value-Chosen}
 use Rattle.types.proofs.FirstTagLemmas.{tag_within}
 use Rattle.contents.specs.Head.{IsTagWithin, IsReadTag}
 use Rattle.contents.specs.Parts.{IsGoodType}
+use Rattle.contents.proofs.ChoiceLemmas.{have_at}
 use Rattle.contents.proofs.HeadLemmas.{tag_of_front}
 use Rattle.strict.specs.Reading.{IsRead, HasPart, HasChoice}
 use Rattle.strict.proofs.FrontLemmas.{within_of}
@@ -45,7 +46,7 @@ next_choice : (rule : Rule) (a : AlternativeView) (left : List AlternativeView) 
 next_choice rule a left room octets h = next_of rule a left room octets h.which h.value h.part h.rest h.chosen h.fits h.parts
 
 -- by the tag that was read it is none of this type
-pub not_this : (rule : Rule) (a : AlternativeView) (left : List AlternativeView) (room : ℕ) (octets more : List ℕ) (tag : Tag) (constructed : Bool) (used : ℕ) → IsReadTag tag room 0 octets constructed used → (Contains (first_tags a.type) tag → ⊥)
+not_this : (rule : Rule) (a : AlternativeView) (left : List AlternativeView) (room : ℕ) (octets more : List ℕ) (tag : Tag) (constructed : Bool) (used : ℕ) → IsReadTag tag room 0 octets constructed used → (Contains (first_tags a.type) tag → ⊥)
     → HasChoice rule (a ∷ left) room (octets ++ more) → HasChoice rule left room (octets ++ more)
 not_this rule a left room octets more tag constructed used read none h =
     elim (next_choice rule a left room (octets ++ more) h) [
@@ -57,7 +58,7 @@ not_this rule a left room octets more tag constructed used read none h =
     ]
 
 -- or it is one
-pub this_one : (rule : Rule) (a : AlternativeView) (left : List AlternativeView) (room : ℕ) (octets more : List ℕ) (tag : Tag) (constructed : Bool) (used : ℕ) → AreDistinct (tags_of_alternatives (alternatives_of (a ∷ left))) → IsReadTag tag room 0 octets constructed used → Contains (first_tags a.type) tag
+this_one : (rule : Rule) (a : AlternativeView) (left : List AlternativeView) (room : ℕ) (octets more : List ℕ) (tag : Tag) (constructed : Bool) (used : ℕ) → AreDistinct (tags_of_alternatives (alternatives_of (a ∷ left))) → IsReadTag tag room 0 octets constructed used → Contains (first_tags a.type) tag
     → HasChoice rule (a ∷ left) room (octets ++ more) → HasPart rule a.type room (octets ++ more)
 this_one rule a left room octets more tag constructed used distinct read here h =
     elim (next_choice rule a left room (octets ++ more) h) [
@@ -69,18 +70,29 @@ this_one rule a left room octets more tag constructed used distinct read here h 
           absurd (distinct_apart (first_tags a.type) tags distinct tag here (subst (Contains tags) (sym same) b.1))
     ]
 
-pub none_left : (rule : Rule) (room : ℕ) (octets : List ℕ) → HasChoice rule [] room octets → ⊥
-none_left rule room octets h = elim h.chosen [ ]
+-- the alternative at a place that has the tag which was read is the one that stands there
+pub this_at : (rule : Rule) (xs : List Alternative) (which : ℕ) (a : Alternative) (room : ℕ) (octets more : List ℕ) (tag : Tag) (constructed : Bool) (used : ℕ) → which < length xs → a ≡ get_or xs which a → AreDistinct (tags_of_alternatives (alternatives_view xs)) → IsReadTag tag room 0 octets constructed used → Contains (first_tags (ty_view a.ty)) tag
+    → HasChoice rule (map alternative_view xs) room (octets ++ more) → HasPart rule (ty_view a.ty) room (octets ++ more)
+this_at rule [] which a room octets more tag constructed used below is distinct read has h = absurd (omega (arith, below))
+this_at rule (x ∷ xs) zero a room octets more tag constructed used below is distinct read has h =
+    let first = subst (λ (b : Alternative). Contains (first_tags (ty_view b.ty)) tag) is has in
+    let here = this_one rule (alternative_view x) (map alternative_view xs) room octets more tag constructed used distinct read (subst (λ t. Contains (first_tags t) tag) (sym (alternative_type x)) first) h in
+    subst (λ (b : Alternative). HasPart rule (ty_view b.ty) room (octets ++ more)) (sym is) (subst (λ t. HasPart rule t room (octets ++ more)) (alternative_type x) here)
+this_at rule (x ∷ xs) (suc which) a room octets more tag constructed used below is distinct read has h =
+    let below' : which < length xs = omega (arith, below) in
+    let tags = tags_of_alternatives (alternatives_view xs) in
+    let not_first : Contains (first_tags (alternative_view x).type) tag → ⊥ = λ here. distinct_apart (first_tags (alternative_view x).type) tags distinct tag here (have_at tag xs which a below' is has) in
+    this_at rule xs which a room octets more tag constructed used below' is (distinct_right (first_tags (alternative_view x).type) tags distinct) read has
+    (not_this rule (alternative_view x) (map alternative_view xs) room octets more tag constructed used read not_first h)
 
-pub distinct_from : (xs : List AlternativeView) (i : ℕ) → AreDistinct (tags_of_alternatives (alternatives_of xs)) → AreDistinct (tags_of_alternatives (alternatives_of (drop i xs)))
-distinct_from xs zero h = h
-distinct_from [] (suc i) h = h
-distinct_from (x ∷ xs) (suc i) h = distinct_from xs i (distinct_right (first_tags x.type) (tags_of_alternatives (alternatives_of xs)) h)
-
-pub here_of : (xs : List Alternative) (i : ℕ) (a : Alternative) → i < length xs → a ≡ get_or xs i a → map alternative_view (drop i xs) ≡ alternative_view a ∷ map alternative_view (drop (i + 1) xs)
-here_of [] i a below is = absurd (omega (arith, below))
-here_of (x ∷ xs) zero a below is = ap (λ (b : Alternative). alternative_view b ∷ map alternative_view xs) (sym is)
-here_of (x ∷ xs) (suc i) a below is = let next : suc i + 1 ≡ suc (i + 1) = omega arith in here_of xs i a (omega (arith, below)) is ∙ ap (λ n. alternative_view a ∷ map alternative_view (drop n (x ∷ xs))) (sym next)
+-- where none has the tag that was read, none stands there
+pub none_there : (rule : Rule) (xs : List Alternative) (room : ℕ) (octets more : List ℕ) (tag : Tag) (constructed : Bool) (used : ℕ) → IsReadTag tag room 0 octets constructed used → (Contains (tags_of_alternatives (alternatives_view xs)) tag → ⊥)
+    → HasChoice rule (map alternative_view xs) room (octets ++ more) → ⊥
+none_there rule xs room octets more tag constructed used read none h =
+    let tags = tags_of_alternatives (alternatives_view xs) in
+    let b = alternative_begins rule (alternatives_view xs) h.which h.value h.part h.chosen in
+    let same = (tag_of_front tag b.0 constructed room 0 used octets more read.tagged (within_of b.0 room h.part h.rest (octets ++ more) h.parts h.fits b.2)).tag in
+    none (subst (Contains tags) (sym same) b.1)
 
 -- what is said of each node is said of those of each alternative
 pub nodes_at : (P : Shape → Type 0) (xs : List Alternative) (i : ℕ) (a : Alternative) → i < length xs → a ≡ get_or xs i a → AllByRecursion P (nodes_of_alternatives (alternatives_view xs)) → AllByRecursion P (nodes_of (alternative_view a).type)

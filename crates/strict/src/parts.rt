@@ -19,7 +19,7 @@ use crate::head::{Inside, named, opened};
 use crate::items::{read_list, read_set_of};
 use crate::leaf::read_leaf;
 use crate::members::read_set;
-use contents::{begins, not_due, read_head_tag};
+use contents::{by_tag, not_due, read_head_tag};
 use octets::{MAX_ENCODING, Tag};
 use std::alloc::Global;
 use types::{Alternative, Refusal, Ty, Value};
@@ -103,19 +103,17 @@ fn read_chosen(
     ensures numbers { IfErr result IsOfStrictReading }
 {
     let (tag, _, _) = read_head_tag(room, 0, octets)?;
-    for (which, alternative) in alternatives.iter().enumerate() {
-        if begins(&alternative.ty, tag) {
-            let mut chosen = None;
-            let used = read_one(alloc, rule, &alternative.ty, room, octets, &mut chosen)?;
-            let Some(value) = chosen else { unreachable!() };
-            let Ok(boxed) = Box::new(alloc, value) else {
-                return Err(Refusal::NoMemory);
-            };
-            *slot = Some(Value::Chosen(which, boxed));
-            return Ok(used);
-        }
-    }
-    Err(not_due(tag))
+    let Some((which, alternative)) = by_tag(alternatives, tag) else {
+        return Err(not_due(tag));
+    };
+    let mut chosen = None;
+    let used = read_one(alloc, rule, &alternative.ty, room, octets, &mut chosen)?;
+    let Some(value) = chosen else { unreachable!() };
+    let Ok(boxed) = Box::new(alloc, value) else {
+        return Err(Refusal::NoMemory);
+    };
+    *slot = Some(Value::Chosen(which, boxed));
+    Ok(used)
 }
 
 // Reads an encoding under an explicit tag into the slot: inside is the value's own.

@@ -14,7 +14,7 @@ ghost use Rattle.whole.specs.Reading.{IsRead, IsComponentRead, AreComponentsRead
 use crate::MAX_NESTED;
 use crate::heads::{Inside, opened};
 use crate::leaf::read_leaf;
-use contents::{Holding, Seats, is_default, seats_of};
+use contents::{Holding, Seats, by_tag, is_default, seats_of};
 use octets::{Head, MAX_ENCODING, Tag, read_identifier};
 use std::alloc::Global;
 use types::{Alternative, Field, Presence, Ty, Value, may_be_absent};
@@ -339,17 +339,17 @@ fn read_chosen(
     requires { IsGoodType (Shape.choice (alternatives_view alternatives.now)) }
     ensures { IfSome result (λ used. IsRead levels (Shape.choice (alternatives_view alternatives.now)) octets.now slot.new used) }
 {
-    for (which, alternative) in alternatives.iter().enumerate() {
-        let mut chosen = None;
-        if let Some(used) = read_one(alloc, &alternative.ty, levels, octets, &mut chosen) {
-            let Ok(boxed) = Box::new(alloc, chosen?) else {
-                return None;
-            };
-            fill(slot, Value::Chosen(which, boxed));
-            return Some(used);
-        }
-    }
-    None
+    let Head::Done { tag, .. } = read_identifier(octets) else {
+        return None;
+    };
+    let (which, alternative) = by_tag(alternatives, tag)?;
+    let mut chosen = None;
+    let used = read_one(alloc, &alternative.ty, levels, octets, &mut chosen)?;
+    let Ok(boxed) = Box::new(alloc, chosen?) else {
+        return None;
+    };
+    fill(slot, Value::Chosen(which, boxed));
+    Some(used)
 }
 
 // Puts the value into the slot.

@@ -1,14 +1,13 @@
-use Rattle.std.proofs.Common.{rules, ◌≡◌, ◌+◌, ◌-◌, ◌≤◌, ◌<◌, ◌⊎◌, inl, ◌++◌, ◌∷◌, ℕ, List, [], Option, Some, None, Contains, Err, length, map, take, drop, set, MatchOption, true, false, sym, ap, ◌∙◌, subst, subst₂, arith, refl}
+use Rattle.std.proofs.Common.{rules, ◌≡◌, ◌+◌, ◌-◌, ◌≤◌, ◌<◌, ◌⊎◌, inl, ◌++◌, ◌∷◌, ℕ, List, [], Option, Some, None, Err, length, map, take, drop, set, MatchOption, true, false, sym, ap, ◌∙◌, subst, subst₂, arith, refl}
 use Rattle.std.specs.Ordering.{nat_cmp, is_lt}
 use Rattle.std.specs.Cmp.Lexicographic.{slice_cmp}
-use Rattle.std.proofs.lemmas.List.{take_rest, take_more_set, length-set, length-drop, length-map, drop-map, drop_all}
+use Rattle.std.proofs.lemmas.List.{take_rest, take_more_set, length-set, length-drop, length-map}
 use Rattle.octets.specs.declared.TheConstants.{MAX_ENCODING}
 use Rattle.octets.specs.declared.tag.Tag.{Tag}
 use Rattle.octets.proofs.ResultLemmas.{IfErr-from}
 use Rattle.types.specs.declared.value.Value.{Value}
-use Rattle.types.specs.FirstTags.{first_tags, AreDistinct, tags_of_alternatives}
 use Rattle.types.specs.Shape.{Shape}
-use Rattle.types.specs.View.{ty_view, value_view, field_view, components_view, alternative_view, alternatives_view, alternatives_of}
+use Rattle.types.specs.View.{ty_view, value_view, field_view, components_view, alternative_view, alternatives_view}
 use Rattle.types.specs.Conforms.{MayBeAbsent}
 use Rattle.types.specs.declared.ty.Ty as node
 use Rattle.types.specs.declared.ty.Field as field
@@ -19,7 +18,7 @@ use Rattle.contents.specs.Segments.{BeginsAboveZero}
 use Rattle.strict.specs.Canonical.{rule_of}
 use Rattle.strict.specs.Bars.{Bars}
 use Rattle.strict.specs.Head.{EndsHere, IsEndKnown}
-use Rattle.strict.specs.Reading.{IsRead, HasPart, HasChoice, HasAlone}
+use Rattle.strict.specs.Reading.{IsRead, HasPart, HasAlone}
 use Rattle.strict.specs.Items.{HasItems, AreItemsRead, HasOrdered, AreOrderedRead, between}
 use Rattle.strict.specs.Components.{IsFront, EndsOrBegins, HasPresent, IsPresentRead, HasComponents, AreComponentsRead, BarsComponents}
 use Rattle.strict.specs.Members.{IsBegunAt, IsEmptyAt, IsOrderTagOf, HasMembers, AreMembersRead, AreFilled}
@@ -32,8 +31,7 @@ use Rattle.strict.proofs.ComponentLemmas.{ends_or_begins, none_stands}
 use Rattle.strict.proofs.SequenceLemmas.{absent_read, stands_read, present_stands, none_read, component_more, good_components, components_inside, all_read, ends_behind_all, sequence_read}
 use Rattle.strict.proofs.ListLemmas.{item_or_end, item_stands, item_read, items_inside, list_read}
 use Rattle.strict.proofs.OrderedLemmas.{ordered_or_end, ordered_stands, none_ordered, ordered_read, none_out_of_order, set_of_read, ordered_inside}
-use Rattle.strict.proofs.ChosenLemmas as choices
-use Rattle.strict.proofs.ChosenLemmas.{tag_of_part, choice_of_part, not_this, this_one, none_left, distinct_from, good_at, chosen_read}
+use Rattle.strict.proofs.ChosenLemmas.{tag_of_part, choice_of_part, this_at, none_there, good_at, chosen_read}
 use Rattle.strict.proofs.AloneLemmas.{alone_inside, ends_alone, explicit_read}
 use Rattle.strict.proofs.BegunLemmas.{begun_within, empty_length}
 use Rattle.strict.proofs.DueLemmas.{members_begin, members_filled, none_goes_on, is_due, present_due, none_before, begun_at, component_all}
@@ -64,8 +62,8 @@ items::read_items-returns-in_err-used-clause-refused t c =
     let P = HasPart rule type (room - at) in
     let known : IsEndKnown false d (room - at) (take (length octets - at) (drop at octets)) = let off : c.in_ok-ends.field-0 ≡ false = search rules in subst (λ b. IsEndKnown b d (room - at) (take (length octets - at) (drop at octets))) off c.in_ok-ends.ensures.value in
     bars_behind c.from_residual-in_err-used.result _ Q P octets at c.from_residual-in_err-used.ensures.1 (λ more h.
-        let goes : EndsHere d (room - at) (drop at octets ++ more) → ⊥ = subst (λ x. EndsHere d (room - at) (x ++ more) → ⊥) (take_rest octets at) (known more) in
-        item_stands rule type d (room - at) (drop at octets ++ more) goes (c.loop-item.invariant.forth more h)) c.in_err-used.ensures.refused
+    let goes : EndsHere d (room - at) (drop at octets ++ more) → ⊥ = subst (λ x. EndsHere d (room - at) (x ++ more) → ⊥) (take_rest octets at) (known more) in
+    item_stands rule type d (room - at) (drop at octets ++ more) goes (c.loop-item.invariant.forth more h)) c.in_err-used.ensures.refused
 
 pub items::read_items-loop-item-smaller : goal.items::read_items-loop-item-smaller
 items::read_items-loop-item-smaller t c =
@@ -122,8 +120,8 @@ items::read_ordered-returns-in_err-used-clause-refused t c =
     let off : c.in_ok-ends.field-0 ≡ false = search rules in
     let known : IsEndKnown false d (room - at) inner = subst (λ b. IsEndKnown b d (room - at) inner) off c.in_ok-ends.ensures.value in
     bars_behind c.from_residual-in_err-used.result _ Q P octets at c.from_residual-in_err-used.ensures.1 (λ more h.
-        let goes : EndsHere d (room - at) (drop at octets ++ more) → ⊥ = subst (λ x. EndsHere d (room - at) (x ++ more) → ⊥) (take_rest octets at) (known more) in
-        ordered_stands rule type d (room - at) last (drop at octets ++ more) goes (c.loop-item.invariant.forth more h)) c.in_err-used.ensures.refused
+    let goes : EndsHere d (room - at) (drop at octets ++ more) → ⊥ = subst (λ x. EndsHere d (room - at) (x ++ more) → ⊥) (take_rest octets at) (known more) in
+    ordered_stands rule type d (room - at) last (drop at octets ++ more) goes (c.loop-item.invariant.forth more h)) c.in_err-used.ensures.refused
 
 pub items::read_ordered-returns-then-comes_before-clause-refused : goal.items::read_ordered-returns-then-comes_before-clause-refused
 items::read_ordered-returns-then-comes_before-clause-refused t c = λ more may h.
@@ -182,75 +180,6 @@ parts::read_chosen-returns-in_err-tag-clause-refused t c =
     (λ same h. let k = tag_of_part rule shape room octets c.requires.good h in c.in_err-tag.ensures.truncated (ap Err same) k.tag k.within k.head)
     (λ final more h. let k = tag_of_part rule shape room (octets ++ more) c.requires.good h in c.in_err-tag.ensures.never final more k.tag k.within k.head))
 
-pub parts::read_chosen-loop-which-init : goal.parts::read_chosen-loop-which-init
-parts::read_chosen-loop-which-init t c = λ more h. choice_of_part (rule_of c.args.rule) (map alternative_view c.args.alternatives.now) c.args.room (c.args.octets.now ++ more) h
-
-pub parts::read_chosen-read_one-requires : goal.parts::read_chosen-read_one-requires
-parts::read_chosen-read_one-requires t c =
-    let xs = c.args.alternatives.now in
-    let i = c.loop-which.which in
-    let a = c.index-alternatives-which.result in
-    let bound : i < length xs = c.loop-which-test.true in
-    let is = c.index-alternatives-which.is in
-    let type : (alternative_view a).type ≡ ty_view a.ty = alternative_type a in
-    let good = subst IsGoodType type (good_at xs i a bound is c.requires.good) in
-    (search (rules, node.the_lemmas, alternative.the_lemmas, bound, is), (good, c.requires.room))
-
-pub parts::read_chosen-returns-in_err-used-clause-refused : goal.parts::read_chosen-returns-in_err-used-clause-refused
-parts::read_chosen-returns-in_err-used-clause-refused t c =
-    let octets = c.args.octets.now in
-    let rule = rule_of c.args.rule in
-    let xs = c.args.alternatives.now in
-    let room = c.args.room in
-    let shape = Shape.choice (alternatives_view xs) in
-    let i = c.loop-which.which in
-    let a = c.index-alternatives-which.result in
-    let bound : i < length xs = c.loop-which-test.true in
-    let is = c.index-alternatives-which.is in
-    let left = map alternative_view (drop (i + 1) xs) in
-    let here = choices.here_of xs i a bound is in
-    let read = c.in_ok-tag.ensures.value in
-    let type : (alternative_view a).type ≡ ty_view a.ty = alternative_type a in
-    let Q = HasPart rule shape room in
-    let P = HasPart rule (ty_view a.ty) room in
-    let on : c.begins.result ≡ true = search rules in
-    let first = subst (λ x. Contains (first_tags x) c.in_ok-tag.tag) (sym type) (c.begins.ensures.0 on) in
-    let distinct = subst (λ l. AreDistinct (tags_of_alternatives (alternatives_of l))) (drop-map alternative_view i xs ∙ here) (distinct_from (map alternative_view xs) i c.requires.good.tags.0) in
-    bars_through c.from_residual-in_err-used.result _ Q octets c.from_residual-in_err-used.ensures.1
-    (bars_by _ Q P octets octets (λ more h. subst (λ x. HasPart rule x room (octets ++ more)) type (this_one rule (alternative_view a) left room octets more c.in_ok-tag.tag c.in_ok-tag.field-0-1 c.in_ok-tag.field-0-2 distinct read first (subst (λ l. HasChoice rule l room (octets ++ more)) here (c.loop-which.invariant more h))))
-    c.in_err-used.ensures.refused)
-
-pub parts::read_chosen-returns-then-begins-clause-value : goal.parts::read_chosen-returns-then-begins-clause-value
-parts::read_chosen-returns-then-begins-clause-value t c =
-    let octets = c.args.octets.now in
-    let rule = rule_of c.args.rule in
-    let xs = c.args.alternatives.now in
-    let room = c.args.room in
-    let i = c.loop-which.which in
-    let a = c.index-alternatives-which.result in
-    let bound : i < length xs = c.loop-which-test.true in
-    let is = c.index-alternatives-which.is in
-    let v = c.in-Some.value in
-    let one = subst (λ s. IsRead rule (ty_view a.ty) room octets s c.in_ok-used.used) c.in-Some.is c.in_ok-used.ensures.value in
-    chosen_read rule xs i a room octets v c.in-Ok.boxed c.in_ok-used.used bound is c.in-Ok.ensures.ok one
-
-pub parts::read_chosen-loop-which-preserved : goal.parts::read_chosen-loop-which-preserved
-parts::read_chosen-loop-which-preserved t c = λ more h.
-    let octets = c.args.octets.now in
-    let rule = rule_of c.args.rule in
-    let xs = c.args.alternatives.now in
-    let room = c.args.room in
-    let i = c.loop-which.which in
-    let a = c.index-alternatives-which.result in
-    let bound : i < length xs = c.loop-which-test.true in
-    let is = c.index-alternatives-which.is in
-    let left = map alternative_view (drop (i + 1) xs) in
-    let here = choices.here_of xs i a bound is in
-    let read = c.in_ok-tag.ensures.value in
-    let type : (alternative_view a).type ≡ ty_view a.ty = alternative_type a in
-    let none : Contains (first_tags (alternative_view a).type) c.in_ok-tag.tag → ⊥ = λ k. let on : c.begins.result ≡ true = c.begins.ensures.1 (subst (λ x. Contains (first_tags x) c.in_ok-tag.tag) type k) in search (rules, on) in
-    not_this rule (alternative_view a) left room octets more c.in_ok-tag.tag c.in_ok-tag.field-0-1 c.in_ok-tag.field-0-2 read none (subst (λ l. HasChoice rule l room (octets ++ more)) here (c.loop-which.invariant more h))
-
 pub items::read_list-returns-in-Ok-clause-value : goal.items::read_list-returns-in-Ok-clause-value
 items::read_list-returns-in-Ok-clause-value t c =
     let octets = c.args.octets.now in
@@ -293,14 +222,45 @@ items::read_set_of-returns-in-Err-clause-refused t c =
     let P = HasOrdered rule type inside.definite inside.room [] in
     bars_inside c.in-Err.refusal c.named.result Q P octets inside.start c.named.ensures.follows (λ more h. ordered_inside c.args.rule c.args.tag type c.args.room octets more inside c.in_ok-inside.ensures.value h) c.in-Err.ensures.refused
 
-pub parts::read_chosen-returns-clause-refused : goal.parts::read_chosen-returns-clause-refused
-parts::read_chosen-returns-clause-refused t c = λ more may h.
+pub parts::read_chosen-returns-in_default-clause-refused : goal.parts::read_chosen-returns-in_default-clause-refused
+parts::read_chosen-returns-in_default-clause-refused t c = λ more may h.
+    let rule = rule_of c.args.rule in
+    let xs = c.args.alternatives.now in
+    let octets = c.args.octets.now in
+    none_there rule xs c.args.room octets more c.in_ok-tag.tag c.in_ok-tag.field-0-1 c.in_ok-tag.field-0-2 c.in_ok-tag.ensures.value c.in_default.ensures (choice_of_part rule (map alternative_view xs) c.args.room (octets ++ more) h)
+
+pub parts::read_chosen-read_one-requires : goal.parts::read_chosen-read_one-requires
+parts::read_chosen-read_one-requires t c =
+    let xs = c.args.alternatives.now in
+    let a = c.in-Some.alternative.now in
+    let bound = c.in-Some.ensures.0 in
+    let is = c.in-Some.ensures.1 in
+    let good = subst IsGoodType (alternative_type a) (good_at xs c.in-Some.which a bound is c.requires.good) in
+    (search (rules, node.the_lemmas, alternative.the_lemmas, bound, is), (good, c.requires.room))
+
+pub parts::read_chosen-returns-in_err-used-clause-refused : goal.parts::read_chosen-returns-in_err-used-clause-refused
+parts::read_chosen-returns-in_err-used-clause-refused t c =
     let octets = c.args.octets.now in
     let rule = rule_of c.args.rule in
     let xs = c.args.alternatives.now in
     let room = c.args.room in
-    let all : drop c.loop-which.which xs ≡ [] = drop_all c.loop-which.which xs (omega arith) in
-    none_left rule room (octets ++ more) (subst (λ l. HasChoice rule (map alternative_view l) room (octets ++ more)) all (c.loop-which.invariant more h))
+    let a = c.in-Some.alternative.now in
+    let found = c.in-Some.ensures in
+    let Q = HasPart rule (Shape.choice (alternatives_view xs)) room in
+    let P = HasPart rule (ty_view a.ty) room in
+    let there : (more : List ℕ) → Q (octets ++ more) → P (octets ++ more) = λ more h. this_at rule xs c.in-Some.which a room octets more c.in_ok-tag.tag c.in_ok-tag.field-0-1 c.in_ok-tag.field-0-2 found.0 found.1 c.requires.good.tags.0 c.in_ok-tag.ensures.value found.2 (choice_of_part rule (map alternative_view xs) room (octets ++ more) h) in
+    bars_through c.from_residual-in_err-used.result _ Q octets c.from_residual-in_err-used.ensures.1 (bars_by _ Q P octets octets there c.in_err-used.ensures.refused)
+
+pub parts::read_chosen-returns-clause-value : goal.parts::read_chosen-returns-clause-value
+parts::read_chosen-returns-clause-value t c =
+    let octets = c.args.octets.now in
+    let rule = rule_of c.args.rule in
+    let xs = c.args.alternatives.now in
+    let room = c.args.room in
+    let a = c.in-Some.alternative.now in
+    let v = c.in-Some-chosen.value in
+    let one = subst (λ s. IsRead rule (ty_view a.ty) room octets s c.in_ok-used.used) c.in-Some-chosen.is c.in_ok-used.ensures.value in
+    chosen_read rule xs c.in-Some.which a room octets v c.in-Ok.boxed c.in_ok-used.used c.in-Some.ensures.0 c.in-Some.ensures.1 c.in-Ok.ensures.ok one
 
 pub parts::read_alone-returns-in_err-front_tag-clause-refused : goal.parts::read_alone-returns-in_err-front_tag-clause-refused
 parts::read_alone-returns-in_err-front_tag-clause-refused t c =

@@ -1,8 +1,6 @@
-use Rattle.std.proofs.Common.{◌≡◌, length, map, take, drop, ◌-◌, ℕ, List, ◌++◌}
-use Rattle.types.specs.View.{ty_view, field_view, alternative_view, alternatives_view}
-use Rattle.types.specs.Shape.{Shape}
+use Rattle.std.proofs.Common.{◌≡◌, length, map, take, drop, ◌-◌}
+use Rattle.types.specs.View.{ty_view, field_view}
 use Rattle.strict.specs.Canonical.{rule_of}
-use Rattle.strict.specs.Reading.{HasPart, HasChoice}
 use Rattle.strict.specs.Items.{AreOrderedRead, AreItemsRead}
 use Rattle.strict.specs.Components.{AreComponentsRead}
 use Rattle.strict.specs.Members.{AreMembersRead}
@@ -30,6 +28,3 @@ invariant-members::read_members-loop-tag l = AreMembersRead (rule_of l.rule) (ma
 
 abbrev pub decreases-members::read_members-loop-tag : goal.decreases-members::read_members-loop-tag
 decreases-members::read_members-loop-tag l = length l.octets - l.at
-
-abbrev pub invariant-parts::read_chosen-loop-which : goal.invariant-parts::read_chosen-loop-which
-invariant-parts::read_chosen-loop-which l = (more : List ℕ) → HasPart (rule_of l.rule) (Shape.choice (alternatives_view l.alternatives)) l.room (l.octets ++ more) → HasChoice (rule_of l.rule) (map alternative_view (drop l.which l.alternatives)) l.room (l.octets ++ more)

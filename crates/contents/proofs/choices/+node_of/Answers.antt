@@ -1,33 +1,21 @@
-use Rattle.std.proofs.Common.{arith}
-use Rattle.types.specs.View.{ty_view}
-use Rattle.types.proofs.LoopLemmas.{begins}
+use Rattle.types.specs.View.{ty_view, alternatives_view}
 use Rattle.contents.specs.Parts.{IsNodeFor}
-use Rattle.contents.proofs.ChoiceLemmas.{ChoicesLeadTo, passes, finds, lacks, lead_cases, lead_first, lead_later, lead_nowhere, choice_leads}
+use Rattle.std.specs.Prelude.{MatchOption}
+use Rattle.std.proofs.Common.{sym, subst}
+use Rattle.contents.proofs.ChoiceLemmas.{leads_on, node_tag_of, choice_leads}
 use Rattle.contents.proofs.choices.+node_of.Goals as goal
 
-pub loop-alternative-init : goal.loop-alternative-init
-loop-alternative-init t c = λ node. begins (ChoicesLeadTo c.args.tag node) c.deref-alternative-items.result.now
-
-pub returns-in-Some : goal.returns-in-Some
-returns-in-Some t c =
-    let a = c.alternative-item.result in
-    let xs = c.deref-alternative-items.result.now in
+pub returns-in_err-alternative : goal.returns-in_err-alternative
+returns-in_err-alternative t c =
+    let xs = c.deref.result.now in
     let tag = c.args.tag in
-    let node = ty_view c.in-Some.node.now in
-    (choice_leads c.args.ty.now c.in-Choice.alternatives xs tag node c.in-Choice.is c.deref-alternative-items.ensures.value).0
-    (finds (ChoicesLeadTo tag node) xs c.loop-alternative.alternative-index a (omega arith) c.alternative-item.is (lead_first tag node a _ c.in-Some.ensures) (c.loop-alternative.invariant node))
-
-pub loop-alternative-preserved : goal.loop-alternative-preserved
-loop-alternative-preserved t c =
-    let a = c.alternative-item.result in
-    let xs = c.deref-alternative-items.result.now in
-    let tag = c.args.tag in
-    λ node. passes (ChoicesLeadTo tag node) (IsNodeFor tag (ty_view a.ty) node) xs c.loop-alternative.alternative-index a (omega arith) c.alternative-item.is (lead_cases tag node a _) (lead_later tag node a _)
-    (c.in_default-node_of.ensures node) (c.loop-alternative.invariant node)
+    subst (λ found. MatchOption found ((node : _) → IsNodeFor tag (ty_view c.args.ty.now) node → ⊥) (λ node. IsNodeFor tag (ty_view c.args.ty.now) (ty_view node.now))) (sym c.from_residual.ensures)
+    (λ node h. c.in_err-alternative.ensures (node_tag_of tag (alternatives_view xs) node ((choice_leads c.args.ty.now c.in-Choice.alternatives xs tag node c.in-Choice.is c.deref.ensures.value).1 h)))
 
 pub returns : goal.returns
 returns t c =
-    let xs = c.deref-alternative-items.result.now in
+    let xs = c.deref.result.now in
     let tag = c.args.tag in
-    λ node h. lacks (ChoicesLeadTo tag node) xs c.loop-alternative.alternative-index (omega arith) (lead_nowhere tag node) (c.loop-alternative.invariant node)
-    ((choice_leads c.args.ty.now c.in-Choice.alternatives xs tag node c.in-Choice.is c.deref-alternative-items.ensures.value).1 h)
+    let at = c.in_ok-alternative.ensures in
+    leads_on c.node_of.result tag xs c.in_ok-alternative.field-0-0 c.in_ok-alternative.alternative.now at.0 at.1 at.2 c.node_of.ensures (ty_view c.args.ty.now)
+    (λ node. (choice_leads c.args.ty.now c.in-Choice.alternatives xs tag node c.in-Choice.is c.deref.ensures.value).0)

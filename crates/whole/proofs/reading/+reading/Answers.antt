@@ -16,32 +16,22 @@ use Rattle.whole.specs.Reading.{IsRead, IsComponentRead, AreComponentsRead, AreI
 use Rattle.whole.proofs.ReadingLemmas.{both_of, read_behind, read_some, explicit_read, sequence_read, sequence_of_read, set_of_read, no_items, item_read, no_components, set_last, component_read, component_stands, good_components, good_component, good_alternative, chosen_read, no_members, member_behind, member_read, member_some, field_type, due_field, set_read, good_members}
 use Rattle.whole.proofs.reading.+reading.Goals as goal
 
--- src/reading.rt:265:5
-pub read_chosen-loop-which-init : goal.read_chosen-loop-which-init
-read_chosen-loop-which-init t c = tt
-
--- src/reading.rt:267:29
 pub read_chosen-read_one-requires : goal.read_chosen-read_one-requires
 read_chosen-read_one-requires t c =
     let xs = c.args.alternatives.now in
-    let a = c.index-alternatives-which.result in
-    let bound : c.loop-which.which < length xs = c.loop-which-test.true in
-    let at = c.index-alternatives-which.is in
-    (search (rules, node.the_lemmas, alternative.the_lemmas, bound, at), good_alternative xs c.loop-which.which a bound at c.requires)
+    let a = c.in_ok-which.alternative.now in
+    let bound = c.in_ok-which.ensures.0 in
+    let at = c.in_ok-which.ensures.1 in
+    (search (rules, node.the_lemmas, alternative.the_lemmas, bound, at), good_alternative xs c.in_ok-which.which a bound at c.requires)
 
--- src/reading.rt:272:13
-pub read_chosen-returns-in-Some : goal.read_chosen-returns-in-Some
-read_chosen-returns-in-Some t c =
+pub read_chosen-returns : goal.read_chosen-returns
+read_chosen-returns t c =
     let xs = c.args.alternatives.now in
-    let a = c.index-alternatives-which.result in
+    let a = c.in_ok-which.alternative.now in
     let v = c.in_ok-chosen.field-0 in
-    let read : IsRead c.args.levels (ty_view a.ty) c.args.octets.now (Some v) c.in-Some.used = subst (λ slot. IsRead c.args.levels (ty_view a.ty) c.args.octets.now slot c.in-Some.used) c.in_ok-chosen.was c.in-Some.ensures in
-    let whole = chosen_read c.args.levels xs c.loop-which.which a c.args.octets.now v c.in-Ok.boxed c.in-Some.used c.loop-which-test.true c.index-alternatives-which.is c.in-Ok.ensures.ok read in
-    subst (λ slot. IsRead c.args.levels (Shape.choice (alternatives_view xs)) c.args.octets.now slot c.in-Some.used) (sym c.fill.ensures) whole
-
--- src/reading.rt:265:5
-pub read_chosen-loop-which-preserved : goal.read_chosen-loop-which-preserved
-read_chosen-loop-which-preserved t c = tt
+    let read : IsRead c.args.levels (ty_view a.ty) c.args.octets.now (Some v) c.in_ok-used.used = subst (λ slot. IsRead c.args.levels (ty_view a.ty) c.args.octets.now slot c.in_ok-used.used) c.in_ok-chosen.was c.in_ok-used.ensures in
+    let whole = chosen_read c.args.levels xs c.in_ok-which.which a c.args.octets.now v c.in-Ok.boxed c.in_ok-used.used c.in_ok-which.ensures.0 c.in_ok-which.ensures.1 c.in-Ok.ensures.ok read in
+    subst (λ slot. IsRead c.args.levels (Shape.choice (alternatives_view xs)) c.args.octets.now slot c.in_ok-used.used) (sym c.fill.ensures) whole
 
 -- src/reading.rt:158:1
 pub read_component-returns-in-Some : goal.read_component-returns-in-Some

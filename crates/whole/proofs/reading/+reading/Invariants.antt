@@ -1,12 +1,8 @@
-use Rattle.std.specs.Prelude.{⊤}
 use Rattle.std.proofs.Common.{length, map, take, ◌-◌}
 use Rattle.types.specs.View.{ty_view, field_view}
 use Rattle.contents.specs.Holding.{parts_view}
 use Rattle.whole.specs.Reading.{AreComponentsRead, AreItemsRead, AreMembersRead}
 use Rattle.whole.proofs.reading.+reading.Given as goal
-
-abbrev pub invariant-read_chosen-loop-which : goal.invariant-read_chosen-loop-which
-invariant-read_chosen-loop-which l = ⊤
 
 abbrev pub invariant-read_components-loop-field : goal.invariant-read_components-loop-field
 invariant-read_components-loop-field l = AreComponentsRead l.levels (map field_view (take l.field-index l.fields)) l.octets l.slots.items l.at
