@@ -15,7 +15,10 @@ mod streams;
 mod strict_reader;
 mod transcoding;
 
+pub use any_reader::AnyReader;
+pub use feeding::Feed;
 pub use laws::{equal_results_exactly_if_same_values, written_octets_stay};
+pub use passing::MAX_STREAM;
 pub use rule::Rule;
 pub use stopped::Stopped;
 pub use streams::{check, convert, list};

@@ -17,7 +17,7 @@ use devices::{Piece, Sink, Source, whole_parts, write_all};
 use types::Refusal;
 
 /// The most octets of a stream.
-const MAX_STREAM: u64 = 4_294_967_295;
+pub const MAX_STREAM: u64 = 4_294_967_295;
 
 // Passes a piece on: writes what stands for the values that it completes, and returns how many values
 // are done, of which `done` were before.
