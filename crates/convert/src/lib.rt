@@ -17,7 +17,8 @@ pub use engine::{
     transcode, written_octets_stay,
 };
 pub use hex_text::{HexFault, unhex};
-pub use module_file::{fault_name, read_module, type_from};
+pub use lexis::fault_name;
+pub use module_file::{read_module, type_from};
 pub use notation::Fault;
 pub use octets::{Class, NoMemory, Tag};
 pub use primitives::Bits;

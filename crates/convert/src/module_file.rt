@@ -6,7 +6,7 @@ ghost use Rattle.types.specs.Shape.{Shape};
 ghost use Rattle.types.specs.View.{ty_view};
 ghost use Rattle.types.specs.WellFormed.{IsWellFormed};
 ghost use Rattle.syntax.specs.Tree.{Tree};
-ghost use Rattle.convert.specs.ModuleFile.{FileMeans, IsFileFault, IsModuleFile, name_of_fault};
+ghost use Rattle.convert.specs.ModuleFile.{FileMeans, IsFileFault, IsModuleFile};
 
 use lexis::MAX_TEXT;
 use notation::{parse, resolve};
@@ -64,25 +64,4 @@ pub fn read_module<R: Read>(alloc: Global, file: &mut R) -> io::Result<Vec<u8>>
     let mut octets = Vec::new(alloc);
     file.take(MAX_TEXT as u64 + 1).read_to_end(&mut octets)?;
     Ok(octets)
-}
-
-/// The name of the fault of this number.
-pub fn fault_name(number: u32) -> &'static str
-    ensures { result.now ≡ name_of_fault number }
-{
-    match number {
-        21 => "Token",
-        22 => "Syntax",
-        23 => "Reserved",
-        24 => "UnknownType",
-        25 => "Cycle",
-        26 => "RepeatedName",
-        27 => "RepeatedNumber",
-        28 => "TagsNotDistinct",
-        29 => "ImplicitChoice",
-        30 => "BadDefault",
-        31 => "TooLarge",
-        32 => "NotInProfile",
-        _ => "NoMemory",
-    }
 }

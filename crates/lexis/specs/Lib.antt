@@ -6,6 +6,7 @@ pub mod Symbols
 pub mod Spelling
 pub mod Tokens
 pub mod Place
+pub mod FaultName
 pub mod AllWords
 pub mod Signs
 pub mod Lexemes

@@ -1,9 +1,12 @@
 //! Why the text of a module is refused, and where.
 
 ghost use Rattle.std.specs.Prelude.{◌≡◌, ◌+◌, ◌<◌, ◌≤◌, ◌^◌, length};
+ghost use Rattle.lexis.specs.FaultName.{name_of_fault};
 ghost use Rattle.lexis.specs.Place.{IsPlace};
 
 use std::alloc::{AllocError, AllocFailed};
+use std::error::Error;
+use std::fmt;
 
 /// A text of a module that is refused: the number of the fault, and its place. Lines and columns are
 /// counted from 1; octet 10 ends a line, and a column is an octet of its line.
@@ -16,6 +19,25 @@ pub struct Fault {
     /// The column, 1 for a fault that has no place.
     pub column: u32,
 }
+
+/// Its number, its name and its place, as `22 Syntax at 1:17`.
+impl fmt::Display for Fault {
+    ghost use Rattle.std.specs.Prelude.{Some, ◌++◌, codes, decimal};
+
+    ghost output = { λ fault. Some (decimal fault.number ++ codes " " ++ name_of_fault fault.number
+        ++ codes " at " ++ decimal fault.line ++ codes ":" ++ decimal fault.column) };
+
+    fn fmt<W: fmt::Write>(&self, f: &mut fmt::Formatter<W>) -> fmt::Result {
+        let name = fault_name(self.number);
+        write!(
+            f,
+            "{} {} at {}:{}",
+            self.number, name, self.line, self.column
+        )
+    }
+}
+
+impl Error for Fault {}
 
 // A growth was refused. This fault has no place.
 const NO_MEMORY: Fault = Fault {
@@ -37,6 +59,27 @@ impl<T: Drop> From<AllocFailed<T>> for Fault {
 
     fn from(_refused: AllocFailed<T>) -> Fault {
         NO_MEMORY
+    }
+}
+
+/// The name of the fault of this number.
+pub fn fault_name(number: u32) -> &'static str
+    ensures { result.now ≡ name_of_fault number }
+{
+    match number {
+        21 => "Token",
+        22 => "Syntax",
+        23 => "Reserved",
+        24 => "UnknownType",
+        25 => "Cycle",
+        26 => "RepeatedName",
+        27 => "RepeatedNumber",
+        28 => "TagsNotDistinct",
+        29 => "ImplicitChoice",
+        30 => "BadDefault",
+        31 => "TooLarge",
+        32 => "NotInProfile",
+        _ => "NoMemory",
     }
 }
 

@@ -18,7 +18,7 @@ mod token;
 mod word;
 mod word_table;
 
-pub use fault::{Fault, fault_at};
+pub use fault::{Fault, fault_at, fault_name};
 pub use lexeme::{Lexeme, lexeme_of};
 pub use scanning::tokens;
 pub use symbol::{Symbol, symbol_of};
