@@ -11,7 +11,7 @@ use Rattle.strings.specs.Alphabet.{IsNumericOctet, IsIa5Octet}
 use Rattle.types.specs.Shape.{EnumerationItem, SimpleType, StringType, SimpleValue, StringValue, Val, Shape, Alternatives}
 use Rattle.types.proofs.ListLemmas.{contains_first, contains_later, contains_cases, not_in_nil}
 use Rattle.syntax.specs.Tree.{Value, integer, item_name, binary_value, hex_value, chars_value}
-use Rattle.builtin.specs.Universal.{universal}
+use Rattle.types.specs.Universal.{universal}
 use Rattle.builtin.specs.Tagging.{context}
 use Rattle.builtin.specs.Defaults.{IsHexString, two_digits, IsDefault}
 use Rattle.builtin.proofs.DefaultLemmas.{one_default}

@@ -6,7 +6,8 @@ use Rattle.syntax.specs.declared.tree.TagMode.{TagMode}
 use Rattle.syntax.specs.declared.tree.TagMode.TheVariants.{Unmarked, Implicit, Explicit}
 use Rattle.syntax.specs.declared.tree.Tagging.{Tagging}
 use Rattle.syntax.specs.declared.tree.Tagging.TheVariants.{Explicit as ExplicitTags, Implicit as ImplicitTags, Automatic as AutomaticTags}
-use Rattle.builtin.specs.Tagging.{tagged_implicitly, tagged_by_default, IsTagged}
+use Rattle.types.specs.Tagging.{tagged_implicitly, tagged_by_default}
+use Rattle.builtin.specs.Tagging.{IsTagged}
 use Rattle.builtin.proofs.DefaultLemmas.{HasNamesOnce}
 
 -- a tag makes one type of a type

@@ -4,6 +4,7 @@ use Rattle.octets.specs.declared.tag.Class.{Class}
 use Rattle.octets.specs.declared.tag.Class.TheVariants.{Application, Context, Private}
 use Rattle.octets.specs.declared.tag.Tag.{Tag}
 use Rattle.types.specs.Shape.{Shape, Components, no_component, component, Alternatives, no_alternative, alternative}
+use Rattle.types.specs.Tagging.{tagged_implicitly, tagged_by_default}
 use Rattle.syntax.specs.declared.tree.TagClass.{TagClass}
 use Rattle.syntax.specs.declared.tree.TagClass.TheVariants.{ContextSpecific, Application as ApplicationWord, Private as PrivateWord}
 use Rattle.syntax.specs.declared.tree.TagPrefix.{TagPrefix}
@@ -27,22 +28,6 @@ tag_of prefix = record { class = class_of prefix.class; number = prefix.number }
 abbrev pub IsUntaggedChoice : Shape → Type 0
 IsUntaggedChoice (Shape.choice alternatives) = ⊤
 IsUntaggedChoice _ = ⊥
-
--- an implicit tag stands in place of the outermost tag, be it that of an explicit node
-abbrev pub tagged_implicitly : Tag → Shape → Shape
-tagged_implicitly tag (Shape.simple other type) = Shape.simple tag type
-tagged_implicitly tag (Shape.string other type) = Shape.string tag type
-tagged_implicitly tag (Shape.sequence other components) = Shape.sequence tag components
-tagged_implicitly tag (Shape.set other components) = Shape.set tag components
-tagged_implicitly tag (Shape.sequence_of other type) = Shape.sequence_of tag type
-tagged_implicitly tag (Shape.set_of other type) = Shape.set_of tag type
-tagged_implicitly tag (Shape.choice alternatives) = Shape.choice alternatives
-tagged_implicitly tag (Shape.explicit other type) = Shape.explicit tag type
-
--- a tag without a keyword under IMPLICIT TAGS and AUTOMATIC TAGS: implicit, but explicit around an untagged CHOICE
-abbrev pub tagged_by_default : Tag → Shape → Shape
-tagged_by_default tag (Shape.choice alternatives) = Shape.explicit tag (Shape.choice alternatives)
-tagged_by_default tag type = tagged_implicitly tag type
 
 -- what a tag makes of a type: with EXPLICIT a node around it; with IMPLICIT the type under the tag, and of an untagged
 -- CHOICE nothing; without a keyword what the module's tag default says

@@ -5,8 +5,9 @@
 ghost use Rattle.std.specs.Prelude.{◌≡◌};
 ghost use Rattle.types.specs.View.{ty_view, components_view};
 ghost use Rattle.types.specs.Shape.{Shape, Components};
-ghost use Rattle.builtin.specs.Universal.{bit_string_tag, enumerated_tag, sequence_tag, set_tag, named_by_words, list_of, repeated};
-ghost use Rattle.builtin.specs.Tagging.{tagged_implicitly};
+ghost use Rattle.types.specs.Universal.{bit_string_tag, enumerated_tag, sequence_tag, set_tag};
+ghost use Rattle.builtin.specs.Universal.{named_by_words, list_of, repeated};
+ghost use Rattle.types.specs.Tagging.{tagged_implicitly};
 
 use octets::Tag;
 use strings::{TextKind, TimeKind};

@@ -6,7 +6,7 @@ use Rattle.syntax.specs.declared.tree.Group.TheVariants.{Sequence}
 use Rattle.syntax.specs.declared.tree.TagMode.TheVariants.{Unmarked, Explicit}
 use Rattle.syntax.specs.declared.tree.Tagging.TheVariants.{Automatic as AutomaticTags}
 use Rattle.syntax.specs.Tree.{required, Form, list, of, choice, reference, no_component as no_written_component, next_component, no_alternative as no_written_alternative, next_alternative, Tree}
-use Rattle.builtin.specs.Universal.{universal}
+use Rattle.types.specs.Universal.{universal}
 use Rattle.builtin.specs.Tagging.{context}
 use Rattle.builtin.specs.Names.{NamesDiffer}
 use Rattle.builtin.proofs.NameInstances.{a, b, apart, no_names, one_name, two_names}

@@ -10,8 +10,10 @@ use Rattle.syntax.specs.declared.tree.TagPrefix.{TagPrefix}
 use Rattle.syntax.specs.declared.tree.Simple.{Simple}
 use Rattle.syntax.specs.Tree.{Ending, Entry, Form, tagged, list, of, choice, enumerated, named_bits, simple, Tree}
 use Rattle.syntax.specs.View.{components_of as written_components, alternatives_of as written_alternatives}
-use Rattle.builtin.specs.Universal.{bit_string_tag, enumerated_tag, named_bit, named_by_words, with_named_bits, list_of, repeated}
-use Rattle.builtin.specs.Tagging.{tag_of, IsUntaggedChoice, tagged_implicitly}
+use Rattle.types.specs.Universal.{bit_string_tag, enumerated_tag}
+use Rattle.builtin.specs.Universal.{named_bit, named_by_words, with_named_bits, list_of, repeated}
+use Rattle.types.specs.Tagging.{tagged_implicitly}
+use Rattle.builtin.specs.Tagging.{tag_of, IsUntaggedChoice}
 use Rattle.builtin.specs.Numbering.{AreItems}
 use Rattle.builtin.specs.Names.{NamesDiffer}
 use Rattle.builtin.specs.Defaults.{IsRequirement}

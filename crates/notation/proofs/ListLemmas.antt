@@ -5,7 +5,8 @@ use Rattle.types.specs.View.{ComponentView, AlternativeView, components_of, alte
 use Rattle.syntax.specs.Tree.{Ending, Form, list, of, choice, Alternatives as WrittenAlternatives, Tree}
 use Rattle.syntax.specs.View.{components_of as written_components, alternatives_of as written_alternatives}
 use Rattle.syntax.specs.declared.tree.Group.{Group}
-use Rattle.builtin.specs.Tagging.{tagged_by_default, context, numbered_components, numbered_alternatives, is_component_tagged, is_alternative_tagged, has_automatic_tags}
+use Rattle.types.specs.Tagging.{tagged_by_default}
+use Rattle.builtin.specs.Tagging.{context, numbered_components, numbered_alternatives, is_component_tagged, is_alternative_tagged, has_automatic_tags}
 use Rattle.builtin.specs.Names.{NamesDiffer}
 use Rattle.builtin.specs.Universal.{list_of, repeated}
 use Rattle.notation.specs.Meaning.{component_names, alternative_names, IsMeaning, of_components, of_item_type, of_alternatives, AreAlternativeMeanings, no_other, one_other}

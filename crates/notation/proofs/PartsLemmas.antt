@@ -5,7 +5,8 @@ use Rattle.types.specs.Shape.{Val, Shape, Requirement, Components, no_component,
 use Rattle.types.specs.View.{ComponentView, components_of}
 use Rattle.syntax.specs.Tree.{Value, Ending, required, optional, default, Form, Components as WrittenComponents, Tree}
 use Rattle.syntax.specs.View.{components_of as written_components}
-use Rattle.builtin.specs.Tagging.{tagged_implicitly, tagged_by_default, context, numbered_components, numbered_alternatives}
+use Rattle.types.specs.Tagging.{tagged_implicitly, tagged_by_default}
+use Rattle.builtin.specs.Tagging.{context, numbered_components, numbered_alternatives}
 use Rattle.builtin.specs.Defaults.{IsDefault, IsRequirement}
 use Rattle.notation.specs.Meaning.{AreMeanings, no_more, one_more}
 use Rattle.notation.specs.Parts.{IsComponent, AreFrom, AreComponents}

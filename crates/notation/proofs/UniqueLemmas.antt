@@ -6,7 +6,8 @@ use Rattle.syntax.specs.declared.tree.Simple.TheVariants.{Boolean, Integer, Null
 use Rattle.syntax.specs.declared.tree.Group.{Group}
 use Rattle.syntax.specs.declared.tree.Group.TheVariants.{Sequence, Set}
 use Rattle.syntax.specs.Tree.{Form, reference, Components as WrittenComponents, Alternatives as WrittenAlternatives, Tree}
-use Rattle.builtin.specs.Universal.{enumerated_tag, named_by_words, list_of, repeated}
+use Rattle.types.specs.Universal.{enumerated_tag}
+use Rattle.builtin.specs.Universal.{named_by_words, list_of, repeated}
 use Rattle.builtin.specs.Tagging.{tag_of, IsTagged, components_in, alternatives_in}
 use Rattle.builtin.specs.Numbering.{written_numbers}
 use Rattle.builtin.specs.Defaults.{IsRequirement}

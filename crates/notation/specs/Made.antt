@@ -6,7 +6,7 @@ use Rattle.types.specs.View.{ComponentView, components_of}
 use Rattle.syntax.specs.declared.tree.Group.{Group}
 use Rattle.syntax.specs.Tree.{Ending, Form, list, Tree}
 use Rattle.syntax.specs.View.{components_of as written_components}
-use Rattle.builtin.specs.Tagging.{tagged_implicitly}
+use Rattle.types.specs.Tagging.{tagged_implicitly}
 use Rattle.builtin.specs.Universal.{list_of, repeated}
 use Rattle.notation.specs.Meaning.{IsMeaning}
 

@@ -5,7 +5,8 @@ use Rattle.syntax.specs.declared.tree.Simple.{Simple}
 use Rattle.syntax.specs.declared.tree.Group.{Group}
 use Rattle.syntax.specs.declared.tree.TagPrefix.{TagPrefix}
 use Rattle.syntax.specs.Tree.{Ending, Entry, Form, tagged, list, of, choice, enumerated, named_bits, simple, reference, Components as WrittenComponents, no_component as no_written_component, next_component, Alternatives as WrittenAlternatives, no_alternative as no_written_alternative, next_alternative, Tree}
-use Rattle.builtin.specs.Universal.{enumerated_tag, named_by_words, with_named_bits, list_of, repeated}
+use Rattle.types.specs.Universal.{enumerated_tag}
+use Rattle.builtin.specs.Universal.{named_by_words, with_named_bits, list_of, repeated}
 use Rattle.builtin.specs.Tagging.{tag_of, IsTagged, components_in, alternatives_in}
 use Rattle.builtin.specs.Names.{NamesDiffer}
 use Rattle.builtin.specs.Numbering.{AreItems}

@@ -4,7 +4,8 @@ use Rattle.std.specs.Prelude.{◌≡◌, ⊤, ℕ, suc, Bool, true, false, List,
 use Rattle.types.specs.Shape.{Shape}
 use Rattle.types.specs.View.{ComponentView, AlternativeView}
 use Rattle.syntax.specs.Tree.{Ending, Form, Tree}
-use Rattle.builtin.specs.Tagging.{context, tagged_by_default}
+use Rattle.types.specs.Tagging.{tagged_by_default}
+use Rattle.builtin.specs.Tagging.{context}
 use Rattle.builtin.specs.Defaults.{IsRequirement}
 use Rattle.notation.specs.Meaning.{IsMeaning}
 

@@ -3,6 +3,8 @@ pub mod OfContents
 pub mod FaultName
 pub mod Shape
 pub mod View
+pub mod Universal
+pub mod Tagging
 pub mod FirstTags
 pub mod WellFormed
 pub mod Conforms

@@ -10,9 +10,12 @@ mod items;
 mod laws;
 mod least;
 mod limits;
+mod making;
 mod oid_values;
+mod printing;
 mod refusal;
 mod ty;
+mod universal;
 mod value;
 mod well_typed;
 

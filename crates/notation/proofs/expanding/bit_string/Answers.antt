@@ -5,7 +5,7 @@ use Rattle.types.specs.Shape.{NamedBitView, Shape, StringType}
 use Rattle.types.specs.View.{named_bit_view}
 use Rattle.types.proofs.ViewLemmas.{ty-NamedBits}
 use Rattle.syntax.specs.View.{bit}
-use Rattle.builtin.specs.Universal.{bit_string_tag}
+use Rattle.types.specs.Universal.{bit_string_tag}
 use Rattle.notation.proofs.ExpandingLemmas.{named_bits_under}
 use Rattle.notation.proofs.expanding.bit_string.Goals as goal
 
