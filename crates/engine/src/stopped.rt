@@ -5,7 +5,7 @@ use types::Refusal;
 
 /// A call over a stream stopped within it.
 #[derive(Clone, Copy, Debug, PartialEq, Eq, Error)]
-#[error("refused {number} {name} after {done} values", number = .refusal.number(), name = .refusal.name())]
+#[error("refused {refusal} after {done} values")]
 pub struct Stopped {
     /// How many values were done before.
     pub done: u64,

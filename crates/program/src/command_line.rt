@@ -5,6 +5,7 @@ ghost use Rattle.std.specs.Prelude.{◌≡◌};
 use clap::error::ErrorKind;
 use convert::{Canonical, Rule};
 use std::alloc::AllocError;
+use thiserror::Error;
 
 /// What the program is asked to do.
 #[derive(Clone, Copy, Debug, PartialEq, Eq)]
@@ -36,12 +37,14 @@ pub struct Line {
     pub hex: bool,
 }
 
-/// Why words are no command line.
-#[derive(Debug, Drop)]
+/// Why words are no command line. As an error it is one line; the text of `clap` is printed by `print`.
+#[derive(Debug, Drop, Error)]
 pub enum LineFault {
     /// `clap` refuses them, or they ask for its help or the version.
+    #[error("{why}", why = .0.kind().as_str().unwrap_or("help or the version is asked for"))]
     Words(clap::Error),
     /// A growth was refused.
+    #[error("out of memory")]
     NoMemory,
 }
 

@@ -4,7 +4,7 @@ ghost use Rattle.std.specs.Prelude.{◌≡◌};
 ghost use Rattle.program.specs.Fault.{fault_status, refusal_status, module_status, fault_of_text, fault_of_refusal, fault_of_stopped};
 
 use crate::printed_path::PrintedPath;
-use convert::{HexFault, Stopped, fault_name};
+use convert::{HexFault, Stopped};
 use std::alloc::{AllocError, Global};
 use std::io::Write;
 use thiserror::Error;
@@ -14,7 +14,7 @@ use types::Refusal;
 #[derive(Debug, Drop, Error)]
 pub enum Fault<'a> {
     /// Octets, a device or a growth was refused.
-    #[error("asn1x: refused {number} {name} after {done} values", number = .refusal.number(), name = .refusal.name())]
+    #[error("asn1x: refused {refusal} after {done} values")]
     Refused {
         /// The refusal.
         refusal: Refusal,
@@ -31,7 +31,7 @@ pub enum Fault<'a> {
     #[error("asn1x: cannot read {path}", path = PrintedPath(.0))]
     CannotRead(&'a str),
     /// The octets of a module's file are refused.
-    #[error("asn1x: module refused {number} {name} at {line}:{column}", number = .0.number, name = fault_name(.0.number), line = .0.line, column = .0.column)]
+    #[error("asn1x: module refused {0}")]
     Module(notation::Fault),
     /// No built-in type has the name.
     #[error("asn1x: no such built-in type")]

@@ -2,6 +2,7 @@
 
 use clap::error::ErrorKind;
 use std::alloc::{AllocError, AllocFailed};
+use thiserror::Error;
 use trimming::Request;
 
 /// A command line.
@@ -13,12 +14,14 @@ pub struct Line {
     pub request: Request,
 }
 
-/// Why words are no command line.
-#[derive(Debug, Drop)]
+/// Why words are no command line. As an error it is one line; the text of `clap` is printed by `print`.
+#[derive(Debug, Drop, Error)]
 pub enum LineFault {
     /// `clap` refuses them, or they ask for its help or the version.
+    #[error("{why}", why = .0.kind().as_str().unwrap_or("help or the version is asked for"))]
     Words(clap::Error),
     /// A growth was refused.
+    #[error("out of memory")]
     NoMemory,
 }
 
