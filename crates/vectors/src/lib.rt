@@ -19,6 +19,8 @@ mod checks;
 #[cfg(test)]
 mod enumerated;
 #[cfg(test)]
+mod faults_in_one;
+#[cfg(test)]
 mod library_use;
 #[cfg(test)]
 mod many_parts;
@@ -30,6 +32,8 @@ mod nesting;
 mod pieces;
 #[cfg(test)]
 mod primitive;
+#[cfg(test)]
+mod printed_types;
 #[cfg(test)]
 mod rows;
 #[cfg(test)]
@@ -54,5 +58,7 @@ mod tags;
 mod told;
 #[cfg(test)]
 mod types_by_name;
+#[cfg(test)]
+mod types_in_code;
 #[cfg(test)]
 mod wide_integers;

@@ -1,15 +1,13 @@
 //! How a program uses the library.
 
 use convert::{
-    Canonical, Class, Failed, FromSlice, HexFault, Refusal, Rule, Stopped, Tag, ToVec, Ty,
-    WellTyped, convert, transcode, type_from, unhex,
+    Canonical, FromSlice, Rule, ToVec, Ty, WellTyped, convert, transcode, type_from, unhex,
 };
 use std::test::Fail;
 
 #[test]
 fn reads_ber_and_writes_der(rt: HostRuntime) -> Result<(), Fail> {
-    let class = Class::Universal;
-    let ty = WellTyped::new(Ty::Boolean(Tag { class, number: 1 }))?;
+    let ty = WellTyped::new(Ty::boolean())?;
     let octets = unhex(rt.alloc(), b"01 01 2a")?;
     let from = Rule::Ber;
     let to = Canonical::Der;
@@ -36,17 +34,5 @@ fn converts_values_of_a_type_of_a_module(rt: HostRuntime) -> Result<(), Fail> {
     let want = unhex(rt.alloc(), b"31 09 06 02 2a 03 06 03 2a 03 04 31 00")?;
     assert_eq!(rt; done, 2);
     assert_eq!(rt; sink.as_slice(), want.as_slice());
-    Ok(())
-}
-
-#[test]
-fn faults_print_one_line_each(rt: HostRuntime) -> Result<(), Fail> {
-    let refusal = Refusal::Contents;
-    let stopped = Stopped { done: 2, refusal };
-    let lines = format!(in rt.alloc(); "{stopped}; {}; {}", HexFault::NotHex, Failed)?;
-    assert_eq!(rt;
-        lines.as_str(),
-        "refused 6 Contents after 2 values; not hexadecimal; a device failed"
-    );
     Ok(())
 }
