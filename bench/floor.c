@@ -38,6 +38,7 @@ typedef uint8_t octet;
 #define ITEMS 1000
 #define NARROW 16
 #define WIDE 1024
+#define NUMBERS 256
 
 static void die(const char *why)
 {
@@ -612,6 +613,8 @@ static void sort_items(struct item *xs, struct item *spare, size_t count)
     memcpy(xs + k, spare + i, (half - i) * sizeof *xs);
 }
 
+static const char sets_module[] = "Sets DEFINITIONS ::= BEGIN Value ::= SET OF INTEGER END\n";
+
 static void set_of_integer(void)
 {
     size_t length, count = 0;
@@ -685,6 +688,111 @@ static void chain_module(void)
     for (int level = 0; level < LEVELS; level++)
         printf(" [%d]", level % 30);
     printf(" INTEGER\nEND\n");
+}
+
+/* A SEQUENCE OF CHOICE and a SET, of INTEGERs under the tags [0] to [255]. */
+
+/* Takes identifier octets of such a tag. */
+INLINE unsigned take_number(const octet *end)
+{
+    if (at == end || *at >> 5 != 4)
+        die("another identifier");
+    unsigned number = *at++ & 31;
+    if (number < 31)
+        return number;
+    for (number = 0;; at++) {
+        if (at == end)
+            die("truncated");
+        number = number << 7 | (*at & 127);
+        if (number == 0 || number >= NUMBERS)
+            die("another identifier");
+        if (*at < 128)
+            break;
+    }
+    at++;
+    if (number < 31)
+        die("another identifier");
+    return number;
+}
+
+INLINE void put_numbered(unsigned number, const octet *contents, size_t length)
+{
+    if (number < 31) {
+        put_head((octet)(0x80 | number), length);
+    } else {
+        octet head[3] = {0x9f, (octet)(number < 128 ? number : 0x80 | number >> 7), (octet)(number & 127)};
+        size_t all_but_last = number < 128 ? 1 : 2;
+        put_octets(head, all_but_last);
+        put_head(head[all_but_last], length);
+    }
+    put_octets(contents, length);
+}
+
+static void list_of_choices(void)
+{
+    size_t length;
+    begin();
+    take_tag(0x30, file_end);
+    const octet *end = take_opening(&length, file_end);
+    while (!ends(length, end)) {
+        unsigned number = take_number(end);
+        size_t count = integer_length(NARROW, end);
+        put_numbered(number, at, count);
+        at += count;
+    }
+    send_value(0x30);
+}
+
+static void set_of_numbers(void)
+{
+    struct item members[NUMBERS] = {0};
+    size_t length;
+    begin();
+    take_tag(0x31, file_end);
+    const octet *end = take_opening(&length, file_end);
+    while (!ends(length, end)) {
+        struct item *member = &members[take_number(end)];
+        if (member->contents != NULL)
+            die("a component comes twice");
+        member->length = integer_length(NARROW, end);
+        member->contents = at;
+        at += member->length;
+    }
+    for (unsigned number = 0; number < NUMBERS; number++) {
+        if (members[number].contents == NULL)
+            die("a component is missing");
+        put_numbered(number, members[number].contents, members[number].length);
+    }
+    send_value(0x31);
+}
+
+/* Prints a module whose type has a part for each of some tags; the first parts have the tags of these places. */
+static void numbered_module(const char *type, unsigned count, unsigned first, unsigned step)
+{
+    printf("Numbered DEFINITIONS IMPLICIT TAGS ::= BEGIN\n  Value ::= %s {", type);
+    for (unsigned i = 0; i < count; i++)
+        printf("%s\n    part%u [%u] INTEGER", i ? "," : "", i, first + i * step % NUMBERS);
+    printf("\n  }\nEND\n");
+}
+
+static void choices_module(void)
+{
+    numbered_module("SEQUENCE OF CHOICE", NUMBERS, 0, 1);
+}
+
+static void disordered_choices_module(void)
+{
+    numbered_module("SEQUENCE OF CHOICE", NUMBERS, 0, 101);
+}
+
+static void choices_of_two_module(void)
+{
+    numbered_module("SEQUENCE OF CHOICE", 2, 200, 1);
+}
+
+static void members_module(void)
+{
+    numbered_module("SET", NUMBERS, 0, 1);
 }
 
 /* SEQUENCE OF NULL. */
@@ -1040,6 +1148,105 @@ static void give_set(void)
     GIVE(0x00, 0x00);
 }
 
+/* As many items as a value can have: each of so many octets, which `fill` gives of the place. */
+static void give_full_set(size_t size, void (*fill)(octet *contents, size_t place))
+{
+    octet item[2 + NARROW] = {0x02, (octet)size};
+    GIVE(0x31, 0x80);
+    for (size_t place = 0; place < (MOST - 16) / (2 + size); place++) {
+        fill(item + 2, place);
+        give(item, 2 + size);
+    }
+    GIVE(0x00, 0x00);
+}
+
+static void fill_at_random(octet *contents, size_t place)
+{
+    (void)place;
+    contents[0] = (octet)(1 + any() % 126);
+    for (int i = 1; i < 4; i++)
+        contents[i] = (octet)any();
+}
+
+static void fill_alike(octet *contents, size_t place)
+{
+    (void)place;
+    memcpy(contents, (const octet[]){1, 2, 3, 4}, 4);
+}
+
+static void fill_descending(octet *contents, size_t place)
+{
+    uint32_t left = 0x7fffffff - (uint32_t)place;
+    for (int i = 0; i < 4; i++)
+        contents[i] = (octet)(left >> (24 - 8 * i));
+}
+
+/* Items that differ in the last four of sixteen octets. */
+static void fill_behind_fronts(octet *contents, size_t place)
+{
+    memset(contents, 0x55, 12);
+    fill_at_random(contents + 12, place);
+}
+
+static void give_random_set(void)
+{
+    give_full_set(4, fill_at_random);
+}
+
+static void give_equal_set(void)
+{
+    give_full_set(4, fill_alike);
+}
+
+static void give_descending_set(void)
+{
+    give_full_set(4, fill_descending);
+}
+
+static void give_set_of_fronts(void)
+{
+    give_full_set(16, fill_behind_fronts);
+}
+
+static void give_numbered(unsigned number)
+{
+    octet contents[2] = {(octet)(1 + any() % 126), (octet)any()};
+    if (number < 31)
+        GIVE((octet)(0x80 | number), 2);
+    else if (number < 128)
+        GIVE(0x9f, (octet)number, 2);
+    else
+        GIVE(0x9f, (octet)(0x80 | number >> 7), (octet)(number & 127), 2);
+    give(contents, 2);
+}
+
+/* A list of 150,000 items under so many tags from the first on. */
+static void give_choices_of(unsigned first, unsigned count)
+{
+    GIVE(0x30, 0x80);
+    for (int i = 0; i < 150000; i++)
+        give_numbered(first + (unsigned)(any() % count));
+    GIVE(0x00, 0x00);
+}
+
+static void give_choices(void)
+{
+    give_choices_of(0, NUMBERS);
+}
+
+static void give_choices_of_two(void)
+{
+    give_choices_of(200, 2);
+}
+
+static void give_members(void)
+{
+    GIVE(0x31, 0x80);
+    for (unsigned number = NUMBERS; number-- > 0;)
+        give_numbered(number);
+    GIVE(0x00, 0x00);
+}
+
 static void give_chain(void)
 {
     for (size_t level = 0; level < LEVELS; level++)
@@ -1145,8 +1352,9 @@ struct work {
     void (*give)(void);
     /* How many values, or 0 for INPUT octets. */
     size_t values;
-    /* NULL where `chain_module` prints it, empty where it is a file. */
+    /* Empty where it is a file, NULL where it is printed. */
     const char *module;
+    void (*print_module)(void);
 };
 
 static const struct work works[] = {
@@ -1155,8 +1363,18 @@ static const struct work works[] = {
         "Strings DEFINITIONS ::= BEGIN Value ::= OCTET STRING END\n"},
     {"segments_of_1", octet_string, give_short_segments, 0,
         "Strings DEFINITIONS ::= BEGIN Value ::= OCTET STRING END\n"},
-    {"sets", set_of_integer, give_set, 0, "Sets DEFINITIONS ::= BEGIN Value ::= SET OF INTEGER END\n"},
-    {"chains", chain, give_chain, 0, NULL},
+    {"sets", set_of_integer, give_set, 0, sets_module},
+    {"random_sets", set_of_integer, give_random_set, 8, sets_module},
+    {"equal_sets", set_of_integer, give_equal_set, 8, sets_module},
+    {"descending_sets", set_of_integer, give_descending_set, 8,
+        sets_module},
+    {"sets_of_fronts", set_of_integer, give_set_of_fronts, 8,
+        sets_module},
+    {"choices", list_of_choices, give_choices, 8, NULL, choices_module},
+    {"disordered_choices", list_of_choices, give_choices, 8, NULL, disordered_choices_module},
+    {"choices_of_two", list_of_choices, give_choices_of_two, 8, NULL, choices_of_two_module},
+    {"members", set_of_numbers, give_members, 0, NULL, members_module},
+    {"chains", chain, give_chain, 0, NULL, chain_module},
     {"nulls", sequence_of_null, give_nulls, 1, "Nulls DEFINITIONS ::= BEGIN Value ::= SEQUENCE OF NULL END\n"},
     {"certificates", certificate, give_certificate, 0, ""},
     {"indefinite_certificates", certificate, give_indefinite_certificate, 0, ""},
@@ -1227,7 +1445,7 @@ int main(int count, char **words)
     const struct work *work = work_of(words[2]);
     if (strcmp(words[1], "module") == 0) {
         if (work->module == NULL)
-            chain_module();
+            work->print_module();
         else
             fputs(work->module, stdout);
         return 0;

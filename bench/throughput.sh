@@ -11,11 +11,20 @@
 #     segments_of_1000  OCTET STRINGs of about 1 MiB in segments of 1,000 octets                       3
 #     segments_of_1     the same in segments of one octet                                              3
 #     sets              SET OF INTEGER, a thousand items each in no order                              4
+#     random_sets, equal_sets, descending_sets
+#                       the same with as many items of four contents octets as a value can have        1.5, 1.5, 1.2
+#     sets_of_fronts    the same of sixteen contents octets, of which the last four differ             0.6
+#     choices           SEQUENCE OF a CHOICE of 256 INTEGERs, 150,000 items                            2
+#     disordered_choices
+#                       the same with alternatives in no order                                         2
+#     members           a SET of 256 INTEGERs in descending order                                      1.4
 #     chains            an INTEGER within sixty explicit tags                                          5
 #     certificates      those of examples/certificates.hex, over and over, in DER                      4.5
 #     indefinite_certificates
 #                       the same with indefinite lengths                                               5.5
 #     booleans          2,000,000 BOOLEANs                                                             3
+#
+# A list of a CHOICE of 256 may take 1.5 times what one of two takes.
 #
 # What is written is converted and checked again. From DER to DER, and from CER to CER, records may take 0.8 times the
 # time that the same octets take from BER, and `check` 1.1 times.
@@ -24,7 +33,8 @@
 # A run over one NULL may take 2 ms. At most 3 MiB may be resident over values of at most 4 KiB, and 30 MiB over
 # a string or a SEQUENCE OF NULL of 1 MiB; a list of values that have parts takes more.
 #
-# A time is processor time, the median of five runs, and of a hundred over one NULL.
+# A time is processor time, the median of five runs, and of a hundred over one NULL. The last line names the bounds
+# that are not held.
 set -euo pipefail
 shopt -s inherit_errexit
 
@@ -49,14 +59,15 @@ trap 'rm -rf "$work"' EXIT
 readonly floor=$work/floor
 cc -O2 -Wall -o "$floor" "$top/bench/floor.c"
 
-held=0
+work_now=
+declare -a broken=()
 
 # Prints a line on what is measured: $1, at most $2, of $3 over $4 in hundredths.
 hold() {
     local ratio=$((100 * $3 / ($4 > 0 ? $4 : 1))) verdict=held
     if ((ratio > $2)); then
         verdict='NOT HELD'
-        held=1
+        broken+=("$work_now: ${1#  }")
     fi
     printf '%-32s %9d / %9d = %3d.%02d, at most %d.%02d  %s\n' "$1" "$3" "$4" \
         $((ratio / 100)) $((ratio % 100)) $(($2 / 100)) $(($2 % 100)) "$verdict"
@@ -85,11 +96,13 @@ prepare() {
 # Measures a work, which may take $2 hundredths of what floor takes.
 row() {
     local theirs der
+    work_now=$1
     prepare "$1"
     measure $runs "$floor" convert "$1" "$work/$1.ber"
     theirs=$took
     measure $runs "$program" convert "${input[@]}" --to der
     der=$took
+    times[$1]=$took
     residents[$1]=$resident
     hold "$1" "$2" "$der" "$theirs"
     measure $runs "$program" convert "${input[@]}" --to cer
@@ -117,7 +130,7 @@ strict_row() {
 }
 
 declare -a input=()
-declare -A residents=()
+declare -A residents=() times=()
 echo 'microseconds:'
 row records 500
 strict_row der
@@ -125,11 +138,21 @@ strict_row cer
 row segments_of_1000 300
 row segments_of_1 300
 row sets 400
+row random_sets 150
+row equal_sets 150
+row descending_sets 120
+row sets_of_fronts 60
+row choices_of_two 200
+row choices 200
+hold '  a CHOICE of 256 over one of two' 150 "${times[choices]}" "${times[choices_of_two]}"
+row disordered_choices 200
+row members 140
 row chains 500
 row certificates 450
 row indefinite_certificates 550
 row booleans 300
 
+work_now='start and memory'
 printf '\5\0' >"$work/null"
 measure 100 "$program" convert @builtin NULL "$work/null" --to der
 hold 'one NULL, over 1 ms' 200 "$took" 1000
@@ -145,4 +168,10 @@ hold 'segments_of_1, over 1 MiB' 3000 "${residents[segments_of_1]}" 1024
 prepare nulls
 measure 1 "$program" convert "${input[@]}" --to der
 hold 'SEQUENCE OF NULL, over 1 MiB' 3000 "$resident" 1024
-exit $held
+
+((${#broken[@]})) || broken=(none)
+(
+    IFS=';'
+    echo "not held: ${broken[*]}"
+)
+[[ ${broken[0]} == none ]]
