@@ -41,8 +41,10 @@ def look(session, seen):
             words = Path("/proc", number, "cmdline").read_text().split("\0")
         except (OSError, ValueError):
             continue
-        spent = (int(fields[11]) + int(fields[12])) / TICKS
-        seen[number, fields[19]] = (*crate_and_kind(words), spent)
+        key, spent = (number, fields[19]), (int(fields[11]) + int(fields[12])) / TICKS
+        # One that has ended has no words any more.
+        known = crate_and_kind(words) if any(words) else seen.get(key, (None, "rest"))[:2]
+        seen[key] = (*known, spent)
 
 
 def minutes(seconds):
