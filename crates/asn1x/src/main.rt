@@ -1,4 +1,4 @@
-//! The program `asn1x`: fetches its words, reads its module and opens its input. All else is `convert`'s.
+//! The program `asn1x`: fetches its words, reads its module and opens its input. All else is `program`'s.
 #![tactic(auto)]
 
 use convert::read_module;
