@@ -73,7 +73,7 @@ identifier_some tag constructed octets (inl h) = omega (arith, ap length h.spelt
 identifier_some tag constructed octets (inr h) = omega (arith, ap length h.spelt)
 
 -- where the contents octets end, nothing begins
-nothing_begins : (type : Shape) (definite : Bool) (room : ℕ) (octets : List ℕ) → EndsHere definite room octets → (more : List ℕ) → BeginsPart type room (octets ++ more) → BeginsAboveZero (octets ++ more) → ⊥
+pub nothing_begins : (type : Shape) (definite : Bool) (room : ℕ) (octets : List ℕ) → EndsHere definite room octets → (more : List ℕ) → BeginsPart type room (octets ++ more) → BeginsAboveZero (octets ++ more) → ⊥
 nothing_begins type true room octets ends more h above = absurd (omega (arith, ends, h.head.fits, identifier_some h.tag h.head.constructed h.head.identifier h.head.tagged))
 nothing_begins type false room octets ends more h above =
     let zero_first : 0 ∷ 0 ∷ (ends.0 ++ more) ≡ above.0 ∷ above.1 = ap (λ x. x ++ more) (sym ends.1) ∙ above.3 in

@@ -15,7 +15,7 @@ ghost use Rattle.strict.specs.Components.{IsFront, HasPresent, IsPresentRead, Ha
 ghost use Rattle.strict.specs.Refusal.{IsOfStrictReading};
 
 use crate::canonical::Canonical;
-use crate::fronts::{front_tag, is_next, is_spelt_out, left_over, not_next};
+use crate::fronts::{front_tag, is_left_out, is_next, is_spelt_out, left_over, not_next};
 use crate::head::{Inside, named, opened};
 use crate::parts::read_one;
 use crate::slots::{clear, empty_slots};
@@ -96,9 +96,40 @@ fn read_components(
 }
 
 // Reads the encoding of the component at the front, which has this place, if it stands there, or none where it may be
-// absent. It is read at once, and only where that is refused its tag is looked at.
+// absent. Most that are absent are the last ones, and for those no octet is looked at.
 #[cycle(reading)]
+#[inline(always)]
 fn read_component(
+    alloc: Global,
+    rule: Canonical,
+    field: &Field,
+    fields: &[Field],
+    place: usize,
+    definite: bool,
+    room: usize,
+    octets: &[u8],
+    slot: &mut Option<Value>,
+) -> Result<usize, Refusal>
+    requires good { IsGoodComponent (field_view field.now) }
+    requires room { room ≤ MAX_ENCODING }
+    requires place { place < length fields.now }
+    ensures value { IfOk result (λ used. IsComponentRead (rule_of rule) (field_view field.now) definite room octets.now slot.new used) }
+    ensures refused { IfErr result (λ refusal. BarsComponents (rule_of rule) (field_view field.now) definite room octets.now refusal) }
+    ensures numbers { IfErr result IsOfStrictReading }
+{
+    if is_left_out(&field.presence, definite, room) {
+        clear(slot);
+        return Ok(0);
+    }
+    read_next(
+        alloc, rule, field, fields, place, definite, room, octets, slot,
+    )
+}
+
+// Reads the encoding of the component, or none, where there may be more. It is read at once, and only where that is
+// refused its tag is looked at.
+#[cycle(reading)]
+fn read_next(
     alloc: Global,
     rule: Canonical,
     field: &Field,

@@ -73,9 +73,9 @@ fn fill_canonical(alloc: Global, ty: &Ty, contents: &[u8], slot: &mut Option<Val
     ensures { IsTrue result → IsFilled der (ty_view ty.now) contents.now slot.new }
 {
     match ty {
-        Ty::Boolean(_) => fill_truth(contents, slot),
-        Ty::Bits(_) => fill_bits(alloc, contents, slot),
-        Ty::NamedBits(_, _) => fill_named_bits(alloc, ty, contents, slot),
+        Ty::Boolean(_) | Ty::Bits(_) | Ty::NamedBits(_, _) => {
+            fill_narrowed(alloc, ty, contents, slot)
+        }
         Ty::Integer(_)
         | Ty::Enumerated(_, _)
         | Ty::Null(_)
@@ -103,6 +103,34 @@ fn fill_alike(alloc: Global, ty: &Ty, contents: &[u8], slot: &mut Option<Value>)
     fill(alloc, ty, contents, slot)
 }
 
+// Fills in a value of which BER has contents octets that CER and DER do not have (X.690 11.1 and 11.2). It stands apart,
+// so that all other types are told apart once.
+#[inline(never)]
+fn fill_narrowed(alloc: Global, ty: &Ty, contents: &[u8], slot: &mut Option<Value>) -> bool
+    requires { IsLeaf (ty_view ty.now) }
+    ensures { IsTrue result → IsFilled der (ty_view ty.now) contents.now slot.new }
+{
+    match ty {
+        Ty::Boolean(_) => fill_truth(contents, slot),
+        Ty::Bits(_) => fill_bits(alloc, contents, slot),
+        Ty::NamedBits(_, _)
+        | Ty::Integer(_)
+        | Ty::Enumerated(_, _)
+        | Ty::Null(_)
+        | Ty::Oid(_)
+        | Ty::RelativeOid(_)
+        | Ty::Octets(_)
+        | Ty::Text(_, _)
+        | Ty::Time(_, _)
+        | Ty::Sequence(_, _)
+        | Ty::Set(_, _)
+        | Ty::SequenceOf(_, _)
+        | Ty::SetOf(_, _)
+        | Ty::Choice(_)
+        | Ty::Explicit(_, _) => fill_value(alloc, ty, contents, slot),
+    }
+}
+
 // Fills in a BOOLEAN.
 #[inline(always)]
 fn fill_truth(contents: &[u8], slot: &mut Option<Value>) -> bool
@@ -116,7 +144,7 @@ fn fill_truth(contents: &[u8], slot: &mut Option<Value>) -> bool
 }
 
 // Fills in a BIT STRING without named bits.
-#[inline(never)]
+#[inline(always)]
 fn fill_bits(alloc: Global, contents: &[u8], slot: &mut Option<Value>) -> bool
     ensures { IsTrue result → MatchOption slot.new ⊥ (λ value. IsBitsOf (value_view value) contents.now) }
 {
@@ -130,9 +158,9 @@ fn fill_bits(alloc: Global, contents: &[u8], slot: &mut Option<Value>) -> bool
     true
 }
 
-// Fills in a BIT STRING with named bits.
+// Fills in a value of any type without parts.
 #[inline(never)]
-fn fill_named_bits(alloc: Global, ty: &Ty, contents: &[u8], slot: &mut Option<Value>) -> bool
+fn fill_value(alloc: Global, ty: &Ty, contents: &[u8], slot: &mut Option<Value>) -> bool
     requires { IsLeaf (ty_view ty.now) }
     ensures { IsTrue result → IsFilled der (ty_view ty.now) contents.now slot.new }
 {

@@ -1,18 +1,19 @@
 //! What stands at the front where a component must begin or the contents octets end.
 
-ghost use Rattle.std.specs.Prelude.{◌≡◌, ⊤, false, ◌↔◌, ℕ, None, Contains, IsTrue, IfOk, IfErr, MatchOption};
-ghost use Rattle.types.specs.Conforms.{DiffersFromDefault};
+ghost use Rattle.std.specs.Prelude.{◌≡◌, ⊤, false, ◌↔◌, ℕ, List, None, Contains, IsTrue, IfOk, IfErr, MatchOption};
+ghost use Rattle.types.specs.Conforms.{DiffersFromDefault, MayBeAbsent};
 ghost use Rattle.types.specs.FirstTags.{first_tags};
 ghost use Rattle.types.specs.View.{ty_view, value_view, requirement_view};
 ghost use Rattle.contents.specs.Parts.{IsSlotOf};
 ghost use Rattle.strict.specs.Bars.{Bars};
 ghost use Rattle.strict.specs.Components.{IsFront, EndsOrBegins};
+ghost use Rattle.strict.specs.Head.{EndsHere};
 ghost use Rattle.strict.specs.Refusal.{IsOfStrictReading};
 
 use crate::ends::ends;
 use contents::{begins, is_default, not_due, read_head_tag};
 use octets::Tag;
-use types::{Field, Presence, Refusal, Ty, Value};
+use types::{Field, Presence, Refusal, Ty, Value, may_be_absent};
 
 // The tag at the front, or none where the contents octets end there.
 pub fn front_tag(definite: bool, room: usize, octets: &[u8]) -> Result<Option<Tag>, Refusal>
@@ -35,6 +36,14 @@ pub fn is_next(front: Option<Tag>, ty: &Ty) -> bool
         Some(tag) => begins(ty, tag),
         None => false,
     }
+}
+
+// Whether the component is absent because the contents octets of the definite form end there.
+#[inline(always)]
+pub fn is_left_out(presence: &Presence, definite: bool, room: usize) -> bool
+    ensures { IsTrue result → ((octets : List ℕ) → EndsHere definite room octets) × MayBeAbsent (requirement_view presence.now) }
+{
+    definite && room == 0 && may_be_absent(presence)
 }
 
 // Why what stands there is refused where a component must, before these.

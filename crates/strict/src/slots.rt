@@ -15,9 +15,7 @@ pub fn empty_slots(alloc: Global, fields: &[Field]) -> Result<Vec<Option<Value>>
         return Err(Refusal::NoMemory);
     }
     for _ in fields {
-        if slots.push(None).is_err() {
-            return Err(Refusal::NoMemory);
-        }
+        slots.push_reserved(None);
     }
     Ok(slots)
 }

@@ -25,7 +25,7 @@ use Rattle.strict.specs.Members.{IsBegunAt, IsEmptyAt, IsOrderTagOf, HasMembers,
 use Rattle.strict.proofs.BarsLemmas.{bars_of, bars_by, bars_through, bars_behind, bars_inside}
 use Rattle.strict.proofs.PartLemmas.{read_some}
 use Rattle.strict.proofs.FieldLemmas.{field_type, field_requirement, run_at, first_of, whole_of}
-use Rattle.strict.proofs.FrontLemmas.{IsStandingKnown, front_known}
+use Rattle.strict.proofs.FrontLemmas.{IsStandingKnown, front_known, nothing_begins}
 use Rattle.strict.proofs.PresentLemmas.{part_of_present, none_spelt_out}
 use Rattle.strict.proofs.ComponentLemmas.{ends_or_begins, none_stands}
 use Rattle.strict.proofs.SequenceLemmas.{absent_read, stands_read, present_stands, none_read, component_more, good_components, components_inside, all_read, ends_behind_all, sequence_read}
@@ -435,12 +435,24 @@ components::read_components-returns-in-None-clause-value t c =
     let ends : EndsHere d (room - at) (drop at octets) = subst₂ (λ f x. IsFront f d (room - at) x) c.in-None.is (take_rest octets at) c.in_ok-tag.ensures.value in
     (all_read (rule_of c.args.rule) c.args.fields.now c.loop-place.place d room octets c.loop-place.slots.items at c.loop-place-test.false c.loop-place.invariant.1 c.loop-place.invariant.0, ends)
 
-pub components::read_component-returns-in-Ok-clause-value : goal.components::read_component-returns-in-Ok-clause-value
-components::read_component-returns-in-Ok-clause-value t c = λ others runs goods.
+pub components::read_component-returns-then-is_left_out-clause-value : goal.components::read_component-returns-then-is_left_out-clause-value
+components::read_component-returns-then-is_left_out-clause-value t c = λ others runs goods.
+    let octets = c.args.octets.now in
+    let f = c.args.field.now in
+    let view = field_view f in
+    let d = c.args.definite in
+    let room = c.args.room in
+    let left = c.is_left_out.ensures c.if-is_left_out.true in
+    let known : IsStandingKnown false view.type d room octets = nothing_begins view.type d room octets (left.0 octets) in
+    let may : MayBeAbsent view.requirement = subst MayBeAbsent (sym (field_requirement f)) left.1 in
+    absent_read c.args.rule view others d room octets c.clear.new.slot c.clear.ensures may c.requires.good.type known
+
+pub components::read_next-returns-in-Ok-clause-value : goal.components::read_next-returns-in-Ok-clause-value
+components::read_next-returns-in-Ok-clause-value t c = λ others runs goods.
     stands_read c.args.rule (field_view c.args.field.now) others c.args.definite c.args.room c.args.octets.now c.read_present.new.slot c.in-Ok.used c.requires.good.type runs goods c.in-Ok.ensures.value
 
-pub components::read_component-returns-in_err-front-in-Err-clause-refused : goal.components::read_component-returns-in_err-front-in-Err-clause-refused
-components::read_component-returns-in_err-front-in-Err-clause-refused t c =
+pub components::read_next-returns-in_err-front-in-Err-clause-refused : goal.components::read_next-returns-in_err-front-in-Err-clause-refused
+components::read_next-returns-in_err-front-in-Err-clause-refused t c =
     let octets = c.args.octets.now in
     let rule = c.args.rule in
     let view = field_view c.args.field.now in
@@ -450,8 +462,8 @@ components::read_component-returns-in_err-front-in-Err-clause-refused t c =
     let Q = HasComponents (rule_of rule) (view ∷ others) d room in
     subst (λ x. Bars x Q octets) (sym is) (bars_by _ Q (EndsOrBegins d room) octets octets (λ more h. ends_or_begins rule (view ∷ others) d room (octets ++ more) (c.requires.good, goods) h) c.in_err-front-in-Err.ensures.refused))
 
-pub components::read_component-returns-then-is_next-clause-refused : goal.components::read_component-returns-then-is_next-clause-refused
-components::read_component-returns-then-is_next-clause-refused t c = λ others runs goods.
+pub components::read_next-returns-then-is_next-clause-refused : goal.components::read_next-returns-then-is_next-clause-refused
+components::read_next-returns-then-is_next-clause-refused t c = λ others runs goods.
     let octets = c.args.octets.now in
     let rule = c.args.rule in
     let f = c.args.field.now in
@@ -461,8 +473,8 @@ components::read_component-returns-then-is_next-clause-refused t c = λ others r
     let known : IsStandingKnown true view.type d room octets = subst₂ (λ b t. IsStandingKnown b t d room octets) c.if-is_next.true (sym (field_type f)) (front_known c.in_ok-front-in-Err.front c.is_next.result (ty_view f.ty) d room octets c.in_ok-front-in-Err.ensures.value c.is_next.ensures) in
     bars_by _ (HasComponents (rule_of rule) (view ∷ others) d room) (HasPresent (rule_of rule) view room) octets octets (λ more h. present_stands rule view others d room octets more runs goods known h) c.in-Err.ensures.refused
 
-pub components::read_component-returns-then-not-may_be_absent-clause-refused : goal.components::read_component-returns-then-not-may_be_absent-clause-refused
-components::read_component-returns-then-not-may_be_absent-clause-refused t c = λ others runs goods more may h.
+pub components::read_next-returns-then-not-may_be_absent-clause-refused : goal.components::read_next-returns-then-not-may_be_absent-clause-refused
+components::read_next-returns-then-not-may_be_absent-clause-refused t c = λ others runs goods more may h.
     let octets = c.args.octets.now in
     let f = c.args.field.now in
     let view = field_view f in
@@ -474,8 +486,8 @@ components::read_component-returns-then-not-may_be_absent-clause-refused t c = �
     let no : c.may_be_absent.result ≡ false = c.if-not-may_be_absent.true in
     absurd cc
 
-pub components::read_component-returns-else-not-may_be_absent-clause-value : goal.components::read_component-returns-else-not-may_be_absent-clause-value
-components::read_component-returns-else-not-may_be_absent-clause-value t c = λ others runs goods.
+pub components::read_next-returns-else-not-may_be_absent-clause-value : goal.components::read_next-returns-else-not-may_be_absent-clause-value
+components::read_next-returns-else-not-may_be_absent-clause-value t c = λ others runs goods.
     let octets = c.args.octets.now in
     let f = c.args.field.now in
     let view = field_view f in
