@@ -1,6 +1,6 @@
 //! A stream in files, its octets unchanged.
 
-ghost use Rattle.std.specs.Prelude.{◌≡◌, ℕ, List, Option, OnOk};
+ghost use Rattle.std.specs.Prelude.{◌≡◌, ℕ, List, Option, IfErr, OnOk};
 ghost use Rattle.std.specs.Io.KnownBytes.{Appends};
 
 use crate::Ends;
@@ -84,7 +84,9 @@ impl<K: Outputs> Cutter<K> {
     }
 
     /// Tells whether the stream may end here.
-    pub fn finish(&self) -> Result<(), CutFault> {
+    pub fn finish(&self) -> Result<(), CutFault>
+        ensures { IfErr result (λ fault. fault ≡ CutFault.Refused Refusal.Truncated) }
+    {
         if self.ends.is_inside() {
             return Err(CutFault::Refused(Refusal::Truncated));
         }

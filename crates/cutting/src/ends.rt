@@ -1,6 +1,7 @@
 //! Where encodings end, by their heads alone.
 
-ghost use Rattle.std.specs.Prelude.{◌≤◌, ◌<◌, length, IfOk, IfSome};
+ghost use Rattle.std.specs.Prelude.{◌≤◌, ◌<◌, length, IfOk, IfErr, IfSome};
+ghost use Rattle.cutting.specs.Refused.{IsOfHead};
 
 use octets::{Head, Length, Tag, read_identifier, read_length};
 use types::Refusal;
@@ -56,7 +57,8 @@ impl Ends {
     /// Takes octets of a piece up to the end of the encoding, and returns how many they are; None where it goes on
     /// behind the piece. Refused where no encoding begins so.
     pub fn take(&mut self, piece: &[u8]) -> Result<Option<usize>, Refusal>
-        ensures { IfOk result (λ found. IfSome found (λ used. (0 < used) × (used ≤ length piece.now))) }
+        ensures within { IfOk result (λ found. IfSome found (λ used. (0 < used) × (used ≤ length piece.now))) }
+        ensures numbers { IfErr result IsOfHead }
     {
         let mut at = 0;
         for _ in 0..=piece.len() {
@@ -87,7 +89,8 @@ impl Ends {
 
     // Takes a head at the front, and returns how many octets of it stand there; None where it goes on behind them.
     fn take_head(&mut self, octets: &[u8]) -> Result<Option<usize>, Refusal>
-        ensures { IfOk result (λ found. IfSome found (λ used. used ≤ length octets.now)) }
+        ensures within { IfOk result (λ found. IfSome found (λ used. used ≤ length octets.now)) }
+        ensures numbers { IfErr result IsOfHead }
     {
         if self.count > 0 {
             return self.take_cut_head(octets);
@@ -104,7 +107,8 @@ impl Ends {
 
     // Takes octets of a head that has been cut, one by one.
     fn take_cut_head(&mut self, octets: &[u8]) -> Result<Option<usize>, Refusal>
-        ensures { IfOk result (λ found. IfSome found (λ used. used ≤ length octets.now)) }
+        ensures within { IfOk result (λ found. IfSome found (λ used. used ≤ length octets.now)) }
+        ensures numbers { IfErr result IsOfHead }
     {
         for (place, octet) in octets.iter().enumerate() {
             let count = self.count.min(MOST_OF_A_HEAD - 1);
@@ -121,7 +125,9 @@ impl Ends {
         Ok(None)
     }
 
-    fn open(&mut self, opened: Opened) -> Result<(), Refusal> {
+    fn open(&mut self, opened: Opened) -> Result<(), Refusal>
+        ensures { IfErr result IsOfHead }
+    {
         match opened {
             Opened::Definite(octets) => self.left = octets,
             Opened::Indefinite => self.open = self.open.saturating_add(1),
@@ -133,7 +139,9 @@ impl Ends {
 }
 
 // What the head at the front opens, and how many octets it has; None where it is cut.
-fn head_of(octets: &[u8]) -> Result<Option<(Opened, usize)>, Refusal> {
+fn head_of(octets: &[u8]) -> Result<Option<(Opened, usize)>, Refusal>
+    ensures { IfErr result IsOfHead }
+{
     match read_identifier(octets) {
         Head::Done {
             tag,
@@ -154,7 +162,9 @@ fn opened_behind(
     constructed: bool,
     identifier: usize,
     octets: &[u8],
-) -> Result<Option<(Opened, usize)>, Refusal> {
+) -> Result<Option<(Opened, usize)>, Refusal>
+    ensures { IfErr result IsOfHead }
+{
     match read_length(octets) {
         Length::Definite { octets: size, used } => {
             let used = identifier.saturating_add(used);
