@@ -9,9 +9,12 @@ With --check it writes nothing, and ends with status 1 where the table is anothe
 import pathlib
 import re
 import sys
+import textwrap
 
 TOP = pathlib.Path(__file__).resolve().parent.parent
 TABLE = TOP / "crates/view/src/refusal_pages.rt"
+# The most columns of a text behind what indents it, so that a line has at most 120.
+WIDTH = 106
 
 
 def sections(text):
@@ -28,8 +31,11 @@ def sections(text):
         yield int(found[1]), found[2], *plain
 
 
-def quoted(text):
-    return '"' + text.replace("\\", "\\\\").replace('"', '\\"') + '"'
+def member(name, text):
+    """The line of a text, or the lines of one that is longer than a line may be."""
+    text = text.replace("\\", "\\\\").replace('"', '\\"')
+    lines = textwrap.wrap(f'{name}: "{text}",', width=WIDTH, break_long_words=False, break_on_hyphens=False)
+    return " " * 8 + (" \\\n" + " " * 12).join(lines) + "\n"
 
 
 def main():
@@ -37,8 +43,11 @@ def main():
     lines = [f"pub const PAGES: [Page; {len(rows)}] = [\n"]
     for number, name, says, example in rows:
         lines.append(
-            f"    Page {{\n        number: {number},\n        name: {quoted(name)},\n        says: {quoted(says)},\n"
-            f"        example: {quoted(example)},\n    }},\n"
+            f"    Page {{\n        number: {number},\n"
+            + member("name", name)
+            + member("says", says)
+            + member("example", example)
+            + "    },\n"
         )
     lines.append("];\n")
     was = TABLE.read_text(encoding="utf-8")

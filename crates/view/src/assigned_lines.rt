@@ -100,11 +100,11 @@ fn word_of_simple(simple: Simple) -> &'static str {
 
 /// The assigned names that are nearest to a name which is not: of those with the fewest edits at most three, unless
 /// these are more than half of the name.
-pub fn nearest<'a>(
+pub fn nearest(
     alloc: Global,
-    assignments: &'a [Assignment],
+    assignments: &[Assignment],
     name: &str,
-) -> Result<Vec<&'a str>, NoMemory> {
+) -> Result<Vec<String>, NoMemory> {
     let mut found = Vec::new(alloc);
     let mut least = name.len() / 2;
     for assignment in assignments {
@@ -114,7 +114,7 @@ pub fn nearest<'a>(
         }
         if edits <= least && found.len() < 3 {
             least = edits;
-            found.push(assignment.name.as_str())?;
+            found.push(String::from_str(alloc, assignment.name.as_str())?)?;
         }
     }
     Ok(found)

@@ -1,6 +1,7 @@
 //! `cut`: a stream of values in files of a process.
 
 ghost use Rattle.std.specs.Prelude.{None};
+ghost use Rattle.view.specs.Status.{IsEnd};
 
 use crate::FileSystem;
 use crate::fault::Fault;
@@ -76,7 +77,9 @@ pub fn cut<D: FileSystem, E: Write>(
     least: u64,
     prefix: &str,
     err: &mut E,
-) -> u8 {
+) -> u8
+    ensures { IsEnd result }
+{
     let Ok(mut input) = file_system.open(path) else {
         Fault::CannotRead.print(path, err);
         return Fault::CannotRead.status();

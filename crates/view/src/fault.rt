@@ -18,6 +18,8 @@ pub enum Fault {
     NotHexadecimal,
     /// The output failed, or its reader is gone.
     Output,
+    /// There are fewer values than the number of the one that is asked for.
+    NoValue,
     /// A file cannot be made or written.
     CannotWrite,
     /// A growth was refused.
@@ -47,6 +49,7 @@ impl From<Unwanted> for Fault {
 
 impl Fault {
     ghost use Rattle.std.specs.Prelude.{◌≡◌, ◌↔◌};
+    ghost use Rattle.view.specs.Status.{IsEnd};
 
     /// Prints the line of a fault of the file. Of refused octets the line says more, and is printed where that is
     /// known; of an output that is gone there is none.
@@ -55,6 +58,7 @@ impl Fault {
             Fault::CannotRead => "cannot be read",
             Fault::CannotWrite => "cannot be written",
             Fault::NotHexadecimal => "is not hexadecimal text, or has more than 4,194,304 octets",
+            Fault::NoValue => "has fewer values",
             Fault::NoMemory => "memory ran out",
             Fault::Refused(_) | Fault::Output => return,
         };
@@ -64,11 +68,12 @@ impl Fault {
 
     /// The exit status that goes with the fault.
     pub fn status(self) -> u8
-        ensures { (result ≡ 0) ↔ (self ≡ Fault.Output) }
+        ensures end { IsEnd result }
+        ensures done { (result ≡ 0) ↔ (self ≡ Fault.Output) }
     {
         match self {
             Fault::Refused(Refusal::NoMemory) | Fault::NoMemory => 4,
-            Fault::Refused(_) | Fault::NotHexadecimal => 1,
+            Fault::Refused(_) | Fault::NotHexadecimal | Fault::NoValue => 1,
             Fault::CannotRead | Fault::CannotWrite => 3,
             Fault::Output => 0,
         }

@@ -2,12 +2,14 @@
 #![tactic(auto)]
 
 mod assigned_lines;
+mod columns;
 mod command_line;
 mod commands;
 mod cut_files;
 mod expected;
 mod fault;
 mod fault_line;
+mod fault_places;
 mod file_system;
 mod files;
 mod found;

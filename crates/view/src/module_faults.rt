@@ -3,6 +3,8 @@
 //! The text is cut at its assignments, and each is parsed by itself, so that one fault does not hide the next.
 
 use crate::fault_line::FaultLine;
+use crate::fault_places::FaultPlaces;
+use crate::module_fault::words_of_fault;
 use crate::module_text::ModuleText;
 use lexis::{Fault, MAX_TEXT, tokens};
 use notation::{parse, resolve};
@@ -13,6 +15,9 @@ use std::string::String;
 
 // The most names that are resolved.
 const MOST_RESOLVED: usize = 1_000;
+
+// How many times a module is judged to find the places of its faults.
+const MOST_JUDGED: usize = 1_000;
 
 /// Appends a line for each fault of a module's file, and returns how many there are.
 pub fn put_faults(
@@ -56,7 +61,7 @@ pub fn put_faults(
     put_parts(alloc, &module, &mut lines)?;
     module.put_names(alloc, &mut lines)?;
     if lines.count == 0 {
-        put_unresolved(alloc, text, &mut lines)?;
+        put_unresolved(alloc, text, &module, &mut lines)?;
     }
     Ok(lines.count)
 }
@@ -78,22 +83,39 @@ fn put_parts(
     Ok(())
 }
 
-// The faults of the names of a module whose text has none.
+// The faults of the names of a module whose text has none, each at the name or the tag that it is of.
 fn put_unresolved(
     alloc: Global,
     text: &str,
+    whole: &ModuleText<'_>,
     lines: &mut FaultLine<'_, '_>,
 ) -> Result<(), NoMemory> {
     let module = match parse(alloc, text) {
         Ok(module) => module,
         Err(fault) => return lines.put_number(alloc, fault, "", ""),
     };
-    for assignment in module.assignments.iter().take(MOST_RESOLVED) {
-        let name = assignment.name.as_str();
+    let mut places = FaultPlaces {
+        alloc,
+        module: whole,
+        left: MOST_JUDGED,
+    };
+    for part in whole.parts.iter().take(MOST_RESOLVED) {
+        let name = whole.spelling(part.first);
+        if part.is_header || !whole.is_assigned(part.first) {
+            continue;
+        }
         match resolve(alloc, &module, name) {
             Ok(_) => {}
             Err(Fault { number: 33, .. }) => return Err(NoMemory),
-            Err(fault) => lines.put_number(alloc, fault, name, "")?,
+            Err(fault) => {
+                if let Some(token) = places.find(part, fault.number)? {
+                    let words = words_of_fault(fault.number);
+                    let words = format!(in alloc; "in {name}: {words}")?;
+                    let (line, column) = whole.place(token);
+                    let subject = whole.subject(token);
+                    lines.put(line, column, fault.number, subject, words.as_str())?;
+                }
+            }
         }
     }
     Ok(())

@@ -84,21 +84,105 @@ impl<'a> ModuleText<'a> {
         Ok(())
     }
 
-    // Whether the token is a name that is assigned.
-    fn is_assigned(&self, which: usize) -> bool {
-        let Some(token) = self.tokens.get(which) else {
-            return false;
-        };
-        token.kind == Kind::TypeName && self.spelling(which.saturating_add(1)) == "::="
+    /// Whether the token is a name that is assigned.
+    pub fn is_assigned(&self, which: usize) -> bool {
+        self.is_type_name(which) && self.spelling(which.saturating_add(1)) == "::="
     }
 
-    // How a token is spelled; empty where there is none.
-    fn spelling(&self, which: usize) -> &'a str {
+    /// Whether the token is a name with a large first letter.
+    pub fn is_type_name(&self, which: usize) -> bool {
+        match self.tokens.get(which) {
+            Some(token) => token.kind == Kind::TypeName,
+            None => false,
+        }
+    }
+
+    /// How a token is spelled; empty where there is none.
+    pub fn spelling(&self, which: usize) -> &'a str {
         let Some(token) = self.tokens.get(which) else {
             return "";
         };
         let octets = self.octets.get(token.start..token.end).unwrap_or(&[]);
         from_utf8(octets).unwrap_or("")
+    }
+
+    /// The token behind a tag that begins with this one.
+    pub fn behind_tag(&self, bracket: usize) -> usize {
+        let behind = self.tag_end(bracket).saturating_add(1);
+        match self.spelling(behind) {
+            "IMPLICIT" | "EXPLICIT" => behind.saturating_add(1),
+            _ => behind,
+        }
+    }
+
+    // The last token of a tag that begins with this one.
+    fn tag_end(&self, bracket: usize) -> usize {
+        let mut which = bracket;
+        for _ in 0..3 {
+            which = which.saturating_add(1);
+            if self.spelling(which) == "]" {
+                break;
+            }
+        }
+        which
+    }
+
+    /// The text with these tokens and `more` in the place of the type that the part assigns.
+    pub fn text_with(
+        &self,
+        alloc: Global,
+        part: &Part,
+        first: usize,
+        end: usize,
+        more: &str,
+    ) -> Result<String, NoMemory> {
+        let mut text = String::new(alloc);
+        text.push_str(self.slice(0, self.behind(part.first.saturating_add(2))))?;
+        text.push_str(" ")?;
+        text.push_str(self.slice(self.start(first), self.behind(end)))?;
+        text.push_str(more)?;
+        text.push_str(" ")?;
+        text.push_str(self.slice(self.start(part.end), self.octets.len()))?;
+        Ok(text)
+    }
+
+    // Where a token starts; the end of the text where there is none.
+    fn start(&self, which: usize) -> usize {
+        match self.tokens.get(which) {
+            Some(token) => token.start,
+            None => self.octets.len(),
+        }
+    }
+
+    // Where the token before this one ends.
+    fn behind(&self, which: usize) -> usize {
+        if which == 0 {
+            return 0;
+        }
+        match self.tokens.get(which - 1) {
+            Some(token) => token.end,
+            None => self.octets.len(),
+        }
+    }
+
+    fn slice(&self, start: usize, end: usize) -> &'a str {
+        from_utf8(self.octets.get(start..end).unwrap_or(&[])).unwrap_or("")
+    }
+
+    /// The line and the column of a token.
+    pub fn place(&self, which: usize) -> (u32, u32) {
+        let mut place = Place::new();
+        place.go_to(self.octets, self.start(which));
+        (place.line, place.column)
+    }
+
+    /// A token as a fault names it: a tag whole.
+    pub fn subject(&self, which: usize) -> &'a str {
+        if self.spelling(which) == "[" {
+            let end = self.tag_end(which).saturating_add(1);
+            return self.slice(self.start(which), self.behind(end));
+        }
+        self.spelling(which)
     }
 
     /// The part as a module by itself.

@@ -1,6 +1,9 @@
 //! The type that a name of a module's file means.
 
+ghost use Rattle.view.specs.Status.{IsStatus};
+
 use crate::FileSystem;
+use crate::assigned_lines::nearest;
 use crate::module_fault::words_of_fault;
 use convert::{fault_name, read_module};
 use lexis::MAX_TEXT;
@@ -18,6 +21,8 @@ pub enum NoType {
     CannotRead(io::Error),
     /// The module is refused, or the name in it.
     Module(Fault),
+    /// The name is not assigned, and these names are near it.
+    NotAssigned(Fault, Vec<String>),
     /// No built-in type has the name.
     NotBuiltIn,
 }
@@ -76,11 +81,26 @@ fn at_front(number: u32) -> Fault {
     }
 }
 
-fn resolved(alloc: Global, module: &Module, name: &str) -> Result<WellTyped, NoType> {
-    match resolve(alloc, module, name) {
-        Ok(ty) => Ok(ty),
-        Err(fault) => Err(NoType::Module(fault)),
+/// The type that the name means in the module.
+pub fn resolved(alloc: Global, module: &Module, name: &str) -> Result<WellTyped, NoType> {
+    let fault = match resolve(alloc, module, name) {
+        Ok(ty) => return Ok(ty),
+        Err(fault) => fault,
+    };
+    if fault.number != 24 || is_assigned(module, name) {
+        return Err(NoType::Module(fault));
     }
+    match nearest(alloc, module.assignments.as_slice(), name) {
+        Ok(names) => Err(NoType::NotAssigned(fault, names)),
+        Err(_) => Err(NoType::Module(fault)),
+    }
+}
+
+fn is_assigned(module: &Module, name: &str) -> bool {
+    module
+        .assignments
+        .iter()
+        .any(|assignment| assignment.name.as_str() == name)
 }
 
 // The built-in type of a name, as a module has it.
@@ -99,7 +119,9 @@ fn built_in(alloc: Global, name: &str) -> Result<WellTyped, NoType> {
 }
 
 /// Prints why there is no type, and returns the exit status.
-pub fn print_no_type<E: Write>(path: &str, name: &str, fault: &NoType, err: &mut E) -> u8 {
+pub fn print_no_type<E: Write>(path: &str, name: &str, fault: &NoType, err: &mut E) -> u8
+    ensures { IsStatus result }
+{
     let path = PrintedPath(path);
     match fault {
         NoType::CannotRead(error) if error.kind() == ErrorKind::OutOfMemory => 4,
@@ -114,16 +136,28 @@ pub fn print_no_type<E: Write>(path: &str, name: &str, fault: &NoType, err: &mut
             );
             64
         }
-        NoType::Module(fault) => {
-            let (line, column, number) = (fault.line, fault.column, fault.number);
-            let word = fault_name(number);
-            let words = words_of_fault(number);
-            let colon = if name.is_empty() { "" } else { ": " };
-            let _ = writeln!(
-                err,
-                "{path}:{line}:{column}: {name}{colon}refused {number} {word}: {words}"
-            );
-            if number == 33 { 4 } else { 2 }
+        NoType::Module(fault) => print_module_fault(path, name, fault, err),
+        NoType::NotAssigned(fault, names) => {
+            let status = print_module_fault(path, name, fault, err);
+            for near in names {
+                let _ = writeln!(err, "{name} is near {near}");
+            }
+            status
         }
     }
+}
+
+// Prints the line of a module's fault, and returns the exit status.
+fn print_module_fault<E: Write>(path: PrintedPath<'_>, name: &str, fault: &Fault, err: &mut E) -> u8
+    ensures { IsStatus result }
+{
+    let (line, column, number) = (fault.line, fault.column, fault.number);
+    let word = fault_name(number);
+    let words = words_of_fault(number);
+    let colon = if name.is_empty() { "" } else { ": " };
+    let _ = writeln!(
+        err,
+        "{path}:{line}:{column}: {name}{colon}refused {number} {word}: {words}"
+    );
+    if number == 33 { 4 } else { 2 }
 }

@@ -1,22 +1,27 @@
 //! The printed lines of encodings.
 
+use crate::columns::{Columns, put_depth, put_offset};
 use engine::Canonical;
 use octets::NoMemory;
 use std::alloc::Global;
 use std::string::String;
 use types::{Ty, Value};
-use walking::{Line, PrintedTag, Walk, What, name_of, show_leaf};
+use walking::{LeafTypes, Line, NOTES, Notes, Walk, What, name_of, show_leaf};
 
 // The most octets of a value that are shown, unless all are asked for.
 const MOST_SHOWN: usize = 32;
 
 /// How lines are printed.
-#[derive(Clone, Copy, Debug)]
+#[derive(Clone, Copy)]
 pub struct Style<'a> {
     /// The name of the type.
     pub name: &'a str,
     /// The rule that says what is not canonical.
     pub rule: Canonical,
+    /// Texts of columns.
+    pub columns: &'a Columns,
+    /// The types by which values are printed.
+    pub leaf_types: &'a LeafTypes,
     /// Whether long values are shown whole.
     pub wide: bool,
 }
@@ -41,7 +46,7 @@ pub fn put_line(
     before: String,
 ) -> Result<String, NoMemory> {
     let mut out = before;
-    put_place(base, &line, &mut out)?;
+    put_place(base, &line, style.columns, &mut out)?;
     let Line {
         depth,
         part,
@@ -59,95 +64,48 @@ pub fn put_line(
             out.push_str(style.name)?;
             out.push_str(" ::=")?;
         }
-        out.push(' ')?;
+        out.push_str(" ")?;
         out.push_str(name_of(part.node))?;
     }
     let mut out = match what {
         What::Parts | What::End => out,
-        What::Leaf(value) => put_value(alloc, part.node, value, style.wide, "  ", out)?,
-        What::Segment(value) => put_value(alloc, part.node, value, style.wide, " segment  ", out)?,
+        What::Leaf(value) => put_value(alloc, part.node, &value, style, "  ", out)?,
+        What::Segment(value) => put_value(alloc, part.node, &value, style, " segment  ", out)?,
     };
-    for note in notes {
-        let rule = style.rule_word();
-        let words = note.words();
-        write!(out, "  (not {rule}: {words})")?;
-    }
-    out.push('\n')?;
+    put_notes(notes, style.rule, &mut out)?;
+    out.push_str("\n")?;
     Ok(out)
 }
 
 // Appends the offset, the depth, the lengths and the tag.
-fn put_place(base: u64, line: &Line<'_>, out: &mut String) -> Result<(), NoMemory> {
-    put_number(base.saturating_add(line.at as u64), 4, out)?;
-    out.push_str(": ")?;
-    put_number(line.depth as u64, 1, out)?;
-    out.push(' ')?;
-    let start = out.len();
-    put_number(line.head as u64, 1, out)?;
-    out.push('+')?;
-    match line.contents {
-        Some(size) => put_number(size as u64, 1, out)?,
-        None => out.push_str("indef")?,
-    }
-    pad(start, 8, out)?;
-    let start = out.len();
-    let tag = PrintedTag(line.part.tag);
-    out.push('[')?;
-    out.push_str(tag.word())?;
-    put_number(u64::from(line.part.tag.number), 1, out)?;
-    out.push(']')?;
-    pad(start, 17, out)
+fn put_place(
+    base: u64,
+    line: &Line<'_>,
+    columns: &Columns,
+    out: &mut String,
+) -> Result<(), NoMemory> {
+    put_offset(base.saturating_add(line.at as u64), out)?;
+    put_depth(line.depth, out)?;
+    columns.put_lengths(line.head, line.contents, out)?;
+    columns.put_tag(line.part.tag, out)
 }
 
-// Appends a number in decimal, of at least so many digits.
-fn put_number(number: u64, least: usize, out: &mut String) -> Result<(), NoMemory> {
-    let mut digits = ['0'; 20];
-    let mut rest = number;
-    let mut count = 0usize;
-    for place in digits.iter_mut() {
-        if rest == 0 && count >= least {
-            break;
+// Appends what is not canonical.
+fn put_notes(notes: Notes, rule: Canonical, out: &mut String) -> Result<(), NoMemory> {
+    if notes.is_empty() {
+        return Ok(());
+    }
+    let lead = match rule {
+        Canonical::Cer => "  (not CER: ",
+        Canonical::Der => "  (not DER: ",
+    };
+    for note in NOTES.iter() {
+        if notes.has(*note) {
+            out.push_str(lead)?;
+            out.push_str(note.words())?;
+            out.push_str(")")?;
         }
-        *place = DIGITS[(rest % 10) as usize];
-        rest /= 10;
-        count = count.saturating_add(1);
     }
-    for digit in digits.iter().take(count).rev() {
-        out.push(*digit)?;
-    }
-    Ok(())
-}
-
-// The digits.
-const DIGITS: [char; 10] = ['0', '1', '2', '3', '4', '5', '6', '7', '8', '9'];
-
-// So many spaces.
-const SPACES: [&str; 18] = [
-    "",
-    " ",
-    "  ",
-    "   ",
-    "    ",
-    "     ",
-    "      ",
-    "       ",
-    "        ",
-    "         ",
-    "          ",
-    "           ",
-    "            ",
-    "             ",
-    "              ",
-    "               ",
-    "                ",
-    "                 ",
-];
-
-// Appends spaces up to a width of at most 17, and one at least.
-fn pad(start: usize, width: usize, out: &mut String) -> Result<(), NoMemory> {
-    let there = out.len().saturating_sub(start);
-    let spaces = width.saturating_sub(there).max(1);
-    out.push_str(SPACES[spaces.min(17)])?;
     Ok(())
 }
 
@@ -155,50 +113,38 @@ fn pad(start: usize, width: usize, out: &mut String) -> Result<(), NoMemory> {
 fn put_value(
     alloc: Global,
     node: &Ty,
-    value: Value,
-    wide: bool,
+    value: &Value,
+    style: &Style<'_>,
     lead: &str,
     before: String,
 ) -> Result<String, NoMemory> {
     let mut out = before;
     out.push_str(lead)?;
-    if wide {
-        return show_leaf(alloc, node, value, out);
-    }
-    let (value, omitted) = shortened(value);
-    let mut out = show_leaf(alloc, node, value, out)?;
-    if omitted > 0 {
-        write!(out, " and {omitted} octets more")?;
-    }
-    Ok(out)
-}
-
-// The value with so many octets as are shown, and how many it has behind them.
-fn shortened(value: Value) -> (Value, usize) {
-    match value {
-        Value::Octets(octets) => {
-            let (octets, omitted) = cut(octets);
-            (Value::Octets(octets), omitted)
+    let types = style.leaf_types;
+    match shortened(alloc, value)? {
+        Some((value, omitted)) if !style.wide => {
+            let mut out = show_leaf(alloc, types, node, &value, out)?;
+            write!(out, " and {omitted} octets more")?;
+            Ok(out)
         }
-        Value::Text(octets) => {
-            let (octets, omitted) = cut(octets);
-            (Value::Text(octets), omitted)
-        }
-        Value::WideInteger(octets) => {
-            let (octets, omitted) = cut(octets);
-            if omitted > 0 {
-                (Value::Octets(octets), omitted)
-            } else {
-                (Value::WideInteger(octets), 0)
-            }
-        }
-        other => (other, 0),
+        _ => show_leaf(alloc, types, node, value, out),
     }
 }
 
-fn cut(octets: Vec<u8>) -> (Vec<u8>, usize) {
-    let mut octets = octets;
+// The value with so many octets as are shown, and how many it has behind them; None where it is shown whole. The octets
+// of a number are shown as such.
+fn shortened(alloc: Global, value: &Value) -> Result<Option<(Value, usize)>, NoMemory> {
+    let octets = match value {
+        Value::Octets(octets) | Value::Text(octets) | Value::WideInteger(octets) => octets,
+        _ => return Ok(None),
+    };
     let omitted = octets.len().saturating_sub(MOST_SHOWN);
-    octets.truncate(MOST_SHOWN);
-    (octets, omitted)
+    if omitted == 0 {
+        return Ok(None);
+    }
+    let shown = Vec::from_slice(alloc, octets.get(..MOST_SHOWN).unwrap_or(&[]))?;
+    Ok(Some(match value {
+        Value::Text(_) => (Value::Text(shown), omitted),
+        _ => (Value::Octets(shown), omitted),
+    }))
 }

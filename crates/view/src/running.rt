@@ -1,5 +1,8 @@
 //! The program once its words are judged.
 
+ghost use Rattle.view.specs.Status.{IsStatus};
+
+use crate::columns::Columns;
 use crate::cut_files::cut;
 use crate::module_runs::{show_faults, show_types};
 use crate::module_type::{print_no_type, type_of};
@@ -8,6 +11,7 @@ use crate::showing_files::Showing;
 use crate::{FileSystem, Form, Line, Reading, Task};
 use std::alloc::Global;
 use std::io::{BufWriter, Write};
+use walking::LeafTypes;
 
 /// Does what a command line asks, and returns the exit status. Results go to `out`, one line for each fault to `err`.
 pub fn run<D: FileSystem, W: Write + Drop, E: Write>(
@@ -16,7 +20,9 @@ pub fn run<D: FileSystem, W: Write + Drop, E: Write>(
     file_system: &D,
     out: W,
     err: &mut E,
-) -> u8 {
+) -> u8
+    ensures { IsStatus result }
+{
     let Ok(mut out) = BufWriter::new(alloc, out) else {
         return 4;
     };
@@ -32,7 +38,9 @@ fn perform<D: FileSystem, W: Write, E: Write>(
     file_system: &D,
     out: &mut W,
     err: &mut E,
-) -> u8 {
+) -> u8
+    ensures { IsStatus result }
+{
     match &line.task {
         Task::Show(reading, form) => show(alloc, file_system, reading, *form, out, err),
         Task::Types { module, name } => {
@@ -64,8 +72,13 @@ fn show<D: FileSystem, W: Write, E: Write>(
     form: Form,
     out: &mut W,
     err: &mut E,
-) -> u8 {
+) -> u8
+    ensures { IsStatus result }
+{
     let (module, name) = (reading.module.as_str(), reading.name.as_str());
+    let Ok(columns) = Columns::new(alloc) else {
+        return 4;
+    };
     match type_of(alloc, file_system, module, name) {
         Ok(ty) => Showing {
             alloc,
@@ -73,6 +86,8 @@ fn show<D: FileSystem, W: Write, E: Write>(
             ty: &ty,
             reading,
             form,
+            columns,
+            leaf_types: LeafTypes::new(),
         }
         .show_all(out, err),
         Err(fault) => print_no_type(module, name, &fault, err),

@@ -1,5 +1,8 @@
 //! The values of files, one file after another.
 
+ghost use Rattle.view.specs.Status.{IsEnd};
+
+use crate::columns::Columns;
 use crate::fault::Fault;
 use crate::files::read_values;
 use crate::found::find;
@@ -13,6 +16,7 @@ use std::alloc::Global;
 use std::io::Write;
 use std::string::String;
 use types::{Refusal, WellTyped};
+use walking::LeafTypes;
 
 /// What the values of all files are printed by.
 #[derive(Drop)]
@@ -22,23 +26,30 @@ pub struct Showing<'a, D> {
     pub ty: &'a WellTyped,
     pub reading: &'a Reading,
     pub form: Form,
+    pub columns: Columns,
+    pub leaf_types: LeafTypes,
 }
 
 impl<D: FileSystem> Showing<'_, D> {
     /// Prints the values of each file, and why one is refused. Returns the worst exit status.
-    pub fn show_all<W: Write, E: Write>(&self, out: &mut W, err: &mut E) -> u8 {
-        let mut status = 0u8;
+    pub fn show_all<W: Write, E: Write>(&self, out: &mut W, err: &mut E) -> u8
+        ensures { IsEnd result }
+    {
+        let mut worst = None;
         for path in &self.reading.inputs {
             match self.show_file(path.as_str(), out, err) {
                 Ok(()) => {}
-                Err(Fault::Output) => return status,
+                Err(Fault::Output) => break,
                 Err(fault) => {
                     fault.print(path.as_str(), err);
-                    status = status.max(fault.status());
+                    worst = Some(worse_of(worst, fault));
                 }
             }
         }
-        status
+        match worst {
+            Some(fault) => fault.status(),
+            None => 0,
+        }
     }
 
     // Prints the values of one file.
@@ -51,6 +62,7 @@ impl<D: FileSystem> Showing<'_, D> {
         let Ok(mut input) = self.file_system.open(path) else {
             return Err(Fault::CannotRead);
         };
+        self.print_name(path, out)?;
         let mut values = Values::new(self.alloc, self.reading.from, self.ty);
         let mut lines = self.lines(out);
         let hex = self.reading.hex;
@@ -68,8 +80,30 @@ impl<D: FileSystem> Showing<'_, D> {
                 self.print_refused(path, &values, refusal, err)?;
                 Err(Fault::Refused(refusal))
             }
+            Ok(()) if self.lacks_value(values.done()) => Err(Fault::NoValue),
             other => other,
         }
+    }
+
+    // Whether a value is asked for behind the last of so many.
+    fn lacks_value(&self, done: u64) -> bool {
+        match self.form {
+            Form::Octets(wanted) => wanted.value.is_some_and(|value| value > done),
+            Form::Json { .. } => false,
+        }
+    }
+
+    // Prints the name of a file above its lines, where there are several files.
+    fn print_name<W: Write>(&self, path: &str, out: &mut W) -> Result<(), Fault> {
+        let is_named = match self.form {
+            Form::Octets(wanted) => !wanted.only_refused && self.reading.inputs.len() > 1,
+            Form::Json { .. } => false,
+        };
+        let path = PrintedPath(path);
+        if is_named && writeln!(out, "{path}:").is_err() {
+            return Err(Fault::Output);
+        }
+        Ok(())
     }
 
     fn lines<'b, W>(&'b self, out: &'b mut W) -> ValueLines<'b, W> {
@@ -92,6 +126,8 @@ impl<D: FileSystem> Showing<'_, D> {
         Style {
             name: self.reading.name.as_str(),
             rule: canonical_of(self.reading.from),
+            columns: &self.columns,
+            leaf_types: &self.leaf_types,
             wide,
         }
     }
@@ -124,6 +160,14 @@ impl<D: FileSystem> Showing<'_, D> {
             }
         }
         Ok(())
+    }
+}
+
+// The fault with the worse status.
+fn worse_of(before: Option<Fault>, fault: Fault) -> Fault {
+    match before {
+        Some(before) if before.status() >= fault.status() => before,
+        _ => fault,
     }
 }
 

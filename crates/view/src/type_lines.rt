@@ -1,11 +1,10 @@
 //! A type with all tags resolved, a line for each part.
 
 use octets::NoMemory;
-use primitives::Bits;
 use std::alloc::Global;
 use std::string::String;
-use types::{Field, Item, NamedBit, Presence, Ty, Value};
-use walking::{PrintedTag, name_of, show_leaf};
+use types::{Field, Item, NamedBit, Presence, Ty};
+use walking::{LeafTypes, PrintedTag, name_of, show_leaf};
 
 /// How many levels and nodes a type has.
 #[derive(Clone, Copy, Debug, PartialEq, Eq)]
@@ -127,10 +126,13 @@ fn presence_text(alloc: Global, field: &Field) -> Result<String, NoMemory> {
         Presence::Optional => Ok(String::from_str(alloc, " OPTIONAL")?),
         Presence::Default(value) => {
             let before = String::from_str(alloc, " DEFAULT ")?;
-            match copy_of(alloc, value)? {
-                Some(value) => show_leaf(alloc, innermost(&field.ty), value, before),
-                None => Ok(before),
-            }
+            show_leaf(
+                alloc,
+                &LeafTypes::new(),
+                innermost(&field.ty),
+                value,
+                before,
+            )
         }
     }
 }
@@ -141,22 +143,6 @@ fn innermost(ty: &Ty) -> &Ty {
         Ty::Explicit(_, inner) => innermost(inner),
         other => other,
     }
-}
-
-// A copy of a value without parts, as defaults are.
-fn copy_of(alloc: Global, value: &Value) -> Result<Option<Value>, NoMemory> {
-    Ok(match value {
-        Value::Boolean(truth) => Some(Value::Boolean(*truth)),
-        Value::Integer(number) => Some(Value::Integer(*number)),
-        Value::Enumerated(number) => Some(Value::Enumerated(*number)),
-        Value::Octets(octets) => Some(Value::Octets(Vec::from_slice(alloc, octets)?)),
-        Value::Text(octets) => Some(Value::Text(Vec::from_slice(alloc, octets)?)),
-        Value::Bits(bits) => {
-            let octets = Vec::from_slice(alloc, bits.octets())?;
-            Bits::new(octets, bits.unused()).map(Value::Bits)
-        }
-        _ => None,
-    })
 }
 
 // Appends the line of one type: its name, its tag and the words that name it.

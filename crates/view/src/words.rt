@@ -1,12 +1,16 @@
 //! Judges the program's words.
 
+ghost use Rattle.std.specs.Prelude.{◌≡◌};
+ghost use Rattle.std.specs.IoError.{error_kind};
+
 use crate::commands::program;
 use crate::{Form, Line, LineFault, Reading, Task, Wanted};
 use clap::ArgMatches;
-use clap::error::ErrorKind;
+use clap::error::ErrorKind as WordsFault;
 use engine::Rule;
 use std::alloc::{AllocError, Global};
 use std::io;
+use std::io::ErrorKind;
 
 /// The command line that the program's words are, its own name first. `clap` judges them: `--help` and
 /// `--version` are its faults too.
@@ -45,16 +49,18 @@ fn task_of(alloc: Global, name: &str, matches: &ArgMatches<'_>) -> Result<Task, 
 }
 
 /// Why the system gives the program no words: out of memory, or one of them is not UTF-8.
-pub fn no_words(alloc: Global, error: &io::Error) -> LineFault {
+pub fn no_words(alloc: Global, error: &io::Error) -> LineFault
+    ensures { error_kind error.now ≡ ErrorKind.OutOfMemory → result ≡ LineFault.NoMemory }
+{
     match error.kind() {
-        io::ErrorKind::OutOfMemory => LineFault::NoMemory,
+        ErrorKind::OutOfMemory => LineFault::NoMemory,
         _ => not_a_line(alloc, "a word is not UTF-8"),
     }
 }
 
 fn not_a_line(alloc: Global, message: &'static str) -> LineFault {
     match program(alloc) {
-        Ok(mut program) => match program.error(ErrorKind::Io, message) {
+        Ok(mut program) => match program.error(WordsFault::Io, message) {
             Ok(error) => LineFault::from(error),
             Err(_) => LineFault::NoMemory,
         },

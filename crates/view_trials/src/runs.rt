@@ -6,6 +6,7 @@
 
 use crate::fake::Fake;
 use convert::unhex;
+use serde_json::Value;
 use std::alloc::Global;
 use std::test::Fail;
 use view::{line, run};
@@ -18,6 +19,8 @@ octets,m,T,in | 300c 020180 8001ff 620405000500 | 0000: 0 2+12 [UNIVERSAL 16] T 
 octets,m,T,in | 300d 020107 8103 4a6f6e a303 0a0101 | 0000: 0 2+13 [UNIVERSAL 16] T ::= SEQUENCE;0002: 1 2+1 [UNIVERSAL 2] .a INTEGER 7;0005: 1 2+3 [1] .c.x UTF8String \"Jon\";0010: 1 2+3 [3] .d ENUMERATED;0012: 2 2+1 [UNIVERSAL 10] .d ENUMERATED q; || 0
 octets,m,T,in | 3003 020107 3003 020108 | 0000: 0 2+3 [UNIVERSAL 16] T ::= SEQUENCE;0002: 1 2+1 [UNIVERSAL 2] .a INTEGER 7;0005: 0 2+3 [UNIVERSAL 16] T ::= SEQUENCE;0007: 1 2+1 [UNIVERSAL 2] .a INTEGER 8; || 0
 octets,m,T,in,--value,2 | 3003 020107 3003 020108 | 0005: 0 2+3 [UNIVERSAL 16] T ::= SEQUENCE;0007: 1 2+1 [UNIVERSAL 2] .a INTEGER 8; || 0
+octets,m,T,in,--value,3 | 3003 020107 3003 020108 | | in: has fewer values; | 1
+octets,m,N,in,none,other | 030206c0 | in:;0000: 0 2+2 [UNIVERSAL 3] N ::= BIT STRING '11'B;other:;0000: 0 2+2 [UNIVERSAL 3] N ::= BIT STRING '11'B; | none: cannot be read; | 3
 octets,m,S,in | 3107 020107 c0022a03 | 0000: 0 2+7 [UNIVERSAL 17] S ::= SET;0002: 1 2+1 [UNIVERSAL 2] .a INTEGER 7;0005: 1 2+2 [PRIVATE 0] .b OBJECT IDENTIFIER 1.2.3; || 0
 octets,m,N,in | 030206c0 | 0000: 0 2+2 [UNIVERSAL 3] N ::= BIT STRING '11'B; || 0
 octets,@builtin,OCTET STRING,in | 0421 000102030405060708090a0b0c0d0e0f101112131415161718191a1b1c1d1e1f20 | 0000: 0 2+33 [UNIVERSAL 4] OCTET STRING ::= OCTET STRING '000102030405060708090A0B0C0D0E0F101112131415161718191A1B1C1D1E1F'H and 1 octets more; || 0
@@ -97,8 +100,21 @@ module,m | | m:1:39: refused 32 NotInProfile: (: OPTIONAL, DEFAULT, a comma or }
 M DEFINITIONS ::= BEGIN A ::= NULL A ::= SET OF A BB ::= SET OF BB END:
 module,m | | m:1:36: refused 26 RepeatedName: A: the name is assigned already; || 2
 M DEFINITIONS ::= BEGIN Aab ::= NULL BBBB ::= SET OF BBBB END:
-module,m | | m:1:38: refused 25 Cycle: BBBB: the type reaches itself; || 2
+module,m | | m:1:54: refused 25 Cycle: BBBB: in BBBB: the type reaches itself; || 2
 types,m,Aaa | || m:1:1: Aaa: refused 24 UnknownType: the name, or one that it reaches, is not assigned;Aaa is near Aab; | 2
+octets,m,Aaa,in | 0500 || m:1:1: Aaa: refused 24 UnknownType: the name, or one that it reaches, is not assigned;Aaa is near Aab; | 2
+M DEFINITIONS ::= BEGIN T ::= CHOICE { a NULL, b NULL, a BOOLEAN } U ::= SEQUENCE { t T } END:
+module,m | | m:1:56: refused 26 RepeatedName: a: in T: two names are equal; || 2
+M DEFINITIONS ::= BEGIN T ::= SEQUENCE { e ENUMERATED { p(1), q(1) }, f BIT STRING { u(3), v(4), w(3) } } END:
+module,m | | m:1:65: refused 27 RepeatedNumber: 1: in T: two items or two named bits have one number; || 2
+M DEFINITIONS ::= BEGIN T ::= SET { a [1] NULL, b SEQUENCE OF SET { c [APPLICATION 2] NULL, d [APPLICATION 2] BOOLEAN } } U ::= CHOICE { a NULL, b NULL } END:
+module,m | | m:1:95: refused 28 TagsNotDistinct: [APPLICATION 2]: in T: tags that must differ are equal;m:1:146: refused 28 TagsNotDistinct: b: in U: tags that must differ are equal; || 2
+M DEFINITIONS ::= BEGIN C ::= CHOICE { a NULL } T ::= SEQUENCE { x BOOLEAN, y [0] IMPLICIT C OPTIONAL } END:
+module,m | | m:1:79: refused 29 ImplicitChoice: [0]: in T: IMPLICIT is written around an untagged CHOICE; || 2
+M DEFINITIONS ::= BEGIN T ::= SEQUENCE { a NULL, b SEQUENCE { c BOOLEAN OPTIONAL, d INTEGER DEFAULT TRUE } } END:
+module,m | | m:1:101: refused 30 BadDefault: TRUE: in T: the type does not take this DEFAULT; || 2
+M DEFINITIONS ::= BEGIN A ::= SEQUENCE { b B OPTIONAL } B ::= SET OF A C ::= SEQUENCE OF B END:
+module,m | | m:1:44: refused 25 Cycle: B: in A: the type reaches itself;m:1:70: refused 25 Cycle: A: in B: the type reaches itself; || 2
 M DEFINITIONS ::= BEGIN A ::= # END:
 module,m | | m:1:31: refused 21 Token: what stands here is no token, or a comment is not closed, and what stands behind it is not looked at; || 2
 M DEFINITIONS BEGIN END:
@@ -142,6 +158,9 @@ fn check_run(alloc: Global, module: &str, row: &str) -> Result<(), Fail> {
     let mut out = Vec::new(alloc);
     let mut err = Vec::new(alloc);
     let status = run(alloc, &line, &file_system, &mut out, &mut err);
+    if words.get(1) == Some(&"json") && !row.contains("--indent") {
+        check_json(alloc, row, out.as_slice())?;
+    }
     let out = spaced(alloc, out.as_slice())?;
     let err = spaced(alloc, err.as_slice())?;
     let found = format!(in alloc; "{} | {} | {status}", out.as_str(), err.as_str())?;
@@ -152,6 +171,21 @@ fn check_run(alloc: Global, module: &str, row: &str) -> Result<(), Fail> {
     }
     let found = found.as_str();
     Err(Fail::new(format_args!("{row} printed {found}")))
+}
+
+// Fails where `serde_json` does not read a line of JSON, or prints it in another way.
+fn check_json(alloc: Global, row: &str, octets: &[u8]) -> Result<(), Fail> {
+    let text = std::str::from_utf8(octets).unwrap_or("?");
+    for line in text.lines() {
+        let read = Value::from_str(alloc, line).and_then(|value| Ok(value.to_string(alloc)?));
+        match read {
+            Ok(again) if again.as_str() == line => {}
+            _ => return Err(Fail::new(format_args!(
+                "{row} printed {line}, which serde_json reads otherwise"
+            ))),
+        }
+    }
+    Ok(())
 }
 
 // The text with one space for each run of them and around bars, and a semicolon for each line feed.

@@ -9,11 +9,10 @@ ghost use Rattle.strings.specs.declared.time.TimeKind.{TimeKind};
 ghost use Rattle.types.specs.Conforms.{Conforms};
 ghost use Rattle.types.specs.View.{ty_view, value_view};
 
+use crate::Reason;
 use crate::times::why_no_time;
-use crate::{Note, Reason};
 use contents::read_contents;
-use octets::NoMemory;
-use primitives::{put_bits, read_integer};
+use primitives::read_integer;
 use std::alloc::Global;
 use strings::{TextKind, TimeKind, allowed, is_time};
 use types::{Refusal, Ty, Value, are_equal};
@@ -104,34 +103,6 @@ pub fn is_string(node: &Ty, octets: &[u8]) -> bool
         Ty::Text(_, kind) => allowed(*kind, octets),
         Ty::Time(_, kind) => is_time(*kind, octets),
         _ => true,
-    }
-}
-
-/// What is not canonical in the contents octets of a value.
-pub fn note_of(
-    alloc: Global,
-    value: &Value,
-    node: &Ty,
-    octets: &[u8],
-) -> Result<Option<Note>, NoMemory> {
-    match value {
-        Value::Boolean(true) if octets != [0xFF].as_slice() => Ok(Some(Note::True)),
-        Value::Bits(bits) => {
-            let mut canonical = Vec::new(alloc);
-            put_bits(&mut canonical, bits)?;
-            Ok(note_of_bits(node, canonical.as_slice(), octets))
-        }
-        _ => Ok(None),
-    }
-}
-
-fn note_of_bits(node: &Ty, canonical: &[u8], octets: &[u8]) -> Option<Note> {
-    if canonical == octets {
-        return None;
-    }
-    match node {
-        Ty::NamedBits(_, _) => Some(Note::TrailingZeros),
-        _ => Some(Note::UnusedBits),
     }
 }
 

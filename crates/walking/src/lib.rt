@@ -23,10 +23,10 @@ mod type_names;
 mod walk;
 
 pub use line::{Line, What};
-pub use note::Note;
+pub use note::{NOTES, Note, Notes};
 pub use part::{Part, Step};
 pub use reason::Reason;
-pub use showing::show_leaf;
+pub use showing::{LeafTypes, show_leaf};
 pub use stop::Stop;
 pub use type_names::{PrintedTag, name_of};
 pub use walk::Walk;

@@ -1,6 +1,6 @@
 //! What an identifier begins.
 
-use crate::{Note, Part};
+use crate::{Notes, Part};
 use types::Value;
 
 /// What is told of an encoding at its identifier.
@@ -19,7 +19,7 @@ pub struct Line<'a> {
     /// What the contents octets are.
     pub what: What,
     /// What is not canonical there.
-    pub notes: Vec<Note>,
+    pub notes: Notes,
 }
 
 /// What contents octets are.

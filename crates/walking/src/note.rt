@@ -29,7 +29,75 @@ pub enum Note {
     ItemOrder,
 }
 
+/// All notes, in the order in which they are told.
+pub const NOTES: [Note; 12] = [
+    Note::LongLength,
+    Note::Indefinite,
+    Note::Definite,
+    Note::Segments,
+    Note::OnePiece,
+    Note::SegmentSize,
+    Note::True,
+    Note::UnusedBits,
+    Note::TrailingZeros,
+    Note::Default,
+    Note::SetOrder,
+    Note::ItemOrder,
+];
+
+/// What is not canonical at an identifier: any of the notes.
+#[derive(Clone, Copy, Debug, PartialEq, Eq)]
+pub struct Notes {
+    // a bit for each note
+    bits: u16,
+}
+
+impl Notes {
+    /// No note.
+    pub fn none() -> Notes {
+        Notes { bits: 0 }
+    }
+
+    /// Adds a note.
+    pub fn add(&mut self, note: Note) {
+        self.bits |= note.bit();
+    }
+
+    /// Whether there is no note.
+    pub fn is_empty(self) -> bool {
+        self.bits == 0
+    }
+
+    /// Whether the note is one of these.
+    pub fn has(self, note: Note) -> bool {
+        self.bits & note.bit() != 0
+    }
+
+    /// The first of these.
+    pub fn first(self) -> Option<Note> {
+        NOTES.iter().copied().find(|note| self.has(*note))
+    }
+}
+
 impl Note {
+    // The bit that it is in `Notes`.
+    fn bit(self) -> u16 {
+        match self {
+            Note::LongLength => 1,
+            Note::Indefinite => 2,
+            Note::Definite => 4,
+            Note::Segments => 8,
+            Note::OnePiece => 16,
+            Note::SegmentSize => 32,
+            Note::True => 64,
+            Note::UnusedBits => 128,
+            Note::TrailingZeros => 256,
+            Note::Default => 512,
+            Note::SetOrder => 1_024,
+            Note::ItemOrder => 2_048,
+        }
+    }
+
     /// The note in words.
     pub fn words(self) -> &'static str {
         match self {

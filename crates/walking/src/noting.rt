@@ -1,12 +1,11 @@
 //! What is not canonical at an identifier (X.690 clauses 9 to 11).
 
-use crate::judging::{is_spelt_out, note_of};
+use crate::judging::is_spelt_out;
 use crate::opening::Opening;
 use crate::order::order_tag;
-use crate::{Note, Part, Walk};
+use crate::{Note, Notes, Part, Walk};
 use contents::{Kind, kind_of};
 use cutting::Ends;
-use octets::NoMemory;
 use strict::Canonical;
 use types::{Ty, Value};
 
@@ -52,29 +51,18 @@ impl<'a> Walk<'a> {
     }
 
     // What is not canonical in the head of a constructed encoding.
-    pub(crate) fn form_notes(&self, node: &Ty, opening: Opening) -> Result<Vec<Note>, NoMemory> {
-        let mut notes = self.length_notes(opening)?;
+    pub(crate) fn form_notes(&self, node: &Ty, opening: Opening) -> Notes {
+        let mut notes = length_notes(opening);
         match (self.rule, opening.contents) {
-            (Canonical::Der, None) => notes.push(Note::Indefinite)?,
-            (Canonical::Cer, Some(_)) => notes.push(Note::Definite)?,
+            (Canonical::Der, None) => notes.add(Note::Indefinite),
+            (Canonical::Cer, Some(_)) => notes.add(Note::Definite),
             (Canonical::Der, Some(_)) | (Canonical::Cer, None) => {}
         }
         let is_string = kind_of(node).is_some();
         if is_string && (self.rule == Canonical::Der || self.is_in_string()) {
-            notes.push(Note::Segments)?;
+            notes.add(Note::Segments);
         }
-        Ok(notes)
-    }
-
-    // Whether there are more length octets than needed.
-    pub(crate) fn length_notes(&self, opening: Opening) -> Result<Vec<Note>, NoMemory> {
-        let mut notes = Vec::new(self.alloc);
-        if let Some(size) = opening.contents {
-            if opening.length > fewest_length_octets(size) {
-                notes.push(Note::LongLength)?;
-            }
-        }
-        Ok(notes)
+        notes
     }
 
     // What is not canonical in a primitive encoding.
@@ -85,18 +73,18 @@ impl<'a> Walk<'a> {
         opening: Opening,
         value: &Value,
         contents: &[u8],
-    ) -> Result<Vec<Note>, NoMemory> {
-        let mut notes = self.length_notes(opening)?;
+    ) -> Notes {
+        let mut notes = length_notes(opening);
         if self.rule == Canonical::Cer && contents.len() > FULL_SEGMENT && kind_of(node).is_some() {
-            notes.push(Note::OnePiece)?;
+            notes.add(Note::OnePiece);
         }
-        if let Some(note) = note_of(self.alloc, value, node, contents)? {
-            notes.push(note)?;
+        if let Some(note) = contents_note(node, contents) {
+            notes.add(note);
         }
         if is_spelt_out(default, value) {
-            notes.push(Note::Default)?;
+            notes.add(Note::Default);
         }
-        Ok(notes)
+        notes
     }
 
     // What is not canonical in a segment, behind which these octets stand.
@@ -106,22 +94,33 @@ impl<'a> Walk<'a> {
         opening: Opening,
         contents: &[u8],
         later: &[u8],
-    ) -> Result<Vec<Note>, NoMemory> {
-        let mut notes = self.length_notes(opening)?;
+    ) -> Notes {
+        let mut notes = length_notes(opening);
         let Some(top) = self.open.last() else {
-            return Ok(notes);
+            return notes;
         };
         let is_last = later.starts_with(&[0, 0]);
         if self.rule == Canonical::Cer {
             if let Some(note) = cer_size_note(node, top.count == 0, is_last, contents.len()) {
-                notes.push(note)?;
+                notes.add(note);
             }
         }
         if let Some(note) = last_bits_note(node, is_last, contents) {
-            notes.push(note)?;
+            notes.add(note);
         }
-        Ok(notes)
+        notes
     }
+}
+
+// Whether there are more length octets than needed.
+fn length_notes(opening: Opening) -> Notes {
+    let mut notes = Notes::none();
+    if let Some(size) = opening.contents {
+        if opening.length > fewest_length_octets(size) {
+            notes.add(Note::LongLength);
+        }
+    }
+    notes
 }
 
 // How many octets an encoding has.
@@ -165,7 +164,15 @@ fn cer_size_note(node: &Ty, is_first: bool, is_last: bool, size: usize) -> Optio
     if fits { None } else { Some(Note::SegmentSize) }
 }
 
-// What is not canonical in the bits at the end of a segment.
+// What is not canonical in the contents octets of a primitive encoding.
+fn contents_note(node: &Ty, contents: &[u8]) -> Option<Note> {
+    match (node, contents) {
+        (Ty::Boolean(_), [octet]) if *octet != 0 && *octet != 0xFF => Some(Note::True),
+        (_, _) => last_bits_note(node, true, contents),
+    }
+}
+
+// What is not canonical in the bits at the end of a BIT STRING or of a segment.
 fn last_bits_note(node: &Ty, is_last: bool, contents: &[u8]) -> Option<Note> {
     let (unused, last) = match contents {
         [unused, .., last] => (*unused, *last),

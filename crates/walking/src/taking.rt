@@ -4,7 +4,7 @@ use crate::judging::{value_of, why_no_value};
 use crate::open::{Held, Open};
 use crate::opening::Opening;
 use crate::walk::behind;
-use crate::{Line, Note, Part, Reason, Stop, Walk, What};
+use crate::{Line, Notes, Part, Reason, Stop, Walk, What};
 use contents::{Frame, Kind, holding_of, kind_of};
 use octets::NoMemory;
 use primitives::read_bits;
@@ -20,16 +20,8 @@ impl<'a> Walk<'a> {
         rest: &'a [u8],
     ) -> Result<Line<'a>, Stop<'a>> {
         let at = self.taken;
-        let line = self.line(
-            part,
-            opening,
-            What::Parts,
-            self.form_notes(part.node, opening),
-            rest,
-        );
-        let Ok(line) = line else {
-            return Err(Stop::no_memory(at));
-        };
+        let notes = self.form_notes(part.node, opening);
+        let line = self.line(part, opening, What::Parts, notes, rest);
         let opened = self.opened(part, default, opening);
         let Ok(Some(opened)) = opened else {
             return Err(Stop::no_memory(at));
@@ -103,7 +95,7 @@ impl<'a> Walk<'a> {
         let line = self.line(part, opening, What::Leaf(value), notes, rest);
         self.taken = at.saturating_add(stop);
         self.is_over = self.open.is_empty();
-        line.map_err(|_| Stop::no_memory(at))
+        Ok(line)
     }
 
     // Takes a primitive segment.
@@ -128,7 +120,7 @@ impl<'a> Walk<'a> {
         }
         let line = self.line(part, opening, What::Segment(value), notes, &[]);
         self.taken = at.saturating_add(stop);
-        line.map_err(|_| Stop::no_memory(at))
+        Ok(line)
     }
 
     // Appends a segment to the string, and returns what it has.
@@ -163,15 +155,14 @@ impl<'a> Walk<'a> {
         part: Part<'a>,
         opening: Opening,
         what: What,
-        notes: Result<Vec<Note>, NoMemory>,
+        notes: Notes,
         rest: &'a [u8],
-    ) -> Result<Line<'a>, NoMemory> {
-        let mut notes = notes?;
-        let order = self.order_note(part, opening, rest);
-        if let Some(note) = order {
-            notes.push(note)?;
+    ) -> Line<'a> {
+        let mut notes = notes;
+        if let Some(note) = self.order_note(part, opening, rest) {
+            notes.add(note);
         }
-        Ok(Line {
+        Line {
             at: self.taken,
             depth: self.open.len(),
             head: opening.head(),
@@ -179,6 +170,6 @@ impl<'a> Walk<'a> {
             part,
             what,
             notes,
-        })
+        }
     }
 }

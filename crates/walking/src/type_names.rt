@@ -44,13 +44,13 @@ fn name_of_text(kind: TextKind) -> &'static str {
 pub struct PrintedTag(pub Tag);
 
 impl PrintedTag {
-    /// The class word and the space behind it.
+    /// What stands before the number.
     pub fn word(&self) -> &'static str {
         match self.0.class {
-            Class::Universal => "UNIVERSAL ",
-            Class::Application => "APPLICATION ",
-            Class::Context => "",
-            Class::Private => "PRIVATE ",
+            Class::Universal => "[UNIVERSAL ",
+            Class::Application => "[APPLICATION ",
+            Class::Context => "[",
+            Class::Private => "[PRIVATE ",
         }
     }
 }
@@ -59,6 +59,6 @@ impl fmt::Display for PrintedTag {
     fn fmt<W: fmt::Write>(&self, f: &mut fmt::Formatter<W>) -> fmt::Result {
         let word = self.word();
         let number = self.0.number;
-        write!(f, "[{word}{number}]")
+        write!(f, "{word}{number}]")
     }
 }

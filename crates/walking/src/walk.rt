@@ -4,7 +4,7 @@ ghost use Rattle.std.specs.Prelude.{◌≤◌};
 
 use crate::judging::{is_string, why_no_value};
 use crate::open::{Held, Open};
-use crate::{Line, Part, Reason, Step, Stop, What};
+use crate::{Line, Notes, Part, Reason, Step, Stop, What};
 use contents::{Joined, OUTSIDE, read_end, read_head_tag, unfit};
 use octets::{MAX_ENCODING, NoMemory, Tag};
 use std::alloc::Global;
@@ -137,7 +137,7 @@ impl<'a> Walk<'a> {
                 tag: Tag::universal(0),
             },
             what: What::End,
-            notes: Vec::new(self.alloc),
+            notes: Notes::none(),
         };
         self.close()?;
         self.taken = self.taken.saturating_add(used);
