@@ -5,8 +5,12 @@ Runs from the top. Needs openssl and both built programs: ASN1X and VIEW name th
 taken. The offset, the depth, the head and the contents of each identifier are those of `openssl asn1parse`; the
 lines are those of examples/view/NAME.lines. Then one octet is changed in each of the places that
 examples/view/changed.txt lists: the last line is the one that stands there, and its number the one of `asn1x check`.
-Prints what differs, and ends with 1 where something does.
+The same is compared with `openssl asn1parse` over ten of the certificates that openssl trusts, the first by name of
+which examples/certificates.asn takes all. Last, a stream of the values is cut: what `asn1x convert` writes for each
+part, joined, is what it writes for the stream. Prints what agrees and what differs, and ends with 1 where something
+does.
 """
+import glob
 import os
 import re
 import subprocess
@@ -33,6 +37,9 @@ def main():
             for fault in whole_faults(folder, name, module, ty, octets):
                 faults += 1
                 print(f"{name}: {fault}")
+        for fault in trusted_faults(folder):
+            faults += 1
+            print(fault)
         for row in open("examples/view/changed.txt", encoding="utf-8"):
             if "|" in row and not row.startswith("#"):
                 for fault in changed_faults(folder, row):
@@ -47,6 +54,10 @@ def run(*words):
     return done.returncode, done.stdout.decode(), done.stderr.decode()
 
 
+def converted(module, ty, path):
+    return subprocess.run((ASN1X, "convert", module, ty, path, "--to", "der"), capture_output=True, check=False).stdout
+
+
 def write(folder, name, octets):
     path = f"{folder}/{name}.ber"
     with open(path, "wb") as file:
@@ -59,14 +70,40 @@ def whole_faults(folder, name, module, ty, octets):
     lines = run(VIEW, "octets", module, ty, path)[1]
     if lines != open(f"examples/view/{name}.lines", encoding="utf-8").read():
         yield "the lines are others than in examples/view"
+    yield from place_faults(lines, openssl_places(folder, octets))
+
+
+def place_faults(lines, theirs):
+    """The first place of the lines that is not openssl's."""
     ours = [place_of(line) for line in lines.splitlines()]
-    theirs = openssl_places(folder, octets)
     for our, their in zip(ours, theirs):
         if our != their:
             yield f"{our} and not {their}, as openssl has it"
             return
     if len(ours) != len(theirs):
         yield f"{len(ours)} identifiers, and {len(theirs)} by openssl"
+
+
+def trusted_faults(folder):
+    """What differs over ten certificates that openssl trusts. Prints how many identifiers were compared."""
+    trusted = re.search(r'"(.*)"', run("openssl", "version", "-d")[1]).group(1)
+    compared, identifiers = 0, 0
+    for path in sorted(glob.glob(f"{trusted}/certs/*.pem")):
+        if compared == 10:
+            break
+        if run("openssl", "x509", "-in", path, "-outform", "DER", "-out", f"{folder}/trusted")[0] != 0:
+            continue
+        status, lines, _ = run(VIEW, "octets", *EXAMPLES["certificates"], f"{folder}/trusted", "--from", "der")
+        if status != 0:
+            continue
+        with open(f"{folder}/trusted", "rb") as file:
+            octets = file.read()
+        compared += 1
+        identifiers += len(lines.splitlines())
+        yield from (f"{path}: {fault}" for fault in place_faults(lines, openssl_places(folder, octets)))
+    print(f"{compared} certificates that openssl trusts, {identifiers} identifiers compared")
+    if compared < 10:
+        yield f"{trusted}/certs has fewer than ten certificates that examples/certificates.asn takes"
 
 
 def place_of(line):
@@ -82,6 +119,23 @@ def openssl_places(folder, octets):
         at, depth, head, size = re.match(r" *(\d+):d=(\d+) +hl=(\d+) l= *(\d+|inf)", line).groups()
         places.append((int(at), int(depth), int(head), -1 if size == "inf" else int(size)))
     return places
+
+
+def cut_faults(folder, name, module, ty, octets):
+    """What differs between a stream of the values and its parts."""
+    stream = octets * (20_000 // len(octets) + 1)
+    path = write(folder, "stream", stream)
+    status, _, said = run(VIEW, "cut", path, "--octets", "4096", "--into", f"{folder}/{name}-")
+    parts = sorted(glob.glob(f"{folder}/{name}-[0-9]*"))
+    if status != 0 or len(parts) < 3:
+        yield f"cut into {len(parts)} parts, with status {status}: {said.strip()}"
+    if any(os.path.getsize(part) < 4096 for part in parts[:-1]):
+        yield "a part but the last has fewer than 4,096 octets"
+    if b"".join(open(part, "rb").read() for part in parts) != stream:
+        yield "the parts have other octets than the stream"
+    whole = converted(module, ty, path)
+    if not whole or b"".join(converted(module, ty, part) for part in parts) != whole:
+        yield "the parts become other octets than the stream"
 
 
 def changed_faults(folder, row):

@@ -11,6 +11,10 @@
 #     to der    writes NAME.hex
 #     from der  reads NAME.hex by the strict rule, and writes it again
 #     by cer    writes CER, reads that by the strict rule, and writes NAME.hex
+#     json      asn1x-view prints JSON that jq reads, with the names and the values of NAME.txt (json.jq)
+#
+# VIEW names asn1x-view; where it is not set, the one that is built, or on the path. Where it or jq is missing, a line
+# says so, and json is left out.
 #
 # expected.sh makes those files, by other tools. The status is 1 where anything differs, and 2 where something is
 # missing.
@@ -32,6 +36,18 @@ program=$(realpath "$(command -v "$program")")
 for tool in diff mktemp; do
     command -v "$tool" >/dev/null || { echo "examples: $tool is missing" >&2; exit 2; }
 done
+
+view=${VIEW-}
+for it in "$folder/../crates/asn1x_view/out/asn1x_view" asn1x-view; do
+    [ -n "$view" ] || view=$(command -v "$it") || :
+done
+if ! command -v jq >/dev/null; then
+    echo 'examples: jq is missing, so json is left out'
+    view=
+elif [ -z "$view" ]; then
+    echo 'examples: asn1x-view is not built and not on the path, so json is left out'
+fi
+[ -z "$view" ] || view=$(realpath "$(command -v "$view")")
 
 work=$(mktemp -d)
 trap 'rm -rf "$work"' EXIT
@@ -74,6 +90,11 @@ while read -r name module type file; do
     mv "$work/said" "$work/cer"
     run convert "$module" "$type" "$work/cer" --hex --from cer --to der
     compare 'by cer' "$work/der"
+    if [ -n "$view" ]; then
+        "$view" json "$module" "$type" "$file" --hex >"$work/json" 2>&1 || echo "status $?" >>"$work/json"
+        jq -s -r --rawfile texts "expected/$name.txt" -f json.jq "$work/json" >"$work/said" 2>&1 || :
+        compare json "$work/count"
+    fi
     printf '%-14s %2d of %-16s %s\n' "$name" "$(wc -l <"expected/$name.txt")" "$type" "${passed%,}"
 done <rows
 
