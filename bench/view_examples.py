@@ -34,9 +34,10 @@ def main():
     with tempfile.TemporaryDirectory() as folder:
         for name, (module, ty) in EXAMPLES.items():
             octets = bytes.fromhex(open(f"examples/{name}.hex", encoding="utf-8").read())
-            for fault in whole_faults(folder, name, module, ty, octets):
-                faults += 1
-                print(f"{name}: {fault}")
+            for look in (whole_faults, cut_faults):
+                for fault in look(folder, name, module, ty, octets):
+                    faults += 1
+                    print(f"{name}: {fault}")
         for fault in trusted_faults(folder):
             faults += 1
             print(fault)
