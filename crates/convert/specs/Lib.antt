@@ -5,6 +5,9 @@ pub use Rattle.engine.specs.Rule
 pub use Rattle.engine.specs.Transcoding
 pub use Rattle.engine.specs.Stream
 pub use Rattle.engine.specs.Laws
+pub use Rattle.value_stream.specs.Next
+pub use Rattle.value_stream.specs.Progress
+pub use Rattle.value_stream.specs.Laws as ValuesLaws
 pub use Rattle.devices.specs.Failures
 pub use Rattle.octets.specs.Rule as EncodingRule
 pub use Rattle.octets.specs.Front

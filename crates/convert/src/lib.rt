@@ -2,8 +2,8 @@
 //! octets, whole or in pieces. One `use` reaches all calls, and the types that they take and return.
 //!
 //! `type_from` makes a type of a module's text, and `WellTyped::new` one of a type made in code. `transcode` converts
-//! one encoding; `convert`, `check` and `list` go over a source of any number of them. `read`, `read_cer`, `read_der` and
-//! `Reader` give values, `Cer` and `Der` write them, `show` is their text.
+//! one encoding; `convert`, `check` and `list` go over a source of any number of them, and `Values` gives the values of
+//! one. `read`, `read_cer`, `read_der` and `Reader` give values, `Cer` and `Der` write them, `show` is their text.
 #![tactic(auto)]
 
 mod hex_text;
@@ -29,6 +29,7 @@ pub use types::{
     Alternative, Field, Item, Name, NamedBit, Presence, Refusal, Ty, TypeFault, Value, WellTyped,
     conforms,
 };
+pub use value_stream::{Values, values_returned_are_those_of_the_source};
 
 /// The most octets that a hexadecimal text may have, white space counted.
 pub const MAX_HEX_TEXT: usize = 4_194_304;
