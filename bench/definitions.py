@@ -5,7 +5,7 @@
 
 Of each crate's specs/ three kinds are told apart:
 
-    public   what the clauses of public functions cite, and what these definitions cite
+    public   what the clauses of public functions and of exports cite, and what these definitions cite
     state    what only the definitions of STATE cite, by which a reader says where it stands between two pieces
     private  all others: what private functions cite, and the public functions of the crates of PARTS, which
              other crates of this repository alone call
@@ -111,7 +111,7 @@ def items_of(text):
     """The functions, traits and impls of a source file, each as its lines."""
     item = []
     for line in text.splitlines():
-        if item or re.match(r"(pub )?(fn|trait|impl)\b", line):
+        if item or re.match(r'(pub )?(extern "C" )?(fn|trait|impl)\b', line):
             item.append(line)
         if item and line in ("}", "{}"):
             yield item
@@ -132,6 +132,8 @@ def heads_of(item, indent):
 
 def clauses_of(item, exports):
     """The lines of an item in which its public clauses stand."""
+    if item[0].startswith('pub extern "C" fn'):
+        return list(heads_of(item, ""))
     function = re.match(r"pub fn (\w+)", item[0])
     subject = re.match(r"(?:pub trait|impl(?:<[^>]*>)?) (?:.* for )?(\w+)", item[0])
     if function:

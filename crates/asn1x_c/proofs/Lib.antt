@@ -1,0 +1,2 @@
+pub mod LooseValues
+pub mod KeptValues

@@ -1,0 +1,4 @@
+pub mod Kept
+pub mod Held
+pub mod Numbers
+pub mod Done
