@@ -22,8 +22,8 @@ demo: rt
 	done
 	@echo '(compiled with run-time checks, and not yet proved: "make install" proves it)'
 
-# Runs the built or installed program over the values of examples/, and compares what it prints with what other tools
-# make of them.
+# Runs the built or installed program over the values of examples/, and the built library by C, Rust and Python, and
+# compares what they print with what other tools make of them.
 examples:
 	@examples/run.sh
 
@@ -42,10 +42,14 @@ growths: rt
 	@bench/growths.sh
 
 # Proves the program and each library that it stands on, and puts it on the path, with its manual page and completion.
+# Beside it stands the library for callers of C.
 install: rt
-	@install/proved.sh asn1x
+	@install/proved.sh asn1x asn1x_c
 	@$(call put,crates/asn1x/out/asn1x)
 	@echo 'installed $(program), which is proved, and its manual page (man asn1x)'
+	@install/library.sh crates/asn1x_c/out/library
+	@$(put_library)
+	@echo 'installed $(library)/libasn1x.a and libasn1x.so, which are proved, and asn1x.h (pkg-config asn1x)'
 
 # Proves the programs beside it, asn1x-view and asn1x-trim, and puts them on the path with their manual pages.
 companions: rt
@@ -84,4 +88,15 @@ define put
 install -D -m 755 $(1) "$(program)" && \
 install -D -m 644 docs/asn1x.1 "$(DESTDIR)$(PREFIX)/share/man/man1/asn1x.1" && \
 install -D -m 644 docs/asn1x.bash "$(DESTDIR)$(PREFIX)/share/bash-completion/completions/asn1x"
+endef
+
+# Puts the library for callers of C where it belongs, with its header and what pkg-config reads.
+library = $(DESTDIR)$(PREFIX)/lib
+define put_library
+install -D -m 644 crates/asn1x_c/out/library/libasn1x.a "$(library)/libasn1x.a" && \
+install -D -m 755 crates/asn1x_c/out/library/libasn1x.so "$(library)/libasn1x.so.0" && \
+ln -sf libasn1x.so.0 "$(library)/libasn1x.so" && \
+install -D -m 644 include/asn1x.h "$(DESTDIR)$(PREFIX)/include/asn1x.h" && \
+sed 's|@PREFIX@|$(PREFIX)|' install/asn1x.pc >crates/asn1x_c/out/library/asn1x.pc && \
+install -D -m 644 crates/asn1x_c/out/library/asn1x.pc "$(library)/pkgconfig/asn1x.pc"
 endef

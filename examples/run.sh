@@ -1,10 +1,12 @@
 #!/bin/sh
-# Runs asn1x over the values of this folder, and compares what it prints with what expected/ has.
+# Runs asn1x over the values of this folder, and compares what it prints with what expected/ has; then the same of the
+# programs of c/, rust/ and python/, which call the library.
 #
 #     examples/run.sh [PROGRAM]
 #
-# PROGRAM is crates/asn1x/out/asn1x unless given; where that is not built, the asn1x on the path, or else what `make try`
-# has built. A line is printed for each file of `rows`, which names what is as expected:
+# PROGRAM is crates/asn1x/out/asn1x unless given; where that is not built, the asn1x on the path, or else what
+# `make try` has built. The others are built of crates/asn1x_c/out/libasn1x_c.a by `cc`, `rustc` and `python3`, where
+# these are there. A line is printed for each file of `rows`, which names what is as expected:
 #
 #     check     counts as many values as NAME.txt has lines
 #     show      prints NAME.txt
@@ -16,8 +18,8 @@
 # VIEW names asn1x-view; where it is not set, the one that is built, or on the path. Where it or jq is missing, a line
 # says so, and json is left out.
 #
-# expected.sh makes those files, by other tools. The status is 1 where anything differs, and 2 where something is
-# missing.
+# expected.sh makes those files, by other tools. A program that calls the library is held to asn1x itself too, over a
+# module and values that are refused. The status is 1 where anything differs, and 2 where something is missing.
 set -eu
 
 folder=$(cd "$(dirname "$0")" && pwd)
@@ -52,7 +54,6 @@ fi
 work=$(mktemp -d)
 trap 'rm -rf "$work"' EXIT
 cd "$folder"
-echo "examples: $program"
 status=0
 
 # Compares what the program said with the file $2, and says that $1 is as expected, or how it differs.
@@ -71,32 +72,84 @@ run() {
     "$program" "$@" >"$work/said" 2>&1 || echo "status $?" >>"$work/said"
 }
 
-while read -r name module type file; do
-    for it in "$file" "expected/$name.hex" "expected/$name.txt"; do
-        [ -f "$it" ] || { echo "examples: $it is missing" >&2; exit 2; }
-    done
-    passed=
-    echo "ok $(wc -l <"expected/$name.txt")" >"$work/count"
-    { tr -d '\n' <"expected/$name.hex"; echo; } >"$work/der"
-    run check "$module" "$type" "$file" --hex
-    compare check "$work/count"
-    run show "$module" "$type" "$file" --hex
-    compare show "expected/$name.txt"
-    run convert "$module" "$type" "$file" --hex --to der
-    compare 'to der' "$work/der"
-    run convert "$module" "$type" "$work/der" --hex --from der --to der
-    compare 'from der' "$work/der"
-    run convert "$module" "$type" "$file" --hex --to cer
-    mv "$work/said" "$work/cer"
-    run convert "$module" "$type" "$work/cer" --hex --from cer --to der
-    compare 'by cer' "$work/der"
-    if [ -n "$view" ]; then
-        "$view" json "$module" "$type" "$file" --hex >"$work/json" 2>&1 || echo "status $?" >>"$work/json"
-        jq -s -r --rawfile texts "expected/$name.txt" -f json.jq "$work/json" >"$work/said" 2>&1 || :
-        compare json "$work/count"
+# Goes over the files of `rows`.
+over_rows() {
+    echo "examples: $program"
+    while read -r name module type file; do
+        for it in "$file" "expected/$name.hex" "expected/$name.txt"; do
+            [ -f "$it" ] || { echo "examples: $it is missing" >&2; exit 2; }
+        done
+        passed=
+        echo "ok $(wc -l <"expected/$name.txt")" >"$work/count"
+        { tr -d '\n' <"expected/$name.hex"; echo; } >"$work/der"
+        run check "$module" "$type" "$file" --hex
+        compare check "$work/count"
+        run show "$module" "$type" "$file" --hex
+        compare show "expected/$name.txt"
+        run convert "$module" "$type" "$file" --hex --to der
+        compare 'to der' "$work/der"
+        run convert "$module" "$type" "$work/der" --hex --from der --to der
+        compare 'from der' "$work/der"
+        run convert "$module" "$type" "$file" --hex --to cer
+        mv "$work/said" "$work/cer"
+        run convert "$module" "$type" "$work/cer" --hex --from cer --to der
+        compare 'by cer' "$work/der"
+        if [ -n "$view" ]; then
+            "$view" json "$module" "$type" "$file" --hex >"$work/json" 2>&1 || echo "status $?" >>"$work/json"
+            jq -s -r --rawfile texts "expected/$name.txt" -f json.jq "$work/json" >"$work/said" 2>&1 || :
+            compare json "$work/count"
+        fi
+        printf '%-14s %2d of %-16s %s\n' "$name" "$(wc -l <"expected/$name.txt")" "$type" "${passed%,}"
+    done <rows
+}
+
+# Compares what the program says of what is refused, a line of refused.rows each, with what asn1x says.
+over_refused() {
+    name=refused passed=
+    while read -r what type octets words; do
+        echo "$octets" | tr _ ' ' >"$work/octets"
+        for task in check convert; do
+            [ $task = check ] || words="$words --to der"
+            # shellcheck disable=SC2086
+            "$asn1x" $task refused.asn "$type" "$work/octets" --hex $words >"$work/wanted" 2>&1 ||
+                echo "status $?" >>"$work/wanted"
+            # shellcheck disable=SC2086
+            run $task refused.asn "$type" "$work/octets" --hex $words
+            compare "$what to $task" "$work/wanted"
+        done
+    done <refused.rows
+    printf '%-14s %s\n' "$name" "${passed%,}"
+}
+
+# Says that a tool is there, or that what it builds is left out.
+has() {
+    command -v "$1" >/dev/null || { echo "examples: $2 is left out, since $1 is missing"; return 1; }
+}
+
+over_rows
+asn1x=$program
+view=
+if [ ! -f ../crates/asn1x_c/out/libasn1x_c.a ]; then
+    echo 'examples: the library is left out, since it is not built: "make install" proves and builds it'
+elif has cc 'the library'; then
+    ../install/library.sh "$work"
+    cc -std=c99 -O2 -I ../include -o "$work/values_c" c/values.c "$work/libasn1x.a"
+    program=$work/values_c
+    over_rows
+    over_refused
+    if has rustc rust/; then
+        rustc --edition 2021 -O -L native="$work" -l static=asn1x -o "$work/values_rust" rust/values.rs
+        program=$work/values_rust
+        over_rows
+        over_refused
     fi
-    printf '%-14s %2d of %-16s %s\n' "$name" "$(wc -l <"expected/$name.txt")" "$type" "${passed%,}"
-done <rows
+    if has python3 python/; then
+        export ASN1X_LIBRARY="$work/libasn1x.so" PYTHONDONTWRITEBYTECODE=1
+        program=python/values.py
+        over_rows
+        over_refused
+    fi
+fi
 
 [ $status = 0 ] && echo 'examples: all as expected'
 exit $status

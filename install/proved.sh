@@ -1,5 +1,6 @@
 #!/bin/sh
-# Proves programs and each library that they stand on, the lowest first, and builds them as crates/NAME/out/NAME.
+# Proves programs and each library that they stand on, the lowest first, and builds them as crates/NAME/out/NAME, a
+# static library as crates/NAME/out/libNAME.a.
 #
 #     install/proved.sh NAME..
 #
@@ -25,6 +26,7 @@ minutes_of() {
 # The libraries that the programs stand on, as crates.txt lists them, and the programs, each with its minutes.
 crates() {
     tac crates.txt | awk -F ':' -v programs="$programs" '
+        { sub(" staticlib", "", $1) }
         index(programs, " " $1 " ") || needed[$1] { split($2, names, " "); for (i in names) needed[names[i]] = 1; print $1 }' |
         tac |
         while read -r crate; do
@@ -40,10 +42,7 @@ words() {
 # Proves a crate; a program is built by a run.
 prove() {
     cd "crates/$1"
-    case $programs in
-    *" $1 "*) rt run -- --help >/dev/null ;;
-    *) rt lib >&2 ;;
-    esac
+    if [ -f src/main.rt ]; then rt run -- --help >/dev/null; else rt lib >&2; fi
 }
 
 list=$(crates)

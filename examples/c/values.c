@@ -1,0 +1,195 @@
+/*
+ * Does what asn1x does with the same words, by the library:
+ *
+ *     values check|show|convert MODULE TYPE FILE --hex [--from ber|cer|der] [--to cer|der]
+ *
+ * FILE is hexadecimal text. `show` takes the octets in pieces, and goes from value to value.
+ */
+#include <asn1x.h>
+#include <stdio.h>
+#include <stdlib.h>
+#include <string.h>
+
+static const size_t PIECE = 50;
+
+/* Octets, and how many there are. */
+struct octets {
+    uint8_t *at;
+    size_t length;
+};
+
+static void fail(const char *why, const char *what)
+{
+    fprintf(stderr, "asn1x: %s%s\n", why, what);
+    exit(3);
+}
+
+static uint8_t *room_for(size_t octets)
+{
+    uint8_t *at = (uint8_t *)malloc(octets ? octets : 1);
+    if (!at)
+        fail("out of memory", "");
+    return at;
+}
+
+static struct octets read_file(const char *path)
+{
+    FILE *file = fopen(path, "rb");
+    long length = -1;
+    if (file && fseek(file, 0, SEEK_END) == 0)
+        length = ftell(file);
+    if (length < 0)
+        fail("cannot read ", path);
+    rewind(file);
+    struct octets all = {room_for((size_t)length), (size_t)length};
+    if (fread(all.at, 1, all.length, file) != all.length)
+        fail("cannot read ", path);
+    fclose(file);
+    return all;
+}
+
+static int digit(uint8_t of)
+{
+    static const char digits[] = "0123456789abcdef";
+    const char *found = of ? strchr(digits, of >= 'A' && of <= 'F' ? of + 32 : of) : NULL;
+    return found ? (int)(found - digits) : -1;
+}
+
+/* The octets of a hexadecimal text, in its own memory. */
+static struct octets unhex(struct octets text)
+{
+    size_t digits = 0;
+    for (size_t i = 0; i < text.length; i++) {
+        uint8_t it = text.at[i];
+        if (it == ' ' || it == '\t' || it == '\n' || it == '\r')
+            continue;
+        int value = digit(it);
+        if (value < 0)
+            fail("not hexadecimal", "");
+        uint8_t *to = text.at + digits / 2;
+        *to = (uint8_t)(digits % 2 ? *to * 16 + value : value);
+        digits++;
+    }
+    if (digits % 2)
+        fail("not hexadecimal", "");
+    text.length = digits / 2;
+    return text;
+}
+
+static int rule_of(const char *name)
+{
+    static const char *const names[] = {"ber", "cer", "der"};
+    for (int i = ASN1X_BER; i <= ASN1X_DER; i++)
+        if (strcmp(name, names[i]) == 0)
+            return i;
+    fail("no such rule: ", name);
+    return -1;
+}
+
+/* The name of a refusal or a fault. */
+static const char *name_of(uint32_t number)
+{
+    static char name[17];
+    size_t length = asn1x_name(number, (uint8_t *)name, sizeof name - 1);
+    name[length < sizeof name ? length : 0] = 0;
+    return name;
+}
+
+/* Says why a call stopped, if it did, and returns the status that goes with it. */
+static int status_of(asn1x_done done, uint64_t before)
+{
+    if (done.refusal == ASN1X_OK)
+        return 0;
+    fflush(stdout);
+    fprintf(stderr, "asn1x: refused %u %s after %llu values\n", (unsigned)done.refusal, name_of(done.refusal),
+            (unsigned long long)(before + done.values));
+    return done.refusal == ASN1X_NO_MEMORY ? 4 : done.refusal == ASN1X_SINK_FAULT ? 3 : 1;
+}
+
+static int check(asn1x_type *type, int from, struct octets octets)
+{
+    asn1x_done done = asn1x_check(type, (uint32_t)from, octets.at, octets.length);
+    if (done.refusal == ASN1X_OK)
+        printf("ok %llu\n", (unsigned long long)done.values);
+    return status_of(done, 0);
+}
+
+/* A call that has too little room says how much it takes, and is made again. */
+static int convert(asn1x_type *type, int from, int to, struct octets octets)
+{
+    struct octets out = {room_for(1), 1};
+    asn1x_done done = asn1x_convert(type, (uint32_t)from, (uint32_t)to, octets.at, octets.length, out.at, out.length);
+    if (done.octets > out.length) {
+        free(out.at);
+        out.length = done.octets;
+        out.at = room_for(out.length);
+        done = asn1x_convert(type, (uint32_t)from, (uint32_t)to, octets.at, octets.length, out.at, out.length);
+    }
+    for (size_t i = 0; i < done.octets; i++)
+        printf("%02x", out.at[i]);
+    if (done.octets)
+        putchar('\n');
+    free(out.at);
+    return status_of(done, 0);
+}
+
+/* Writes the text of one value. */
+static asn1x_done show_one(asn1x_type *type, int from, const uint8_t *octets, size_t length)
+{
+    uint8_t none[1];
+    asn1x_done done = asn1x_show(type, (uint32_t)from, octets, length, none, 0);
+    uint8_t *text = room_for(done.octets);
+    done = asn1x_show(type, (uint32_t)from, octets, length, text, done.octets);
+    fwrite(text, 1, done.octets, stdout);
+    free(text);
+    return done;
+}
+
+/* Takes the octets in pieces. What no value has yet stays in front of the next piece. */
+static int show(asn1x_type *type, int from, struct octets octets)
+{
+    uint64_t values = 0;
+    size_t at = 0, end = 0;
+    while (at < octets.length) {
+        if (end < octets.length)
+            end += octets.length - end < PIECE ? octets.length - end : PIECE;
+        asn1x_done done;
+        while (at < end && (done = asn1x_first(type, (uint32_t)from, octets.at + at, end - at)).refusal == ASN1X_OK) {
+            size_t length = done.octets;
+            done = show_one(type, from, octets.at + at, length);
+            if (done.refusal != ASN1X_OK)
+                return status_of(done, values);
+            values += done.values;
+            at += length;
+        }
+        if (at < end && (done.refusal != ASN1X_TRUNCATED || end == octets.length))
+            return status_of(done, values);
+    }
+    return 0;
+}
+
+int main(int count, char **words)
+{
+    int from = ASN1X_BER, to = ASN1X_DER;
+    if (count < 6 || strcmp(words[5], "--hex") != 0)
+        fail("usage: values check|show|convert MODULE TYPE FILE --hex [--from RULE] [--to RULE]", "");
+    for (int i = 6; i + 1 < count; i += 2)
+        *(strcmp(words[i], "--to") == 0 ? &to : &from) = rule_of(words[i + 1]);
+
+    struct octets module = read_file(words[2]);
+    asn1x_type type = {0};
+    asn1x_fault fault = asn1x_type_from(&type, module.at, module.length, (uint8_t *)words[3], strlen(words[3]));
+    free(module.at);
+    if (fault.number != ASN1X_OK) {
+        fprintf(stderr, "asn1x: module refused %u %s at %u:%u\n", (unsigned)fault.number, name_of(fault.number),
+                (unsigned)fault.line, (unsigned)fault.column);
+        return fault.number == ASN1X_MODULE_NO_MEMORY ? 4 : 2;
+    }
+    struct octets octets = unhex(read_file(words[4]));
+    int status = strcmp(words[1], "check") == 0  ? check(&type, from, octets)
+                 : strcmp(words[1], "show") == 0 ? show(&type, from, octets)
+                                                 : convert(&type, from, to, octets);
+    free(octets.at);
+    asn1x_type_free(&type);
+    return status;
+}

@@ -1,0 +1,64 @@
+#!/usr/bin/env python3
+"""Does what asn1x does with the same words, by the library:
+
+    values.py check|show|convert MODULE TYPE FILE --hex [--from ber|cer|der] [--to cer|der]
+
+FILE is hexadecimal text. `show` takes the octets in pieces, and goes from value to value.
+"""
+
+import argparse
+import sys
+
+import asn1x
+
+PIECE = 50
+
+
+def arguments():
+    parser = argparse.ArgumentParser(description=__doc__, formatter_class=argparse.RawDescriptionHelpFormatter)
+    parser.add_argument("task", choices=["check", "show", "convert"])
+    parser.add_argument("module")
+    parser.add_argument("type")
+    parser.add_argument("file")
+    parser.add_argument("--hex", action="store_true", required=True)
+    parser.add_argument("--from", dest="source", choices=["ber", "cer", "der"], default="ber")
+    parser.add_argument("--to", choices=["cer", "der"], default="der")
+    return parser.parse_args()
+
+
+def run(words):
+    rules = {"ber": asn1x.BER, "cer": asn1x.CER, "der": asn1x.DER}
+    source, to = rules[words.source], rules[words.to]
+    with open(words.module, "rb") as module:
+        ty = asn1x.Type(module.read(), words.type)
+    with open(words.file) as text:
+        octets = bytes.fromhex(text.read())
+    if words.task == "check":
+        print(f"ok {ty.check(octets, source)}")
+    elif words.task == "show":
+        for value in ty.values((octets[at : at + PIECE] for at in range(0, len(octets), PIECE)), source):
+            print(ty.show(value, source), end="")
+    else:
+        write_digits(ty.convert(octets, source, to))
+
+
+def write_digits(octets):
+    if octets:
+        print(octets.hex())
+
+
+def main():
+    try:
+        run(arguments())
+    except asn1x.ModuleRefused as fault:
+        print(f"asn1x: {fault}", file=sys.stderr)
+        return 2
+    except asn1x.Refused as refused:
+        write_digits(refused.written)
+        sys.stdout.flush()
+        print(f"asn1x: {refused}", file=sys.stderr)
+        return 1
+    return 0
+
+
+sys.exit(main())
