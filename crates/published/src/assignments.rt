@@ -1,5 +1,6 @@
 //! Assignments (X.680 clause 16, X.681, X.683).
 
+use crate::classes::fields_at;
 use crate::reader::Reader;
 use crate::simple::simple_of;
 use crate::skipping::{skip_brackets, skip_macro, skip_to_assignment, skip_to_word};
@@ -83,15 +84,15 @@ fn type_at(reader: &mut Reader) -> Result<Body, Stop> {
     Ok(Body::LeftOut(LeftOut::Macro))
 }
 
-// Passes a class, whose word stands in front.
+// A class, whose word stands in front. Its syntax is passed.
 fn class_at(reader: &mut Reader) -> Result<Body, Stop> {
     reader.take();
-    skip_brackets(reader, Symbol::OpenBrace)?;
+    let fields = fields_at(reader)?;
     if reader.passes_word(Reserved::With) {
         reader.word(Reserved::Syntax)?;
         skip_brackets(reader, Symbol::OpenBrace)?;
     }
-    Ok(Body::LeftOut(LeftOut::Class))
+    Ok(Body::Class(fields))
 }
 
 // Passes a macro's definition: its body, or the name of another macro.

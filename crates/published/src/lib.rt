@@ -1,13 +1,14 @@
 //! Modules of ASN.1 as they are published, as trees (X.680 to X.683).
 //!
 //! A file is prose with modules in it, as the text of an RFC is, or modules alone. All of X.680 that a type
-//! for BER may be made of is kept in the tree; constraints are passed by their parentheses, and classes, objects,
+//! for BER may be made of is kept in the tree; constraints are passed by their parentheses, and objects,
 //! sets, macros and what has parameters by their brackets, with their names and places kept.
 #![tactic(auto)]
 
 mod assignments;
 mod body;
 mod braces;
+mod classes;
 mod enumerated;
 mod extension;
 mod fault;
@@ -33,9 +34,9 @@ pub use modules::{Published, read};
 pub use published_tokens::{MAX_FILE, Place};
 pub use simple::Simple;
 pub use tree::{
-    Alternative, Alternatives, Assignment, Body, Component, Components, Form, Group, Import, Item,
-    Items, LeftOut, Module, NamedNumber, Presence, Reference, Tag, TagClass, TagMode, Tagging,
-    Type, Word,
+    Alternative, Alternatives, Assignment, Body, Component, Components, Field, Form, Group, Import,
+    Item, Items, LeftOut, Module, NamedNumber, Presence, Reference, Tag, TagClass, TagMode,
+    Tagging, Type, Word,
 };
 pub use value::{Arc, Number, SignedNumber, Value, ValueForm};
 

@@ -124,7 +124,7 @@ impl<'a> Reader<'a> {
         }
     }
 
-    /// A name of this kind, `Kind::Upper` or `Kind::Lower`, which must stand in front.
+    /// A name of this kind, `Kind::Upper`, `Kind::Lower` or `Kind::Field`, which must stand in front.
     pub(crate) fn name(&mut self, kind: Kind) -> Result<Word, Stop> {
         if self.front.kind != kind {
             return Err(self.refuse());

@@ -4,6 +4,7 @@ use crate::reader::Reader;
 use crate::skipping::skip_brackets;
 use crate::stop::Stop;
 use crate::tree::{Form, Reference, Word};
+use names::Name;
 use published_tokens::{Kind, MAX_FILE, Symbol};
 
 /// What a name means that stands alone.
@@ -56,18 +57,35 @@ fn ending_at(reader: &mut Reader, reference: Reference) -> Result<Form, Stop> {
     Ok(Form::Reference(reference))
 }
 
-// The names of fields behind the class and its full stop, which are passed.
+// The names of fields behind the class and its full stop. Of several none is kept.
 fn field_at(reader: &mut Reader, class: Reference) -> Result<Form, Stop> {
+    let field = reader.name(Kind::Field)?;
+    if !reader.passes_symbol(Symbol::FullStop) {
+        return Ok(Form::Field(class, Some(field)));
+    }
     for _turn in 0..=MAX_FILE {
-        if reader.kind() != Kind::Field {
-            return Err(reader.refuse());
-        }
-        reader.take();
+        reader.name(Kind::Field)?;
         if !reader.passes_symbol(Symbol::FullStop) {
             break;
         }
     }
-    Ok(Form::Field(class))
+    Ok(Form::Field(class, None))
+}
+
+/// The name of a component or an alternative, behind so many parts of its list. Where a type stands instead,
+/// as X.208 allows, it gets a name by its place.
+pub(crate) fn part_name_at(reader: &mut Reader, before: u32) -> Result<Word, Stop> {
+    match reader.kind() {
+        Kind::Reserved(_) | Kind::Upper | Kind::Symbol(Symbol::OpenBracket) => {
+            reader.count()?;
+            let number = u64::from(before) + 1;
+            let text = format!(in reader.alloc; "unnamed-{number}")?;
+            let name = Name::new(reader.alloc, text.as_str())?;
+            let place = reader.place();
+            Ok(Word { name, place })
+        }
+        _ => reader.name(Kind::Lower),
+    }
 }
 
 /// The name of a class.

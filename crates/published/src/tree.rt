@@ -65,6 +65,8 @@ pub enum Body {
     Type(Type),
     /// A value, with its type in front.
     Value(Type, Value),
+    /// A class of information objects, with its fields.
+    Class(Vec<Field>),
     /// What is recognised and left out. Its contents were skipped.
     LeftOut(LeftOut),
 }
@@ -72,8 +74,6 @@ pub enum Body {
 /// What is recognised and left out of the tree.
 #[derive(Clone, Copy, Debug, PartialEq, Eq)]
 pub enum LeftOut {
-    /// A class of information objects.
-    Class,
     /// A set of information objects or of values.
     Set,
     /// An assignment with parameters.
@@ -82,6 +82,16 @@ pub enum LeftOut {
     Macro,
     /// An object in the notation of a macro.
     Object,
+}
+
+/// A field of a class.
+#[derive(Debug, Drop)]
+pub struct Field {
+    /// Its name, with `&`.
+    pub name: Word,
+    /// Whether a type that is written by its name is open: the field has a type, or a value whose type another
+    /// field has.
+    pub is_open: bool,
 }
 
 /// A type.
@@ -123,8 +133,9 @@ pub enum Form {
     NamedBits(Vec<NamedNumber>),
     /// The type of an alternative of a CHOICE: `a < T`.
     Selection(Word, Box<Type>),
-    /// A field of a class, as `CLASS.&Type`, with the class's name. What stands behind `&` is not kept.
-    Field(Reference),
+    /// A field of a class, as `CLASS.&Type`: the class's name, and that of the field. None: several fields
+    /// stand there, each of the class that the one before it names.
+    Field(Reference, Option<Word>),
     /// `ANY`, with the component that defines it if there is one.
     Any(Option<Word>),
     /// `INSTANCE OF`, with the class's name.
@@ -204,7 +215,7 @@ pub struct Components {
 #[derive(Debug, Drop)]
 #[cycle(tree)]
 pub struct Component {
-    /// Its name. None: `COMPONENTS OF` stands there.
+    /// Its name, which is `unnamed-` and a number where none is written. None: `COMPONENTS OF` stands there.
     pub name: Option<Word>,
     /// Its type, or that behind `COMPONENTS OF`.
     pub body: Type,
@@ -241,7 +252,7 @@ pub struct Alternatives {
 #[derive(Debug, Drop)]
 #[cycle(tree)]
 pub struct Alternative {
-    /// Its name.
+    /// Its name, which is `unnamed-` and a number where none is written.
     pub name: Word,
     /// Its type.
     pub body: Type,

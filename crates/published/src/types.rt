@@ -4,7 +4,7 @@ use crate::extension::{Extension, Stage};
 use crate::fault::Reason;
 use crate::prefixes::{skip_constraints, skip_size, tag_at};
 use crate::reader::Reader;
-use crate::references::named_type_at;
+use crate::references::{named_type_at, part_name_at};
 use crate::stop::Stop;
 use crate::tree::{Alternative, Alternatives, Component, Components, Form, Group, Presence, Type};
 use crate::values::value_at;
@@ -77,9 +77,9 @@ fn list_at(reader: &mut Reader, levels: u32, group: Group) -> Result<Form, Stop>
     if reader.passes_symbol(Symbol::CloseBrace) {
         return Ok(Form::List(group, found));
     }
-    for _turn in 0..=MAX_PARTS {
+    for turn in 0..=MAX_PARTS {
         if !extension.begin(reader)? {
-            let component = component_at(reader, levels, extension.group)?;
+            let component = component_at(reader, levels, turn, extension.group)?;
             found.put(extension.stage(), component)?;
         }
         if extension.end(reader)? {
@@ -90,14 +90,19 @@ fn list_at(reader: &mut Reader, levels: u32, group: Group) -> Result<Form, Stop>
     Err(reader.stop(Reason::TooManyParts))
 }
 
-// A component, or COMPONENTS OF.
+// A component, or COMPONENTS OF, behind so many parts of its list.
 #[cycle(types)]
-fn component_at(reader: &mut Reader, levels: u32, group: Option<Place>) -> Result<Component, Stop> {
+fn component_at(
+    reader: &mut Reader,
+    levels: u32,
+    before: u32,
+    group: Option<Place>,
+) -> Result<Component, Stop> {
     let name = if reader.passes_word(Reserved::Components) {
         reader.word(Reserved::Of)?;
         None
     } else {
-        Some(reader.name(Kind::Lower)?)
+        Some(part_name_at(reader, before)?)
     };
     let body = type_at(reader, levels)?;
     let presence = presence_at(reader)?;
@@ -127,9 +132,9 @@ fn choice_at(reader: &mut Reader, levels: u32) -> Result<Form, Stop> {
     let mut extension = Extension::new();
     reader.take();
     reader.symbol(Symbol::OpenBrace)?;
-    for _turn in 0..=MAX_PARTS {
+    for turn in 0..=MAX_PARTS {
         if !extension.begin(reader)? {
-            let alternative = alternative_at(reader, levels)?;
+            let alternative = alternative_at(reader, levels, turn)?;
             match extension.stage() {
                 Stage::Root => found.root.push(alternative)?,
                 Stage::Additions => found.additions.push(alternative)?,
@@ -144,10 +149,10 @@ fn choice_at(reader: &mut Reader, levels: u32) -> Result<Form, Stop> {
     Err(reader.stop(Reason::TooManyParts))
 }
 
-// An alternative.
+// An alternative, behind so many parts of its list.
 #[cycle(types)]
-fn alternative_at(reader: &mut Reader, levels: u32) -> Result<Alternative, Stop> {
-    let name = reader.name(Kind::Lower)?;
+fn alternative_at(reader: &mut Reader, levels: u32, before: u32) -> Result<Alternative, Stop> {
+    let name = part_name_at(reader, before)?;
     let body = type_at(reader, levels)?;
     Ok(Alternative { name, body })
 }

@@ -1,9 +1,9 @@
 //! Trees as short texts.
 
 use published::{
-    Alternative, Alternatives, Arc, Assignment, Body, Component, Components, Form, Group, Item,
-    Items, LeftOut, NamedNumber, Number, Presence, Reference, SignedNumber, TagClass, TagMode,
-    Type, Value, ValueForm, Word,
+    Alternative, Alternatives, Arc, Assignment, Body, Component, Components, Field, Form, Group,
+    Item, Items, LeftOut, NamedNumber, Number, Presence, Reference, SignedNumber, TagClass,
+    TagMode, Type, Value, ValueForm, Word,
 };
 use std::alloc::{AllocError, Global};
 
@@ -24,6 +24,7 @@ pub fn outline(alloc: Global, assignment: &Assignment) -> Result<String, AllocEr
             out.push_str(" = ")?;
             put_value(&mut out, value)?;
         }
+        Body::Class(fields) => put_fields(&mut out, fields)?,
         Body::LeftOut(left) => {
             out.push_str(" left out: ")?;
             out.push_str(name_of(*left))?;
@@ -32,9 +33,21 @@ pub fn outline(alloc: Global, assignment: &Assignment) -> Result<String, AllocEr
     Ok(out)
 }
 
+// The fields of a class, with `=` behind one whose type is not open.
+fn put_fields(out: &mut String, fields: &[Field]) -> Outcome {
+    out.push_str(" class")?;
+    for field in fields {
+        out.push(' ')?;
+        put_word(out, &field.name)?;
+        if !field.is_open {
+            out.push('=')?;
+        }
+    }
+    Ok(())
+}
+
 fn name_of(left: LeftOut) -> &'static str {
     match left {
-        LeftOut::Class => "class",
         LeftOut::Set => "set",
         LeftOut::Parameterised => "parameterised",
         LeftOut::Macro => "macro",
@@ -62,7 +75,11 @@ fn put_form(out: &mut String, form: &Form) -> Outcome {
         Form::Simple(simple) => write!(out, "{simple:?}"),
         Form::Reference(name) => put_reference(out, name),
         Form::Parameterised(name) => put_behind(out, name, "{}"),
-        Form::Field(class) => put_behind(out, class, ".&"),
+        Form::Field(class, Some(field)) => {
+            put_behind(out, class, ".")?;
+            put_word(out, field)
+        }
+        Form::Field(class, None) => put_behind(out, class, ".&.&"),
         Form::InstanceOf(class) => put_behind(out, class, " instance"),
         Form::Any(None) => out.push_str("any"),
         Form::Any(Some(word)) => {

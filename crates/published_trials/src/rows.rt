@@ -125,6 +125,8 @@ T ::= SET (SIZE (0..n)) OF item Other.Item
 = T = set of item Other.Item*
 T ::= CHOICE { a INTEGER, b [1] SEQUENCE { c BOOLEAN } , ..., d NULL, ... }
 = T = choice { a Integer b C1 seq { c Boolean } ... d Null }
+T ::= SEQUENCE { a NULL, CHOICE { [0] NULL, b Other }, ..., Other OPTIONAL }
+= T = seq { a Null unnamed-2 choice { unnamed-1 C0 Null b Other } ... unnamed-4 Other? }
 T ::= CHOICE { a NULL, ..., [[ b NULL, c NULL ]] }
 = T = choice { a Null ... b Null c Null }
 T ::= ENUMERATED { red, green(5), blue(-1), ..., black(seven), white }
@@ -136,9 +138,9 @@ T ::= a < Other.Choice
 T ::= Other { INTEGER, {Set} }
 = T = Other{}
 T ::= SOME-CLASS.&Type ({Set}{@kind})
-= T = SOME-CLASS.&*
+= T = SOME-CLASS.&Type*
 T ::= Other.SOME-CLASS.&reference.&Type
-= T = Other.SOME-CLASS.&
+= T = Other.SOME-CLASS.&.&
 T ::= Vendor_Type (WITH COMPONENTS { ..., a (WITH COMPONENTS {b PRESENT}) })
 = T = Vendor_Type*
 ";
@@ -176,7 +178,9 @@ sysName OBJECT-TYPE SYNTAX INTEGER {a(1)} DESCRIPTION \"text -- with hyphens\" :
 // What is left out, and what is refused.
 const REST: &str = "\
 SOME-CLASS ::= CLASS { &id OBJECT IDENTIFIER UNIQUE, &Type OPTIONAL } WITH SYNTAX {[[TYPE &Type]] ID &id}
-= SOME-CLASS left out: class
+= SOME-CLASS class &id= &Type
+C ::= CLASS { &a INTEGER DEFAULT 5, &b &T, &T DEFAULT NULL, &Set INTEGER, &Sets &T OPTIONAL, &o OTHER, &Os OTHER }
+= C class &a= &b &T &Set= &Sets &o= &Os=
 Set SOME-CLASS ::= { {Type ID 1} | Other, ... }
 = Set left out: set
 T {INTEGER : n, Type} ::= SEQUENCE { a INTEGER (0..n), b Type }

@@ -31,9 +31,9 @@ pub enum Cause<'a> {
     /// `INSTANCE OF`.
     #[error("INSTANCE OF")]
     InstanceOf,
-    /// `COMPONENTS OF`.
-    #[error("COMPONENTS OF")]
-    ComponentsOf,
+    /// `COMPONENTS OF` what it is not taken of, or where it is not.
+    #[error("COMPONENTS OF {0}")]
+    ComponentsOf(&'static str),
     /// A DEFAULT that the profile does not have.
     #[error("a DEFAULT of a kind that asn1x does not take")]
     Default,
@@ -43,6 +43,9 @@ pub enum Cause<'a> {
     /// A name that is imported from a module that is in none of the files.
     #[error("{0} is of the module {1}, which is in none of the files")]
     NotGiven(&'a str, &'a str),
+    /// A type that the request gives, which the modules do not have, or several of them have.
+    #[error("no type, or several, of the name {0} that --as gives")]
+    NoSubstitute(&'a str),
     /// A name that is assigned more than once.
     #[error("{0} is assigned more than once")]
     Repeated(&'a str),
@@ -81,7 +84,7 @@ impl<'a> Cause<'a> {
             Cause::RepeatedModule(_) => "; give one of its files",
             Cause::Recursion(_) => "; give --unroll N",
             Cause::NotInProfile(_) => "; --narrow leaves it out where values may do without it",
-            Cause::ComponentsOf => "; write the components out",
+            Cause::ComponentsOf(_) => "; write the components out",
             Cause::UnmarkedField => "; write EXPLICIT or IMPLICIT behind the tag",
             _ => "",
         }
@@ -92,6 +95,7 @@ impl<'a> Cause<'a> {
         match self {
             Cause::NotAssigned(name) => Cause::NotAssigned(front_of(name)),
             Cause::NotGiven(name, module) => Cause::NotGiven(front_of(name), front_of(module)),
+            Cause::NoSubstitute(name) => Cause::NoSubstitute(front_of(name)),
             Cause::Repeated(name) => Cause::Repeated(front_of(name)),
             Cause::RepeatedModule(name) => Cause::RepeatedModule(front_of(name)),
             Cause::NoType(name) => Cause::NoType(front_of(name)),

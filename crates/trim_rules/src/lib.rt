@@ -4,6 +4,8 @@
 
 mod bits;
 mod cause;
+mod copying;
+mod including;
 mod keyword;
 mod literals;
 mod messages;
@@ -18,6 +20,8 @@ mod standing;
 mod values;
 
 pub use cause::{Cause, Fault};
+pub use copying::Copier;
+pub use including::{Additions, is_written_out};
 pub use keyword::{Keyword, Section, first_number, is_automatic, keyword_of};
 pub use messages::{Kind, Message};
 pub use naming::{Naming, identifier, spelled};

@@ -7,6 +7,8 @@ pub enum Root {
     Choice,
     /// An untagged open type.
     Open,
+    /// An untagged field of a class of which it is not known whether its type is open.
+    Field,
     /// An untagged character string type that the profile does not have.
     LeftOutString,
     /// Anything else.
@@ -17,8 +19,16 @@ impl Root {
     /// Whether a tag without a keyword in front of it is explicit (X.680 31.2.7).
     pub fn is_open(self) -> bool {
         match self {
-            Root::Choice | Root::Open => true,
+            Root::Choice | Root::Open | Root::Field => true,
             Root::LeftOutString | Root::Other => false,
+        }
+    }
+
+    /// Whether values of any type may stand there.
+    pub fn takes_any(self) -> bool {
+        match self {
+            Root::Open | Root::Field => true,
+            Root::Choice | Root::LeftOutString | Root::Other => false,
         }
     }
 }

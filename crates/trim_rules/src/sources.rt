@@ -146,7 +146,7 @@ impl<'a> Sources<'a> {
     pub fn type_at(&self, spot: Spot) -> Option<&'a Type> {
         match &self.assignment_at(spot)?.body {
             Body::Type(ty) => Some(ty),
-            Body::Value(_, _) | Body::LeftOut(_) => None,
+            Body::Value(_, _) | Body::Class(_) | Body::LeftOut(_) => None,
         }
     }
 
@@ -154,8 +154,24 @@ impl<'a> Sources<'a> {
     pub fn value_at(&self, spot: Spot) -> Option<(&'a Type, &'a Value)> {
         match &self.assignment_at(spot)?.body {
             Body::Value(ty, value) => Some((ty, value)),
-            Body::Type(_) | Body::LeftOut(_) => None,
+            Body::Type(_) | Body::Class(_) | Body::LeftOut(_) => None,
         }
+    }
+
+    /// Whether a type that is written as this field of a class is open (X.681 clause 14). None: it is not
+    /// known.
+    pub fn is_open_field(
+        &self,
+        module: usize,
+        class: &'a Reference,
+        field: &'a Word,
+    ) -> Option<bool> {
+        let spot = self.find(module, class).ok()?;
+        let Body::Class(fields) = &self.assignment_at(spot)?.body else {
+            return None;
+        };
+        let found = fields.iter().find(|found| found.name.name == field.name)?;
+        Some(found.is_open)
     }
 }
 

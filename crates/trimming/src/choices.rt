@@ -5,7 +5,7 @@ use crate::trimmer::{Draft, Trimmer};
 use published::{Alternative as Written, Alternatives, Place};
 use std::alloc::{AllocError, Global};
 use syntax::{Alternative, Expr};
-use trim_rules::{Cause, Fault, MAX_PARTS, Root, Section, first_number, identifier, is_automatic};
+use trim_rules::{Cause, Fault, MAX_PARTS, Section, first_number, identifier, is_automatic};
 
 /// The alternatives of a CHOICE that are made, and what is wrong with the others.
 #[derive(Drop)]
@@ -109,7 +109,7 @@ impl<'a> Trimmer<'a> {
         number: Option<usize>,
         written: &'a Written,
     ) -> Result<bool, AllocError> {
-        Ok(number.is_some() || self.root_of(alloc, &written.body)? != Root::Open)
+        Ok(number.is_some() || !self.root_of(alloc, &written.body)?.takes_any())
     }
 
     // The CHOICE of what is made. Where none is, what is wrong with all is wrong with it.

@@ -46,7 +46,7 @@ impl<'a> Trimmer<'a> {
                 Ok(Draft::whole(Expr::Simple(syntax::Simple::Integer)))
             }
             Form::NamedBits(bits) => self.named_bits(alloc, place, bits),
-            Form::Any(_) | Form::Field(_) => self.open(alloc, place),
+            Form::Any(_) | Form::Field(_, _) => self.open(alloc, place),
             Form::Parameterised(_) => self.refuse(alloc, place, Cause::Parameterised),
             Form::Selection(_, _) => self.refuse(alloc, place, Cause::Selection),
             Form::InstanceOf(_) => self.refuse(alloc, place, Cause::InstanceOf),
@@ -95,7 +95,8 @@ impl<'a> Trimmer<'a> {
     pub fn root_of(&mut self, alloc: Global, ty: &'a Type) -> Result<Root, AllocError> {
         match &ty.form {
             Form::Choice(_) => Ok(Root::Choice),
-            Form::Any(_) | Form::Field(_) => Ok(Root::Open),
+            Form::Any(_) => Ok(Root::Open),
+            Form::Field(class, field) => self.root_of_field(alloc, class, field),
             Form::Simple(simple) if is_left_out_string(*simple) => Ok(Root::LeftOutString),
             Form::Reference(reference) => match self.refer(alloc, reference)? {
                 Ok(node) => Ok(self.root_at(node)),
@@ -105,8 +106,8 @@ impl<'a> Trimmer<'a> {
         }
     }
 
-    // What a type that is reached is at its root, once it is made.
-    fn root_at(&self, node: usize) -> Root {
+    /// What a type that is reached is at its root, once it is made.
+    pub fn root_at(&self, node: usize) -> Root {
         match self.nodes.get(node) {
             Some(node) if node.state == State::Done => node.root,
             _ => Root::Other,
@@ -114,7 +115,8 @@ impl<'a> Trimmer<'a> {
     }
 }
 
-fn group_of(group: published::Group) -> Group {
+/// The word that a list begins with.
+pub fn group_of(group: published::Group) -> Group {
     match group {
         published::Group::Sequence => Group::Sequence,
         published::Group::Set => Group::Set,

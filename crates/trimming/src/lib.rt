@@ -5,6 +5,7 @@ mod bits;
 mod choices;
 mod defaults;
 mod drafting;
+mod including;
 mod items;
 mod leaving;
 mod lists;

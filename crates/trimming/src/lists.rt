@@ -1,5 +1,8 @@
 //! SEQUENCE and SET (X.680 clauses 25 and 27).
 
+ghost use Rattle.std.specs.Prelude.{◌≡◌, ◌≢◌, ◌+◌, ◌<◌, ◌^◌, IsTrue, false, Some, None};
+
+use crate::including::Inclusion;
 use crate::leaving::Mark;
 use crate::tagging::Label;
 use crate::trimmer::{Draft, Trimmer};
@@ -9,8 +12,8 @@ use published::{
 use std::alloc::{AllocError, Global};
 use syntax::{Component, Expr, Group, Presence, TagClass};
 use trim_rules::{
-    Cause, MAX_PARTS, Root, Section, Standing, first_number, identifier, is_automatic, presence_of,
-    standing_of, standing_of_addition,
+    Additions, Cause, MAX_PARTS, Section, Standing, first_number, identifier, is_automatic,
+    presence_of, standing_of, standing_of_addition,
 };
 
 /// What a list says of one of its components.
@@ -51,7 +54,8 @@ impl<'a> Trimmer<'a> {
         group: Group,
         components: &'a Components,
     ) -> Result<Draft, AllocError> {
-        let list = list_of(self.is_automatic_list(components), group, components);
+        let is_automatic = is_automatic(self.work.tagging, has_tags(components));
+        let list = list_of(is_automatic, group, components);
         if list.count > MAX_PARTS {
             return self.refuse(alloc, place, Cause::Parts);
         }
@@ -60,23 +64,18 @@ impl<'a> Trimmer<'a> {
         }
         let mut made = Vec::new(alloc);
         self.section(alloc, list, Section::Root, &components.root, &mut made)?;
-        self.section(
-            alloc,
-            list,
-            Section::Additions,
-            &components.additions,
-            &mut made,
-        )?;
+        let (start, first_use) = (made.len(), self.work.made.uses.len());
+        let additions = &components.additions;
+        self.section(alloc, list, Section::Additions, additions, &mut made)?;
+        let (end, end_of_uses) = (made.len(), self.work.made.uses.len());
         self.section(alloc, list, Section::Tail, &components.tail, &mut made)?;
+        // (a list within the tail has noted its own)
+        self.work.made.additions = Additions { start, end };
+        self.work.made.uses_of_additions = Additions {
+            start: first_use,
+            end: end_of_uses,
+        };
         Ok(Draft::whole(Expr::List(group, made)))
-    }
-
-    // Whether the components are tagged automatically, which is judged as they are written.
-    fn is_automatic_list(&self, components: &Components) -> bool {
-        let is_tag_written = has_tag(&components.root)
-            || has_tag(&components.additions)
-            || has_tag(&components.tail);
-        is_automatic(self.work.tagging, is_tag_written)
     }
 
     // The components of a section of a list.
@@ -92,13 +91,14 @@ impl<'a> Trimmer<'a> {
         let first = first_number(section, list.root, list.tail);
         for (place, written) in components.iter().enumerate() {
             let Some(word) = &written.name else {
-                self.refuse(alloc, written.body.place, Cause::ComponentsOf)?;
+                let at = inclusion_in(list, section);
+                self.include(alloc, at, &written.body, made)?;
                 continue;
             };
             let slot = Slot {
                 group: list.group,
                 number: number_in(list, first, place),
-                standing: standing_in(section, written),
+                standing: standing_in(section, standing_of(&written.presence)),
                 is_apart: is_apart(list, section, components, place),
             };
             self.component(alloc, slot, word, written, made)?;
@@ -172,7 +172,8 @@ impl<'a> Trimmer<'a> {
         if slot.standing == Standing::Required || !self.can_leave_out_since(mark) {
             return Ok(false);
         }
-        let is_open = slot.number.is_none() && self.root_of(alloc, &written.body)? == Root::Open;
+        let is_open = slot.number.is_none() && self.root_of(alloc, &written.body)?.takes_any();
+        self.work.made.has_open_end |= is_open && slot.is_apart;
         Ok(!is_open || slot.is_apart)
     }
 
@@ -221,7 +222,10 @@ fn list_of(is_automatic: bool, group: Group, components: &Components) -> List {
 }
 
 // The automatic tag of the component at this place of a section, whose first one has this number.
-fn number_in(list: List, first: usize, place: usize) -> Option<usize> {
+fn number_in(list: List, first: usize, place: usize) -> Option<usize>
+    ensures automatic { IsTrue list.is_automatic → first + place < 2 ^ 64 → result ≡ Some (first + place) }
+    ensures other { list.is_automatic ≡ false → result ≡ None }
+{
     if list.is_automatic {
         Some(first.saturating_add(place))
     } else {
@@ -229,7 +233,21 @@ fn number_in(list: List, first: usize, place: usize) -> Option<usize> {
     }
 }
 
-// Whether the type of a component is written with a tag (X.680 25.3).
+/// Whether a tag is written in a list, as it stands before COMPONENTS OF is written out (X.680 25.3).
+pub fn has_tags(components: &Components) -> bool {
+    has_tag(&components.root) || has_tag(&components.additions) || has_tag(&components.tail)
+}
+
+// Where COMPONENTS OF stands in a section of a list.
+fn inclusion_in(list: List, section: Section) -> Inclusion {
+    Inclusion {
+        group: list.group,
+        is_automatic: list.is_automatic,
+        section,
+    }
+}
+
+// Whether the type of a component is written with a tag.
 fn has_tag(components: &[Written]) -> bool {
     components
         .iter()
@@ -241,9 +259,11 @@ pub fn is_tagged(ty: &Type) -> bool {
     matches!(&ty.form, Form::Tagged(_, _))
 }
 
-// How a component of this section may be absent.
-fn standing_in(section: Section, written: &Written) -> Standing {
-    let standing = standing_of(&written.presence);
+// How a component of this section may be absent that is written so.
+fn standing_in(section: Section, standing: Standing) -> Standing
+    ensures additions { section ≡ Section.Additions → result ≢ Standing.Required }
+    ensures root { section ≢ Section.Additions → result ≡ standing }
+{
     match section {
         Section::Additions => standing_of_addition(standing),
         Section::Root | Section::Tail => standing,
@@ -251,7 +271,7 @@ fn standing_in(section: Section, written: &Written) -> Standing {
 }
 
 // Whether an open type here cannot be taken for another component: the last of a SEQUENCE without additions,
-// behind one that is always there.
+// behind one that is always there, and not behind COMPONENTS OF.
 fn is_apart(list: List, section: Section, components: &[Written], place: usize) -> bool {
     let is_last = section == Section::Root && list.count == place.saturating_add(1);
     let before = match place.checked_sub(1) {
@@ -259,7 +279,9 @@ fn is_apart(list: List, section: Section, components: &[Written], place: usize) 
         None => None,
     };
     let is_behind_required = match before {
-        Some(before) => standing_of(&before.presence) == Standing::Required,
+        Some(before) => {
+            before.name.is_some() && standing_of(&before.presence) == Standing::Required
+        }
         None => true,
     };
     list.group == Group::Sequence && is_last && is_behind_required

@@ -4,7 +4,7 @@ use names::Name;
 use published::{Type, Word};
 use std::alloc::Global;
 use syntax::Expr;
-use trim_rules::{Fault, Message, Root, Spot};
+use trim_rules::{Additions, Fault, Message, Root, Spot};
 
 /// How far a type is.
 #[derive(Clone, Copy, Debug, PartialEq, Eq)]
@@ -53,6 +53,14 @@ pub struct Made<'a> {
     pub messages: Vec<Message>,
     /// The types that it refers to.
     pub uses: Vec<usize>,
+    /// The types whose components are put in.
+    pub included: Vec<usize>,
+    /// Of a list, where its additions are among its components.
+    pub additions: Additions,
+    /// Of a list, where those that its additions refer to are among the types that it refers to.
+    pub uses_of_additions: Additions,
+    /// Whether an untagged open type at the end of a list is left out.
+    pub has_open_end: bool,
 }
 
 impl Made<'_> {
@@ -63,6 +71,10 @@ impl Made<'_> {
             faults: Vec::new(alloc),
             messages: Vec::new(alloc),
             uses: Vec::new(alloc),
+            included: Vec::new(alloc),
+            additions: Additions::new(),
+            uses_of_additions: Additions::new(),
+            has_open_end: false,
         }
     }
 }

@@ -1,16 +1,16 @@
 //! Open types, to which the request gives types.
 
 use crate::trimmer::{Draft, Trimmer};
-use published::Place;
+use published::{Place, Reference, Word};
 use std::alloc::{AllocError, Global};
 use syntax::Expr;
-use trim_rules::{Cause, Given, Spot, Substitute, simple_of_words};
+use trim_rules::{Cause, Given, Root, Spot, Substitute, simple_of_words};
 
 impl<'a> Trimmer<'a> {
-    /// An open type: the type that the request gives to its place.
+    /// An open type, or a field of a class: the type that the request gives to its place.
     pub fn open(&mut self, alloc: Global, place: Place) -> Result<Draft, AllocError> {
         let path = self.path(alloc)?;
-        let Some(given) = self.given_at(path.as_str()) else {
+        let Some(given) = self.take_given(path.as_str()) else {
             return self.refuse(alloc, place, Cause::Open);
         };
         if given.ty.module.is_none() {
@@ -18,20 +18,70 @@ impl<'a> Trimmer<'a> {
                 return Ok(Draft::whole(Expr::Simple(simple)));
             }
         }
+        let name = given.ty.name.as_str();
         let Some(spot) = self.spot_of(alloc, &given.ty)? else {
-            return self.refuse(alloc, place, Cause::NotAssigned(given.ty.name.as_str()));
+            return self.refuse(alloc, place, Cause::NoSubstitute(name));
         };
         match self.reach(alloc, spot)? {
             Ok(node) => self.of_node(alloc, place, node),
+            Err(Cause::NoType(_)) => self.refuse(alloc, place, Cause::NoSubstitute(name)),
             Err(cause) => self.refuse(alloc, place, cause),
         }
     }
 
-    // What the request gives to the place.
-    fn given_at(&self, path: &str) -> Option<&'a Given> {
+    /// What a field of a class is at its root (X.681 clause 14): an open type, or else the type of the field,
+    /// which is the one that the request gives.
+    pub fn root_of_field(
+        &mut self,
+        alloc: Global,
+        class: &'a Reference,
+        field: &'a Option<Word>,
+    ) -> Result<Root, AllocError> {
+        let Some(field) = field else {
+            return Ok(Root::Field);
+        };
+        match self.sources.is_open_field(self.work.module, class, field) {
+            Some(true) => Ok(Root::Open),
+            Some(false) => self.root_of_given(alloc),
+            None => Ok(Root::Field),
+        }
+    }
+
+    // What the type is at its root that the request gives to this place.
+    fn root_of_given(&mut self, alloc: Global) -> Result<Root, AllocError> {
+        let path = self.path(alloc)?;
+        let Some(place) = self.given_at(path.as_str()) else {
+            return Ok(Root::Field);
+        };
+        let Some(given) = self.request.given.get(place) else {
+            return Ok(Root::Field);
+        };
+        if given.ty.module.is_none() && simple_of_words(given.ty.name.as_str()).is_some() {
+            return Ok(Root::Other);
+        }
+        let Some(spot) = self.spot_of(alloc, &given.ty)? else {
+            return Ok(Root::Field);
+        };
+        match self.reach(alloc, spot)? {
+            Ok(node) => Ok(self.root_at(node)),
+            Err(_) => Ok(Root::Other),
+        }
+    }
+
+    // What the request gives to the place, which is taken then.
+    fn take_given(&mut self, path: &str) -> Option<&'a Given> {
+        let place = self.given_at(path)?;
+        if let Some(is_taken) = self.taken.get_mut(place) {
+            *is_taken = true;
+        }
+        self.request.given.get(place)
+    }
+
+    // What the request gives to the place: how many stand before it.
+    fn given_at(&self, path: &str) -> Option<usize> {
         let module = self.sources.module_at(self.work.module)?;
         let module = module.name.name.as_str();
-        self.request.given.iter().find(|given| {
+        self.request.given.iter().position(|given| {
             let is_there = match &given.module {
                 Some(named) => named.as_str() == module,
                 None => true,

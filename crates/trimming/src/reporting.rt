@@ -1,5 +1,6 @@
 //! What is told of the types that are made.
 
+use crate::node::Made;
 use crate::trimmer::Trimmer;
 use crate::trimming::Refusal;
 use std::alloc::{AllocError, Global};
@@ -32,6 +33,25 @@ impl Found {
             }
         }
         Ok(())
+    }
+}
+
+/// What leads from a type to others.
+#[derive(Clone, Copy)]
+enum Link {
+    /// It refers to them.
+    Use,
+    /// It has their components.
+    Inclusion,
+}
+
+impl Link {
+    // The types that it leads to.
+    fn of<'a>(self, made: &'a Made<'_>) -> &'a [usize] {
+        match self {
+            Link::Use => made.uses.as_slice(),
+            Link::Inclusion => made.included.as_slice(),
+        }
     }
 }
 
@@ -84,27 +104,59 @@ impl<'a> Trimmer<'a> {
 
     /// The types that are written: the one that is asked for, and all that are reached from it.
     pub fn kept(&self, alloc: Global, root: usize) -> Result<Vec<usize>, AllocError> {
+        self.found_from(alloc, &[root], Link::Use)
+    }
+
+    // These types, and all that are found from them by such links.
+    fn found_from(
+        &self,
+        alloc: Global,
+        first: &[usize],
+        link: Link,
+    ) -> Result<Vec<usize>, AllocError> {
         let mut found = Found::new(alloc, self.nodes.len())?;
-        found.add(root)?;
+        for place in first {
+            found.add(*place)?;
+        }
         for turn in 0..self.nodes.len() {
             let Some(place) = found.places.get(turn) else {
                 break;
             };
             let place = *place;
             if let Some(node) = self.nodes.get(place) {
-                for used in &node.made.uses {
-                    found.add(*used)?;
+                for other in link.of(&node.made) {
+                    found.add(*other)?;
                 }
             }
         }
         Ok(found.places)
     }
 
+    /// What the request gives to places at which no open type takes it.
+    pub fn not_taken(&self, alloc: Global, refusal: &mut Refusal) -> Result<(), AllocError> {
+        for (place, given) in self.request.given.iter().enumerate() {
+            if self.taken.get(place) == Some(&true) {
+                continue;
+            }
+            let path = given.path.as_str();
+            let text = match &given.module {
+                Some(module) => format!(in alloc; "no open type takes --as {module}.{path}")?,
+                None => format!(in alloc; "no open type takes --as {path}")?,
+            };
+            refusal.messages.push(Message {
+                place: None,
+                kind: Kind::Refused,
+                text,
+            })?;
+        }
+        Ok(())
+    }
+
     /// What was left out of these types, in order of place.
     pub fn left_out(&mut self, alloc: Global, kept: &[usize]) -> Result<Vec<Message>, AllocError> {
         let mut messages = Vec::new(alloc);
-        for place in kept {
-            if let Some(node) = self.nodes.get_mut(*place) {
+        for place in self.found_from(alloc, kept, Link::Inclusion)? {
+            if let Some(node) = self.nodes.get_mut(place) {
                 let told = mem::replace(&mut node.made.messages, Vec::new(alloc));
                 for message in told {
                     messages.push(message)?;

@@ -1,9 +1,10 @@
 //! Tags in front of types (X.680 clause 31).
 
+ghost use Rattle.std.specs.Prelude.{◌≡◌};
+ghost use Rattle.trimming.specs.Written.{mode_of};
+
 use crate::trimmer::{Draft, Trimmer};
-use published::{
-    Form, Place, SignedNumber, Tag, TagClass as WrittenClass, TagMode as WrittenMode, Type,
-};
+use published::{Place, SignedNumber, Tag, TagClass as WrittenClass, TagMode as WrittenMode, Type};
 use std::alloc::{AllocError, Global};
 use syntax::{Expr, Simple, TagClass, TagMode, TagPrefix};
 use trim_rules::{Cause, Keyword, Root, keyword_of};
@@ -25,7 +26,8 @@ pub struct Label {
 }
 
 impl<'a> Trimmer<'a> {
-    /// A type with a tag in front as it is written.
+    /// A type with a tag in front as it is written. Where the tag is not taken, what is wrong with the type
+    /// itself is noted too.
     #[cycle(drafting)]
     pub fn tagged(
         &mut self,
@@ -34,22 +36,32 @@ impl<'a> Trimmer<'a> {
         tag: &'a Tag,
         inner: &'a Type,
     ) -> Result<Draft, AllocError> {
+        match self.label_of(place, tag) {
+            Ok(label) => self.labelled(alloc, label, inner),
+            Err(cause) => {
+                self.refuse(alloc, place, cause)?;
+                self.draft(alloc, inner)
+            }
+        }
+    }
+
+    // The tag, or why it is not taken.
+    fn label_of(&mut self, place: Place, tag: &'a Tag) -> Result<Label, Cause<'a>> {
         let Some(class) = class_of(tag.class) else {
-            return self.refuse(alloc, place, Cause::Universal);
+            return Err(Cause::Universal);
         };
         let number = self
             .sources
             .number_of(self.work.module, &tag.number, &mut self.budget);
-        let Some(number) = number.and_then(tag_number) else {
-            return self.refuse(alloc, place, Cause::Number);
-        };
-        let label = Label {
-            place,
-            class,
-            number,
-            mode: tag.mode,
-        };
-        self.labelled(alloc, label, inner)
+        match number.and_then(tag_number) {
+            Some(number) => Ok(Label {
+                place,
+                class,
+                number,
+                mode: tag.mode,
+            }),
+            None => Err(Cause::Number),
+        }
     }
 
     /// A type with a tag in front, which gets its keyword. A character string type that the profile does not
@@ -61,12 +73,13 @@ impl<'a> Trimmer<'a> {
         label: Label,
         inner: &'a Type,
     ) -> Result<Draft, AllocError> {
-        if is_unmarked_field(label.mode, inner) {
-            return self.refuse(alloc, label.place, Cause::UnmarkedField);
-        }
         let root = self.root_of(alloc, inner)?;
-        let Some(keyword) = keyword_of(self.work.tagging, label.mode, root.is_open()) else {
-            return self.refuse(alloc, label.place, Cause::ImplicitChoice);
+        let keyword = match self.keyword_at(label, root) {
+            Ok(keyword) => keyword,
+            Err(cause) => {
+                self.refuse(alloc, label.place, cause)?;
+                return self.draft(alloc, inner);
+            }
         };
         let inner = match (keyword, root) {
             (Keyword::Implicit, Root::LeftOutString) => Expr::Simple(Simple::OctetString),
@@ -74,25 +87,37 @@ impl<'a> Trimmer<'a> {
         };
         Ok(Draft::whole(Expr::Tagged(prefix_of(label, keyword), Box::new(alloc, inner)?)))
     }
-}
 
-// Whether a tag without a keyword stands in front of a field of a class, of which it is not known whether it
-// is an open type.
-fn is_unmarked_field(mode: WrittenMode, inner: &Type) -> bool {
-    match &inner.form {
-        Form::Field(_) => mode == WrittenMode::Unmarked,
-        _ => false,
+    // The keyword of a tag in front of a type that is this at its root, or why it has none.
+    fn keyword_at(&self, label: Label, root: Root) -> Result<Keyword, Cause<'a>> {
+        if label.mode == WrittenMode::Unmarked && root == Root::Field {
+            return Err(Cause::UnmarkedField);
+        }
+        match keyword_of(self.work.tagging, label.mode, root.is_open()) {
+            Some(keyword) => Ok(keyword),
+            None => Err(Cause::ImplicitChoice),
+        }
     }
 }
 
-fn prefix_of(label: Label, keyword: Keyword) -> TagPrefix {
+// The tag with this keyword.
+fn prefix_of(label: Label, keyword: Keyword) -> TagPrefix
+    ensures { result ≡ record { class = label.class; number = label.number; mode = mode_of keyword } }
+{
     TagPrefix {
         class: label.class,
         number: label.number,
-        mode: match keyword {
-            Keyword::Implicit => TagMode::Implicit,
-            Keyword::Explicit => TagMode::Explicit,
-        },
+        mode: mode_of(keyword),
+    }
+}
+
+// The keyword as it is written, which it always is.
+fn mode_of(keyword: Keyword) -> TagMode
+    ensures { result ≡ mode_of keyword }
+{
+    match keyword {
+        Keyword::Implicit => TagMode::Implicit,
+        Keyword::Explicit => TagMode::Explicit,
     }
 }
 

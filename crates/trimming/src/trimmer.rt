@@ -37,6 +37,8 @@ pub struct Trimmer<'a> {
     pub budget: Budget,
     /// How many faults and messages are told.
     pub told: usize,
+    /// Of each type that the request gives, whether an open type took it.
+    pub taken: Vec<bool>,
 }
 
 /// What is made of one type.
@@ -110,6 +112,7 @@ impl<'a> Trimmer<'a> {
             looks: 0,
             budget: Budget::new(),
             told: 0,
+            taken: Vec::new(alloc),
         }
     }
 
@@ -117,6 +120,16 @@ impl<'a> Trimmer<'a> {
     pub fn look(&mut self) -> bool {
         self.looks = self.looks.saturating_add(1);
         self.looks <= MAX_LOOKS
+    }
+
+    /// How many types may still be looked at.
+    pub fn looks_left(&self) -> usize {
+        MAX_LOOKS.saturating_sub(self.looks)
+    }
+
+    /// Counts types as looked at until so many are left.
+    pub fn look_until(&mut self, left: usize) {
+        self.looks = MAX_LOOKS.saturating_sub(left);
     }
 
     /// The name of the type that is being made, with those of components, as far as they are not too long.
@@ -170,6 +183,7 @@ impl<'a> Trimmer<'a> {
                 Some(node) => node.made.faults.iter().all(|fault| fault.can_be_left_out),
                 None => false,
             },
+            Cause::NoSubstitute(_) => false,
             Cause::TooLarge | Cause::RepeatedModule(_) | Cause::Repeated(_) => false,
             _ => self.request.narrow,
         }

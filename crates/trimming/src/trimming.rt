@@ -132,8 +132,10 @@ fn made<'a>(
         Ok(root) => root,
         Err(cause) => return Err(refused(alloc, None, format!(in alloc; "{cause}")?)),
     };
+    trimmer.taken = vec![in alloc; false; request.given.len()]?;
     trimmer.walk(alloc, root)?;
-    let refusal = trimmer.refusals(alloc, root)?;
+    let mut refusal = trimmer.refusals(alloc, root)?;
+    trimmer.not_taken(alloc, &mut refusal)?;
     if refusal.messages.is_empty() {
         Ok(root)
     } else {

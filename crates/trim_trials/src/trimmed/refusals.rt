@@ -8,7 +8,20 @@ use trimmer::LineFault;
 // Words; assignments, from line 2 on, in a module M with IMPLICIT TAGS; what is printed on standard error.
 const REFUSALS: &str = "
 T; T ::= SEQUENCE { a ANY, b X.&Type }; m.asn:2:20: refused: an open type at T.a; give --as T.a=TYPE m.asn:2:27: refused: an open type at T.b; give --as T.b=TYPE
-T; T ::= SEQUENCE { COMPONENTS OF U } U ::= SEQUENCE { a NULL }; m.asn:2:32: refused: COMPONENTS OF at T; write the components out
+T --as T.b=NULL; T ::= SEQUENCE { a ANY }; m.asn:2:20: refused: an open type at T.a; give --as T.a=TYPE asn1x-trim: refused: no open type takes --as T.b
+T --as T.a=NULL --as M.U.b=NULL; T ::= SEQUENCE { a NULL } U ::= SEQUENCE { b ANY }; asn1x-trim: refused: no open type takes --as T.a asn1x-trim: refused: no open type takes --as M.U.b
+T --as N.T.a=NULL; T ::= SEQUENCE { a ANY }; m.asn:2:20: refused: an open type at T.a; give --as T.a=TYPE asn1x-trim: refused: no open type takes --as N.T.a
+T --as T.a=NULL --as T.a=BOOLEAN; T ::= SEQUENCE { a ANY }; asn1x-trim: refused: no open type takes --as T.a
+T --as T.a=V --narrow; T ::= SEQUENCE { a ANY OPTIONAL }; m.asn:2:20: refused: no type, or several, of the name V that --as gives at T.a
+T --as T.a=N.V; T ::= SEQUENCE { a ANY } V ::= NULL; m.asn:2:20: refused: no type, or several, of the name V that --as gives at T.a
+T --as T.a=v --narrow; T ::= SEQUENCE { a ANY OPTIONAL } v NULL ::= NULL; m.asn:2:20: refused: no type, or several, of the name v that --as gives at T.a
+T; T ::= SEQUENCE { COMPONENTS OF SEQUENCE { a NULL } }; m.asn:2:32: refused: COMPONENTS OF a type without a name at T; write the components out
+T; T ::= SEQUENCE { COMPONENTS OF U } U ::= SET { a NULL }; m.asn:2:32: refused: COMPONENTS OF a type that is no list of the same kind at T; write the components out
+T; T ::= SEQUENCE { a NULL, ..., COMPONENTS OF U } U ::= SEQUENCE { b NULL }; m.asn:2:45: refused: COMPONENTS OF a list, among additions at T; write the components out
+T; T ::= SEQUENCE { a NULL, COMPONENTS OF T }; m.asn:2:40: refused: T refers to itself at T; give --unroll N
+T; T ::= SEQUENCE { COMPONENTS OF U } U ::= SEQUENCE { a V }; m.asn:2:55: refused: V is neither assigned nor imported at U.a
+T --narrow; T ::= SEQUENCE { COMPONENTS OF U, c NULL OPTIONAL } U ::= SEQUENCE { a NULL, b ANY OPTIONAL }; m.asn:2:32: refused: COMPONENTS OF a list without the open type at its end at T; write the components out
+T --narrow; T ::= SEQUENCE { COMPONENTS OF U, b ANY OPTIONAL } U ::= SEQUENCE { a NULL OPTIONAL }; m.asn:2:37: refused: an open type at T.b; give --as T.b=TYPE
 T; T ::= [0] IMPLICIT CHOICE { a NULL }; m.asn:2:7: refused: IMPLICIT in front of a CHOICE or an open type at T
 T --as T=NULL; T ::= [0] IMPLICIT ANY; m.asn:2:7: refused: IMPLICIT in front of a CHOICE or an open type at T
 T --as T=NULL; T ::= [0] X.&id; m.asn:2:7: refused: a tag without a keyword in front of a field of a class at T; write EXPLICIT or IMPLICIT behind the tag
@@ -16,6 +29,10 @@ T; T ::= [UNIVERSAL 3] IMPLICIT INTEGER; m.asn:2:7: refused: a tag of the class 
 T; T ::= SEQUENCE { a S DEFAULT {} } S ::= SEQUENCE OF NULL; m.asn:2:30: refused: a DEFAULT of a kind that asn1x does not take at T.a
 T --narrow; T ::= SEQUENCE { a REAL, b P {NULL}, c x < C } C ::= CHOICE { x NULL }; m.asn:2:20: refused: REAL at T.a; --narrow leaves it out where values may do without it m.asn:2:28: refused: a type with parameters at T.b m.asn:2:40: refused: a selection type at T.c
 T; T ::= SEQUENCE { a EXTERNAL, b TeletexString, c [0] EXPLICIT T61String }; m.asn:2:20: refused: EXTERNAL at T.a; --narrow leaves it out where values may do without it m.asn:2:32: refused: TeletexString at T.b; --narrow leaves it out where values may do without it m.asn:2:62: refused: TeletexString at T.c; --narrow leaves it out where values may do without it
+T; T ::= SEQUENCE { a INSTANCE OF X, b BIT STRING { } }; m.asn:2:20: refused: INSTANCE OF at T.a m.asn:2:37: refused: parts, which are none or more than 256, at T.b
+T; T ::= SEQUENCE { a N.U, b U, c X } U ::= NULL U ::= NULL X ::= CLASS { &id INTEGER }; m.asn:2:20: refused: U is of the module N, which is in none of the files at T.a; give its file m.asn:2:27: refused: U is assigned more than once at T.b m.asn:2:32: refused: X is no type at T.c
+T; T ::= SEQUENCE { a N.U } END N DEFINITIONS ::= BEGIN U ::= NULL END N DEFINITIONS ::= BEGIN U ::= NULL; m.asn:2:20: refused: the module N stands in the files more than once at T.a; give one of its files
+T; T ::= SEQUENCE { a U } U ::= SEQUENCE { $ }; m.asn:2:20: refused: U is neither assigned nor imported at T.a m.asn:2:41: refused: no token of ASN.1 begins so
 T; T ::= SEQUENCE OF T; m.asn:2:19: refused: T refers to itself at T; give --unroll N
 T; T ::= SET { a U, b V } U ::= W; m.asn:2:20: refused: V is neither assigned nor imported at T.b m.asn:2:30: refused: W is neither assigned nor imported at U
 T; T ::= [v] NULL v INTEGER ::= w; m.asn:2:7: refused: a number that is not known, or out of range at T
@@ -51,6 +68,33 @@ fn refusals(rt: HostRuntime) -> Result<(), Fail> {
             assert!(rt; is_as_wanted(rt.alloc(), row)?, "at {row}");
         }
     }
+    Ok(())
+}
+
+// Lists of which one names the other by COMPONENTS OF, and one of the two is tagged automatically.
+const AUTOMATIC: &str = "
+A DEFINITIONS IMPLICIT TAGS ::= BEGIN
+T ::= SEQUENCE { a NULL, COMPONENTS OF B.T }
+U ::= SEQUENCE { b NULL }
+END
+B DEFINITIONS AUTOMATIC TAGS ::= BEGIN
+T ::= SEQUENCE { c NULL }
+U ::= SEQUENCE { d NULL, COMPONENTS OF A.U }
+END";
+
+#[test]
+fn components_of_automatic_lists(rt: HostRuntime) -> Result<(), Fail> {
+    let ran_in = ran(rt.alloc(), AUTOMATIC, "A.T")?;
+    let wanted =
+        "m.asn:3:40: refused: COMPONENTS OF a list, where tags are automatic in one of the two at T; \
+write the components out\n";
+    assert_eq!(rt; ran_in.err.as_str(), wanted);
+    let ran_of = ran(rt.alloc(), AUTOMATIC, "B.U")?;
+    let wanted =
+        "m.asn:8:40: refused: COMPONENTS OF a list, where tags are automatic in one of the two at U; \
+write the components out\n";
+    assert_eq!(rt; ran_of.err.as_str(), wanted);
+    assert!(rt; ran_in.status == 1 && ran_of.status == 1);
     Ok(())
 }
 

@@ -48,6 +48,16 @@ AUTOMATIC TAGS; T; T ::= SEQUENCE { a GeneralString, b ObjectDescriptor }; T ::=
 # the types of open types
 ; T --as T.a=U --as V=NULL; T ::= SEQUENCE { a ANY DEFINED BY b, b V } U ::= BOOLEAN V ::= FOO.&Type FOO ::= TYPE-IDENTIFIER; T ::= SEQUENCE { a U, b V } U ::= BOOLEAN V ::= NULL;
 ; T --as T.a.b=INTEGER; T ::= SET OF SEQUENCE { a CHOICE { b ANY } }; T ::= SET OF SEQUENCE { a CHOICE { b INTEGER } };
+# a field of a class is open by what its class says (X.681 9 and 14), and a tag in front of an open type explicit
+IMPLICIT TAGS; T --as T.a=NULL --as T.b=NULL --as T.c=C --as T.d=NULL; T ::= SEQUENCE { a [0] X.&Type, b [1] X.&id, c [2] X.&id, d [3] IMPLICIT X.&id } X ::= CLASS { &id INTEGER UNIQUE, &Type } C ::= CHOICE { x NULL }; T ::= SEQUENCE { a [0] EXPLICIT NULL, b [1] IMPLICIT NULL, c [2] EXPLICIT C, d [3] IMPLICIT NULL } C ::= CHOICE { x NULL };
+IMPLICIT TAGS; T --as T.a=NULL --as U=NULL; T ::= SEQUENCE { a [0] X.&value, b [1] U } X ::= CLASS { &value &Type, &Type OPTIONAL, &Set INTEGER } U ::= X.&Set; T ::= SEQUENCE { a [0] EXPLICIT NULL, b [1] IMPLICIT U } U ::= NULL;
+# a component or an alternative without a name, as X.208 has it, is named by its place
+; T; T ::= SEQUENCE { a NULL, CHOICE { b BOOLEAN, [0] NULL } }; T ::= SEQUENCE { a NULL, unnamed-2 CHOICE { b BOOLEAN, unnamed-2 [0] EXPLICIT NULL } };
+# COMPONENTS OF stands for the components of the root (X.680 25.5), each with the tags that it has where it is written
+IMPLICIT TAGS; T; T ::= SEQUENCE { a [0] NULL, COMPONENTS OF U, d NULL OPTIONAL } U ::= SEQUENCE { b [1] V OPTIONAL, ..., x NULL, ..., c [2] INTEGER DEFAULT 3 } V ::= INTEGER (0..5); T ::= SEQUENCE { a [0] IMPLICIT NULL, b [1] IMPLICIT V OPTIONAL, c [2] IMPLICIT INTEGER DEFAULT 3, d NULL OPTIONAL } V ::= INTEGER;
+AUTOMATIC TAGS; T; T ::= SET { a [0] NULL, COMPONENTS OF U } U ::= SET { b [1] NULL, COMPONENTS OF V } V ::= SET { c [2] ENUMERATED { x, y } DEFAULT y, d [3] BIT STRING { p(0) } DEFAULT '1'B, e [4] SET OF CHOICE { z IA5String } }; T ::= SET { a [0] IMPLICIT NULL, b [1] IMPLICIT NULL, c [2] IMPLICIT ENUMERATED { x(0), y(1) } DEFAULT y, d [3] IMPLICIT BIT STRING { p(0) } DEFAULT '1'B, e [4] IMPLICIT SET OF CHOICE { z [0] IMPLICIT IA5String } };
+; T --as U.a=NULL --verbose; T ::= SEQUENCE { COMPONENTS OF U } U ::= SEQUENCE { a ANY, b INTEGER (0..5) }; T ::= SEQUENCE { a NULL, b INTEGER }; m.asn:2:70: dropped: a constraint of U.b
+; T --narrow; T ::= SEQUENCE { COMPONENTS OF U } U ::= SEQUENCE { a NULL, b REAL OPTIONAL }; T ::= SEQUENCE { a NULL }; m.asn:2:63: narrowed: U.b is left out: REAL at U.b
 # what may be absent is left out, so values that hold it are refused
 ; T --narrow; T ::= CHOICE { a REAL, b NULL, c U } U ::= SEQUENCE { x EXTERNAL }; T ::= CHOICE { b NULL }; m.asn:2:18: narrowed: T.a is left out: REAL at T.a m.asn:2:34: narrowed: T.c is left out: EXTERNAL at U.x
 ; T --narrow; T ::= SEQUENCE { a U OPTIONAL, b NULL DEFAULT NULL } U ::= CHOICE { x REAL, y REAL }; T ::= SEQUENCE { }; m.asn:2:20: narrowed: T.a is left out: REAL at U.x m.asn:2:34: narrowed: T.b is left out: a DEFAULT of a kind that asn1x does not take at T.b

@@ -1,0 +1,45 @@
+//! Classes of information objects (X.681 clause 9), as far as it is told which of their fields are open types.
+
+ghost use Rattle.std.specs.Prelude.{◌≡◌};
+ghost use Rattle.published.specs.Fields.{is_open_before};
+
+use crate::MAX_PARTS;
+use crate::fault::Reason;
+use crate::numbers::ends_list;
+use crate::reader::Reader;
+use crate::skipping::skip_to_end_of_part;
+use crate::stop::Stop;
+use crate::tree::Field;
+use lexis::Word as Reserved;
+use published_tokens::{Kind, Symbol};
+
+/// The fields in braces, which stand in front. What has no name of a field is passed.
+pub(crate) fn fields_at(reader: &mut Reader) -> Result<Vec<Field>, Stop> {
+    let mut fields = Vec::new(reader.alloc);
+    reader.symbol(Symbol::OpenBrace)?;
+    for _turn in 0..=MAX_PARTS {
+        if reader.kind() == Kind::Field {
+            let name = reader.name(Kind::Field)?;
+            let is_open = is_open_before(reader.kind());
+            fields.push(Field { name, is_open })?;
+        }
+        skip_to_end_of_part(reader)?;
+        if ends_list(reader)? {
+            return Ok(fields);
+        }
+    }
+    Err(reader.stop(Reason::TooManyParts))
+}
+
+// Whether the name of a field stands for an open type where this token is behind it in its class: there is no
+// type, or that of another field.
+fn is_open_before(kind: Kind) -> bool
+    ensures { result ≡ is_open_before kind }
+{
+    match kind {
+        Kind::Field => true,
+        Kind::Reserved(Reserved::Optional | Reserved::Default) => true,
+        Kind::Symbol(Symbol::Comma | Symbol::CloseBrace) => true,
+        _ => false,
+    }
+}

@@ -1,0 +1,119 @@
+//! Copies of types of the profile.
+
+use std::alloc::{AllocError, Global};
+use syntax::{Alternative, Component, DefaultValue, Expr, Item, NamedBit, Presence, Simple};
+
+/// Makes copies of types, with so many parts at most.
+#[derive(Debug, Drop)]
+pub struct Copier {
+    alloc: Global,
+    /// How many parts may still be copied. Where there are none, what is made is no copy.
+    pub left: usize,
+}
+
+impl Copier {
+    /// Copies of so many parts.
+    pub fn new(alloc: Global, left: usize) -> Self {
+        Copier { alloc, left }
+    }
+
+    /// A copy of the component.
+    #[cycle(copying)]
+    pub fn component(&mut self, component: &Component) -> Result<Component, AllocError> {
+        Ok(Component {
+            name: component.name.clone()?,
+            body: self.expr(&component.body)?,
+            presence: self.presence(&component.presence)?,
+        })
+    }
+
+    // A copy of the type.
+    #[cycle(copying)]
+    fn expr(&mut self, expr: &Expr) -> Result<Expr, AllocError> {
+        self.left = self.left.saturating_sub(1);
+        if self.left == 0 {
+            return Ok(Expr::Simple(Simple::Null));
+        }
+        match expr {
+            Expr::Tagged(prefix, inner) => {
+                let inner = self.expr(inner)?;
+                Ok(Expr::Tagged(*prefix, Box::new(self.alloc, inner)?))
+            }
+            Expr::List(group, components) => {
+                let mut copies = Vec::new(self.alloc);
+                for component in components {
+                    copies.push(self.component(component)?)?;
+                }
+                Ok(Expr::List(*group, copies))
+            }
+            Expr::Of(group, inner) => {
+                let inner = self.expr(inner)?;
+                Ok(Expr::Of(*group, Box::new(self.alloc, inner)?))
+            }
+            Expr::Choice(alternatives) => {
+                let mut copies = Vec::new(self.alloc);
+                for alternative in alternatives {
+                    copies.push(Alternative {
+                        name: alternative.name.clone()?,
+                        body: self.expr(&alternative.body)?,
+                    })?;
+                }
+                Ok(Expr::Choice(copies))
+            }
+            Expr::Enumerated(items) => self.items(items),
+            Expr::NamedBits(bits) => self.bits(bits),
+            Expr::Simple(simple) => Ok(Expr::Simple(*simple)),
+            Expr::Reference(name) => Ok(Expr::Reference(self.text(name)?)),
+        }
+    }
+
+    // A copy of an ENUMERATED with these items.
+    fn items(&mut self, items: &[Item]) -> Result<Expr, AllocError> {
+        self.left = self.left.saturating_sub(items.len());
+        let mut copies = Vec::new(self.alloc);
+        for item in items {
+            copies.push(Item {
+                name: item.name.clone()?,
+                number: item.number,
+            })?;
+        }
+        Ok(Expr::Enumerated(copies))
+    }
+
+    // A copy of a BIT STRING with these bits.
+    fn bits(&mut self, bits: &[NamedBit]) -> Result<Expr, AllocError> {
+        self.left = self.left.saturating_sub(bits.len());
+        let mut copies = Vec::new(self.alloc);
+        for bit in bits {
+            copies.push(NamedBit {
+                name: bit.name.clone()?,
+                number: bit.number,
+            })?;
+        }
+        Ok(Expr::NamedBits(copies))
+    }
+
+    fn presence(&self, presence: &Presence) -> Result<Presence, AllocError> {
+        match presence {
+            Presence::Required => Ok(Presence::Required),
+            Presence::Optional => Ok(Presence::Optional),
+            Presence::Default(value) => Ok(Presence::Default(self.value(value)?)),
+        }
+    }
+
+    fn value(&self, value: &DefaultValue) -> Result<DefaultValue, AllocError> {
+        match value {
+            DefaultValue::True => Ok(DefaultValue::True),
+            DefaultValue::False => Ok(DefaultValue::False),
+            DefaultValue::Number(number) => Ok(DefaultValue::Number(*number)),
+            DefaultValue::Name(name) => Ok(DefaultValue::Name(self.text(name)?)),
+            DefaultValue::Binary(text) => Ok(DefaultValue::Binary(self.text(text)?)),
+            DefaultValue::Hex(text) => Ok(DefaultValue::Hex(self.text(text)?)),
+            DefaultValue::Chars(text) => Ok(DefaultValue::Chars(self.text(text)?)),
+        }
+    }
+
+    fn text(&self, text: &String) -> Result<String, AllocError> {
+        String::from_str(self.alloc, text.as_str())
+    }
+}
