@@ -1,5 +1,7 @@
 -- Exit statuses of the program.
 use Rattle.std.specs.Prelude.{◌≡◌, ◌⊎◌, ℕ}
+use Rattle.trimmer.specs.declared.running.End.{End}
+use Rattle.trimmer.specs.declared.running.End.TheVariants.{Written, Refused, Failed}
 
 -- 64 where the words are wrong, 0 where they ask for help or the version, 4 where memory ran out
 abbrev pub IsLineStatus : ℕ → Type 0
@@ -8,3 +10,9 @@ IsLineStatus status = (status ≡ 0) ⊎ (status ≡ 4) ⊎ (status ≡ 64)
 -- 0 written, 1 refused, 3 a file or device, 4 memory
 abbrev pub IsStatus : ℕ → Type 0
 IsStatus status = (status ≡ 0) ⊎ (status ≡ 1) ⊎ (status ≡ 3) ⊎ (status ≡ 4)
+
+-- that of a run for which memory sufficed
+abbrev pub status_of : End → ℕ
+status_of Written = 0
+status_of Refused = 1
+status_of Failed = 3

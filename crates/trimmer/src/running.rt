@@ -1,6 +1,7 @@
 //! Runs a command line over files.
 
-ghost use Rattle.trimmer.specs.Status.{IsStatus};
+ghost use Rattle.std.specs.Prelude.{◌≡◌};
+ghost use Rattle.trimmer.specs.Status.{IsStatus, status_of};
 
 use crate::command_line::Line;
 use crate::lines::{print_fault, print_line, print_message};
@@ -43,7 +44,8 @@ enum End {
 }
 
 fn status_of(end: End) -> u8
-    ensures { IsStatus result }
+    ensures status { IsStatus result }
+    ensures value { result ≡ status_of end }
 {
     match end {
         End::Written => 0,
