@@ -5,8 +5,10 @@ use std::io;
 use std::io::ErrorKind;
 use trimmer::{Files, LineFault, line, run};
 
+mod bodies;
 mod devices;
 mod equal;
+mod generated;
 mod refusals;
 mod steps;
 
