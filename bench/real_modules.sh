@@ -6,12 +6,12 @@
 #
 # PROGRAM is crates/asn1x_trim/out/asn1x_trim unless given, which `rt run` in crates/asn1x_trim builds. The folders are
 # looked through for modules; without any, those in which the packages have theirs. Each type of each file is asked
-# for, with the other files of its folder behind, as it stands, with --narrow, and with --narrow and --unroll 1. Printed
-# are the numbers of files and types, how many came through, and for the others how often each first reason came.
+# for, with the other files of its folder behind unless it is an RFC, as it stands, with --narrow, and with --narrow and
+# --unroll 1. Printed are the numbers of files, modules and types, how many came through, and for the others how often
+# each first reason came.
 #
-# Where openssl, xxd and the built program asn1x are there, a certificate that openssl makes goes through the module
-# that is trimmed from a text with PKIX1Explicit88, and must come out as openssl wrote it. The status is 1 where it
-# does not, or where there are no modules.
+# bench/real_messages.sh, which this runs at the end, converts messages by modules that are trimmed from these texts.
+# The status is 1 where that fails, or where there are no modules.
 set -u
 
 top=$(cd "$(dirname "$0")/.." && pwd) || exit 1
@@ -22,12 +22,19 @@ program=${1-$top/crates/asn1x_trim/out/asn1x_trim}
 
 work=$(mktemp -d) || exit 1
 trap 'rm -rf "$work"' EXIT
+mkdir "$work/rfc"
+export program work
+
+# The files. Debian packs the texts of RFCs.
 for folder; do
-    [ -d "$folder" ] && find -L "$folder" -type f \( -name '*.asn' -o -name '*.asn1' -o -name 'rfc*.txt' \)
+    [ -d "$folder" ] && find "$folder/" -type f \( -name '*.asn' -o -name '*.asn1' -o -name 'rfc*.txt' \)
+    [ -d "$folder" ] && find "$folder/" -type f -name 'rfc*.txt.gz' | while read -r file; do
+        text=$work/rfc/$(basename "$file" .gz)
+        gzip -dc "$file" >"$text" && echo "$text"
+    done
 done >"$work/all"
-xargs -r -d '\n' grep -lE 'DEFINITIONS' <"$work/all" | sort >"$work/files"
-files=$(wc -l <"$work/files")
-[ "$files" -gt 0 ] || { echo "real_modules: no modules in $*" >&2; exit 1; }
+xargs -r -d '\n' grep -lE '(^|[^A-Za-z-])DEFINITIONS([^A-Za-z-]|$)' <"$work/all" | sort -u >"$work/files"
+[ -s "$work/files" ] || { echo "real_modules: no modules in $*" >&2; exit 1; }
 
 # The names of types that a file assigns, module names in front.
 types_of() {
@@ -36,7 +43,7 @@ types_of() {
         !open {
             head = head " " $0
             if (length(head) > 800) head = substr(head, length(head) - 600)
-            if (head ~ /DEFINITIONS/) {
+            if (head ~ /DEFINITIONS.*::=.*BEGIN/) {
                 sub(/DEFINITIONS.*/, "", head)
                 gsub(/[{][^}]*[}]/, "", head)
                 count = split(head, words, /[ \t]+/)
@@ -52,49 +59,40 @@ types_of() {
     ' "$1" | sort -u
 }
 
+# A line for each type: its number, its file, and its name.
+while read -r file; do
+    types_of "$file" | sed "s|^|$file |"
+done <"$work/files" | grep -E ' [A-Z][A-Za-z0-9-]*\.[A-Z]' | nl -ba -s ' ' >"$work/types"
+[ -s "$work/types" ] || { echo "real_modules: no types in these files" >&2; exit 1; }
+asked=$(wc -l <"$work/types")
+files=$(awk '{ print $2 }' "$work/types" | sort -u | wc -l)
+modules=$(awk '{ sub(/[.].*/, "", $3); print $2, $3 }' "$work/types" | sort -u | wc -l)
+
+# Asks for one type with the options in the first word, and prints 'written' or the first reason why it is not.
+cat >"$work/ask" <<'END'
+options=$1 file=$3 type=$4 others=
+case $file in
+*/rfc*.txt) ;;
+*) others=$(grep -F "$(dirname "$file")/" "$work/files" | grep -vxF "$file" | tr '\n' ' ') ;;
+esac
+if said=$("$program" "$file" $others "$type" $options 2>&1 >/dev/null); then
+    echo written
+else
+    printf '%s\n' "$said" | grep ' refused: ' | head -n 1 | sed 's/.* refused: //; s/ at [A-Z].*//; s/;.*//'
+fi
+END
+
 # Asks for each type with these options, and counts.
 try() {
     label=$1
     shift
-    asked=0
-    written=0
-    : >"$work/reasons"
-    while read -r file; do
-        others=$(grep -F "$(dirname "$file")/" "$work/files" | grep -vxF "$file" | grep -v 'rfc' | tr '\n' ' ')
-        for type in $(types_of "$file"); do
-            asked=$((asked + 1))
-            # shellcheck disable=SC2086
-            if "$program" "$file" $others "$type" "$@" >"$work/out" 2>"$work/err"; then
-                written=$((written + 1))
-            else
-                grep ' refused: ' "$work/err" | head -n 1 | sed 's/.* refused: //; s/ at [A-Z].*//' >>"$work/reasons"
-            fi
-        done
-    done <"$work/files"
-    echo "$label: $files files, $asked types, $written written"
-    sort "$work/reasons" | uniq -c | sort -rn | head -n 12
+    xargs -P "$(nproc)" -L 1 sh "$work/ask" "$*" <"$work/types" >"$work/reasons"
+    echo "$label: $files files, $modules modules, $asked types, $(grep -cx written "$work/reasons") written"
+    grep -vx written "$work/reasons" | sort | uniq -c | sort -rn | head -n 12
 }
 
 try 'as they stand'
 try 'with --narrow' --narrow
 try 'with --narrow --unroll 1' --narrow --unroll 1
 
-asn1x=$top/crates/asn1x/out/asn1x
-if command -v openssl >/dev/null && command -v xxd >/dev/null && [ -x "$asn1x" ]; then
-    text=$(xargs -r -d '\n' grep -lE '^ *PKIX1Explicit88 ' <"$work/files" | head -n 1)
-    [ -n "$text" ] || { echo 'certificate: no text with PKIX1Explicit88'; exit 0; }
-    cd "$work" || exit 1
-    openssl req -x509 -newkey rsa:2048 -nodes -keyout key.pem -outform DER -out cert.der -days 30 \
-        -subj '/C=XX/O=An exchange/CN=example.org' -addext 'subjectAltName=DNS:example.org' 2>/dev/null || exit 1
-    "$program" "$text" PKIX1Explicit88.Certificate --narrow --as AlgorithmIdentifier.parameters=NULL \
-        --as AttributeValue=DirectoryString --as AttributeTypeAndValue.value=DirectoryString >trimmed.asn 2>told || {
-        echo 'certificate: the module is refused'
-        cat told
-        exit 1
-    }
-    "$asn1x" convert trimmed.asn Certificate cert.der --to der >out.der && cmp out.der cert.der || {
-        echo 'certificate: it came out otherwise'
-        exit 1
-    }
-    echo 'certificate: as openssl wrote it'
-fi
+"$top/bench/real_messages.sh" "$program" "$work/rfc"
