@@ -7,7 +7,7 @@ use std::alloc::{AllocError, Global};
 const EXAMPLE: &str =
     "For example, the certificates of RFC 5280, with keys whose algorithm has no parameters or NULL:
 
-  asn1x-trim rfc5280.txt Certificate --as AlgorithmIdentifier.parameters=NULL \\
+  asn1x-trim rfc5280.txt Certificate --narrow --as AlgorithmIdentifier.parameters=NULL \\
       --as AttributeValue=DirectoryString > certificates.asn
 
 Exit status: 0 written, 1 refused, 3 a file cannot be read, 4 no memory, 64 wrong words.";
