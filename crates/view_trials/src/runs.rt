@@ -158,7 +158,7 @@ fn check_run(alloc: Global, module: &str, row: &str) -> Result<(), Fail> {
     let mut out = Vec::new(alloc);
     let mut err = Vec::new(alloc);
     let status = run(alloc, &line, &file_system, &mut out, &mut err);
-    if words.get(1) == Some(&"json") && !row.contains("--indent") {
+    if row.starts_with("json,") && !row.contains("--indent") {
         check_json(alloc, row, out.as_slice())?;
     }
     let out = spaced(alloc, out.as_slice())?;

@@ -216,7 +216,7 @@ fn module(alloc: Global, number: u64) -> Result<String, AllocError> {
 
 #[test]
 fn modules_that_numbers_give(rt: HostRuntime) -> Result<(), Fail> {
-    let mut taken = 0;
+    let mut taken = 0u32;
     for number in 0..100 {
         let text = module(rt.alloc(), number)?;
         assert!(rt;
@@ -224,7 +224,7 @@ fn modules_that_numbers_give(rt: HostRuntime) -> Result<(), Fail> {
             "at {number}: {text}"
         );
         if meant(rt.alloc(), text.as_str(), "T0").is_ok() {
-            taken += 1;
+            taken = taken.saturating_add(1);
         }
     }
     assert!(rt; taken > 50, "{taken}");
