@@ -1,13 +1,17 @@
 //! Reads values of a type under the basic encoding rules (X.690 clause 8).
 //!
 //! An encoding may have either form, and lengths any spelling; the limits on depth and size are this
-//! project's own (`docs/PROFILE.md`). The segments of a constructed string, at whatever depth, are
-//! appended to one vector, and open encodings are held on a stack, so that no call nests.
+//! project's own (`docs/PROFILE.md`). A value that is whole at the front of a piece is read by `whole`, whose
+//! calls nest as encodings do, and any other step by step: its open encodings are held on a stack, and the
+//! segments of a constructed string, at whatever depth, are appended to one vector.
 #![tactic(auto)]
 
+mod beginning;
 mod cursor;
+mod keeping;
 mod nest;
 mod pieces;
+mod putting;
 mod reader;
 mod reading;
 mod stack;

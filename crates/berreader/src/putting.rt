@@ -1,0 +1,87 @@
+//! Values that have come, each put where it belongs.
+
+ghost use Rattle.std.specs.Prelude.{◌≡◌, ◌+◌, ◌≤◌, IfOk, OnOk, None};
+ghost use Rattle.octets.specs.declared.TheConstants.{MAX_ENCODING};
+ghost use Rattle.octets.specs.declared.tag.Tag.{Tag};
+ghost use Rattle.types.specs.Shape.{Shape, Val};
+ghost use Rattle.types.specs.View.{ty_view, value_view};
+ghost use Rattle.berreader.specs.Stack.{layers_of, IsCounted};
+ghost use Rattle.berreader.specs.Nest.{IsCome, IsDueInside};
+ghost use Rattle.contents.specs.Parts.{IsGoodType, IsWrapped};
+
+use crate::nest::Nest;
+use contents::{is_node, wrap};
+use octets::{NoMemory, Tag};
+use std::alloc::Global;
+use types::{Ty, Value};
+
+impl Nest<'_> {
+    // Puts a value that has come where it belongs: into the innermost open encoding, if there is one, and
+    // else into `whole`.
+    pub fn come(
+        &mut self,
+        alloc: Global,
+        ty: &Ty,
+        tag: Tag,
+        value: Value,
+        used: usize,
+        whole: &mut Option<Value>,
+    ) -> Result<usize, NoMemory>
+        requires good { IsGoodType (ty_view ty.now) }
+        requires due { IsDueInside (ty_view self.old.ty.now) (layers_of self.old.layers) (ty_view ty.now) }
+        requires room { self.old.taken + used ≤ MAX_ENCODING }
+        requires whole { whole.old ≡ None }
+        ensures come { IfOk result (λ n. IsCome self.old self.new (ty_view ty.now) tag (value_view value) used whole.new n) }
+        ensures counted { IsCounted self.old.layers → OnOk result (IsCounted self.new.layers) }
+    {
+        if is_node(ty) {
+            return self.put(value, used, whole);
+        }
+        self.put_wrapped(alloc, ty, tag, value, used, whole)
+    }
+
+    // Puts a value that has come of a CHOICE, by the value of the chosen type. A call of its own, since few
+    // parts are of a CHOICE.
+    #[inline(never)]
+    fn put_wrapped(
+        &mut self,
+        alloc: Global,
+        ty: &Ty,
+        tag: Tag,
+        value: Value,
+        used: usize,
+        whole: &mut Option<Value>,
+    ) -> Result<usize, NoMemory>
+        requires good { IsGoodType (ty_view ty.now) }
+        requires due { IsDueInside (ty_view self.old.ty.now) (layers_of self.old.layers) (ty_view ty.now) }
+        requires room { self.old.taken + used ≤ MAX_ENCODING }
+        requires whole { whole.old ≡ None }
+        ensures come { IfOk result (λ n. IsCome self.old self.new (ty_view ty.now) tag (value_view value) used whole.new n) }
+        ensures counted { IsCounted self.old.layers → OnOk result (IsCounted self.new.layers) }
+    {
+        let wrapped = wrap(alloc, ty, tag, value)?;
+        self.put(wrapped, used, whole)
+    }
+
+    // Puts a value of the type of the part that has come.
+    fn put(
+        &mut self,
+        value: Value,
+        used: usize,
+        whole: &mut Option<Value>,
+    ) -> Result<usize, NoMemory>
+        requires due { (type : Shape) × IsDueInside (ty_view self.old.ty.now) (layers_of self.old.layers) type }
+        requires room { self.old.taken + used ≤ MAX_ENCODING }
+        requires whole { whole.old ≡ None }
+        ensures come { IfOk result (λ n. (type : Shape) (tag : Tag) (v : Val) → IsWrapped type tag v (value_view value) →
+            IsCome self.old self.new type tag v used whole.new n) }
+        ensures counted { IsCounted self.old.layers → OnOk result (IsCounted self.new.layers) }
+    {
+        self.layers.put(value, whole)?;
+        match whole {
+            None => self.taken += used,
+            Some(_) => self.taken = 0,
+        }
+        Ok(used)
+    }
+}
