@@ -6,7 +6,8 @@ ghost use Rattle.octets.specs.Front.{Appends};
 ghost use Rattle.types.specs.Conforms.{Conforms, SlotsConform};
 ghost use Rattle.types.specs.Encoding.{IsEncoding};
 ghost use Rattle.types.specs.FirstTags.{tags_of_components, AreDistinct};
-ghost use Rattle.types.specs.View.{ty_view, value_view, components_view, slots_view};
+ghost use Rattle.types.specs.Shape.{Shape};
+ghost use Rattle.types.specs.View.{ty_view, value_view, components_view, slots_view, alternatives_view};
 ghost use Rattle.canon.specs.Node.{HasGoodNodes, HaveGoodNodes, AreItems, AreItemsInOrder, AreComponents, AreComponentsByTag};
 ghost use Rattle.canon.specs.Part.{IsPut, Keeps};
 ghost use Rattle.canon.specs.Rule.{rule_of};
@@ -23,7 +24,7 @@ use crate::spans::{
 use crate::tags::order_tag;
 use octets::NoMemory;
 use std::alloc::Global;
-use types::{Field, Ty, Value};
+use types::{Alternative, Field, Ty, Value};
 
 // Appends the encoding of `value`, turned round.
 #[cycle(back)]
@@ -73,18 +74,35 @@ pub(crate) fn put_back(
             put_in_order(alloc, rule, inner, items_in(value), out)?;
             put_head(rule, *tag, start, out)
         }
-        Ty::Choice(alternatives) => {
-            let Some((which, chosen)) = chosen_in(value) else {
-                unreachable!()
-            };
-            put_back(alloc, rule, &alternatives[which].ty, chosen, out)
-        }
+        Ty::Choice(alternatives) => put_chosen(alloc, rule, alternatives, value, out),
         Ty::Explicit(tag, inner) => {
             put_end(rule, out)?;
             put_back(alloc, rule, inner, value, out)?;
             put_head(rule, *tag, start, out)
         }
     }
+}
+
+// Appends the encoding of the chosen alternative's value, turned round.
+#[cycle(back)]
+#[inline(always)]
+fn put_chosen(
+    alloc: Global,
+    rule: CanonicalRule,
+    alternatives: &[Alternative],
+    value: &Value,
+    out: &mut Vec<u8>,
+) -> Result<(), NoMemory>
+    requires nodes { HasGoodNodes (Shape.choice (alternatives_view alternatives.now)) }
+    requires conforms { Conforms (Shape.choice (alternatives_view alternatives.now)) (value_view value.now) }
+    ensures appended { OnOk result (Appends
+        (Turned (IsEncoding (rule_of rule) (Shape.choice (alternatives_view alternatives.now)) (value_view value.now))) out.old.items out.new.items) }
+    ensures kept { OnErr result (Keeps out.old.items out.new.items) }
+{
+    let Some((which, chosen)) = chosen_in(value) else {
+        unreachable!()
+    };
+    put_back(alloc, rule, &alternatives[which].ty, chosen, out)
 }
 
 // Appends the encodings of items, the last first, each turned round.
@@ -112,7 +130,7 @@ fn put_items(
     Ok(())
 }
 
-// The same, the greatest first.
+// Appends the encodings of items, the greatest first, each turned round.
 #[cycle(back)]
 fn put_in_order(
     alloc: Global,
@@ -187,7 +205,7 @@ fn put_components(
     Ok(())
 }
 
-// The same, those of the greatest tags first.
+// Appends the encodings of components, those of the greatest tags first, each turned round.
 #[cycle(back)]
 fn put_by_tag(
     alloc: Global,

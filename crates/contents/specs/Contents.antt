@@ -126,6 +126,10 @@ IsTextual _ = ⊥
 abbrev pub wide_view : List ℕ → Val
 wide_view octets = Val.simple (SimpleValue.wide_integer octets)
 
+-- the value of an OCTET STRING with these octets
+abbrev pub octets_view : List ℕ → Val
+octets_view octets = Val.string (StringValue.octets octets)
+
 -- the value of a character string or a time with these octets
 abbrev pub text_view : List ℕ → Val
 text_view octets = Val.string (StringValue.text octets)

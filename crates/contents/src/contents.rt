@@ -7,7 +7,7 @@ ghost use Rattle.types.specs.Conforms.{Conforms};
 ghost use Rattle.types.specs.Leaf.{IsLeaf};
 ghost use Rattle.types.specs.Refusal.{IsFinal};
 ghost use Rattle.types.specs.View.{ty_view, value_view};
-ghost use Rattle.contents.specs.Contents.{HoldsNoValue, HoldsValue, IsEnumerated, IsOfContents, IsTextual, refusal_of_fault, text_view, wide_view};
+ghost use Rattle.contents.specs.Contents.{HoldsNoValue, HoldsValue, IsEnumerated, IsOfContents, IsTextual, octets_view, refusal_of_fault, text_view, wide_view};
 
 use primitives::{
     Fault, is_wide_integer, read_bits, read_boolean, read_integer, read_null, read_oid,
@@ -57,10 +57,7 @@ pub fn read_contents(alloc: Global, ty: &Ty, contents: &[u8]) -> Result<Value, R
             Ok(bits) => Ok(Value::Bits(bits.trimmed())),
             Err(fault) => Err(refusal_of(fault)),
         },
-        Ty::Octets(_) => match Vec::from_slice(alloc, contents) {
-            Ok(octets) => Ok(Value::Octets(octets)),
-            Err(_) => Err(Refusal::NoMemory),
-        },
+        Ty::Octets(_) => read_octets(alloc, contents),
         Ty::Text(_, _) => read_text(alloc, ty, contents),
         Ty::Time(_, _) => read_text(alloc, ty, contents),
         Ty::Sequence(_, _) => Err(Refusal::Form),
@@ -103,6 +100,17 @@ fn read_item(ty: &Ty, contents: &[u8]) -> Result<Value, Refusal>
         Ok(value)
     } else {
         Err(Refusal::Contents)
+    }
+}
+
+// The OCTET STRING whose octets the contents octets are (X.690 8.7.2).
+fn read_octets(alloc: Global, contents: &[u8]) -> Result<Value, Refusal>
+    ensures value { IfOk result (λ value. value_view value ≡ octets_view contents.now) }
+    ensures numbers { IfErr result (λ refusal. refusal ≡ Refusal.NoMemory) }
+{
+    match Vec::from_slice(alloc, contents) {
+        Ok(octets) => Ok(Value::Octets(octets)),
+        Err(_) => Err(Refusal::NoMemory),
     }
 }
 

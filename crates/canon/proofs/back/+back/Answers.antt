@@ -10,6 +10,7 @@ use Rattle.types.specs.declared.ty.Ty.{Ty}
 use Rattle.types.specs.declared.ty.Ty as node
 use Rattle.types.specs.declared.ty.Field.{Field}
 use Rattle.types.specs.declared.ty.Field as field
+use Rattle.types.specs.declared.ty.Alternative.{Alternative}
 use Rattle.types.specs.declared.ty.Alternative as alternative
 use Rattle.types.specs.declared.value.Value.{Value}
 use Rattle.types.specs.Shape.{Val, Shape, Slots, listed}
@@ -17,7 +18,7 @@ use Rattle.types.specs.View.{ty_view, value_view, components_view, slots_view, a
 use Rattle.types.specs.Conforms.{Conforms}
 use Rattle.types.specs.Form.{IsConstructed}
 use Rattle.types.specs.Encoding.{IsEncoding}
-use Rattle.types.proofs.ViewLemmas.{ty-Sequence, ty-Set, ty-SequenceOf, ty-SetOf, ty-Choice, ty-Explicit}
+use Rattle.types.proofs.ViewLemmas.{ty-Sequence, ty-Set, ty-SequenceOf, ty-SetOf, ty-Explicit}
 use Rattle.canon.specs.Node.{HasGoodNodes, IsAround, AreItems, AreItemsInOrder, AreComponents, AreComponentsByTag}
 use Rattle.canon.specs.Leaf.{IsLeafEncoding}
 use Rattle.canon.specs.Part.{IsPut, AreLaid, Keeps}
@@ -54,40 +55,49 @@ put_back-returns-in-Boolean-clause-appended t c =
     let alike = leaf_alike rule (rule_is_canonical c.args.rule) tag shape v (leaf_view c.args.ty.now tag c.in-Boolean.is) c.requires.conforms in
     appended_by c.put_leaf.result (Turned (IsLeafEncoding rule tag v)) (Turned (IsEncoding rule shape v)) c.args.out.now.items c.put_leaf.new.out.items (λ b h. alike.to (reverse b) h) c.put_leaf.ensures.appended
 
-pub put_back-index-requires : goal.put_back-index-requires
-put_back-index-requires t c =
-    let alternatives = c.in-Choice.alternatives in
-    let is = ap ty_view c.in-Choice.is ∙ ty-Choice alternatives in
-    let parts = choice_parts alternatives.items (value_view c.args.value.now) (subst (λ (s : Shape). Conforms s (value_view c.args.value.now)) is c.requires.conforms) (subst HasGoodNodes is c.requires.nodes) in
+pub put_chosen-offset_bounds-alternatives-which : goal.put_chosen-offset_bounds-alternatives-which
+put_chosen-offset_bounds-alternatives-which t c =
+    let parts = choice_parts c.args.alternatives.now (value_view c.args.value.now) c.requires.conforms c.requires.nodes in
     let told = c.in-Some.ensures parts.which parts.value parts.is in
-    omega (arith, told.0, parts.alternative.there, alternatives.ok.0)
+    let below : c.in-Some.which < length c.args.alternatives.now = omega (arith, told.0, parts.alternative.there) in
+    search (rules, below)
 
-pub put_back-put_back-requires : goal.put_back-put_back-requires
-put_back-put_back-requires t c =
-    let alternatives = c.in-Choice.alternatives in
-    let is = ap ty_view c.in-Choice.is ∙ ty-Choice alternatives in
-    let parts = choice_parts alternatives.items (value_view c.args.value.now) (subst (λ (s : Shape). Conforms s (value_view c.args.value.now)) is c.requires.conforms) (subst HasGoodNodes is c.requires.nodes) in
+pub put_chosen-bounds-alternatives-which : goal.put_chosen-bounds-alternatives-which
+put_chosen-bounds-alternatives-which t c =
+    let parts = choice_parts c.args.alternatives.now (value_view c.args.value.now) c.requires.conforms c.requires.nodes in
     let told = c.in-Some.ensures parts.which parts.value parts.is in
-    let a = c.index.result.now in
-    let at : a ≡ get_or alternatives.items parts.which a = c.index.ensures ∙ ap (λ k. get_or alternatives.items k a) told.0 in
-    (search (rules, node.the_lemmas, alternative.the_lemmas), (parts.alternative.nodes a at, subst (Conforms (ty_view a.ty)) (sym told.1) (parts.alternative.conforms a at)))
+    omega (arith, told.0, parts.alternative.there)
 
-pub put_back-returns-in-Some-clause-appended : goal.put_back-returns-in-Some-clause-appended
-put_back-returns-in-Some-clause-appended t c =
+pub put_chosen-put_back-requires : goal.put_chosen-put_back-requires
+put_chosen-put_back-requires t c =
+    let alternatives = c.args.alternatives.now in
+    let parts = choice_parts alternatives (value_view c.args.value.now) c.requires.conforms c.requires.nodes in
+    let told = c.in-Some.ensures parts.which parts.value parts.is in
+    let a = c.index-alternatives-which.result in
+    let at : a ≡ get_or alternatives parts.which a = c.index-alternatives-which.is ∙ ap (λ k. get_or alternatives k a) told.0 in (
+      search (rules, node.the_lemmas, alternative.the_lemmas),
+      (
+        subst (λ (x : Alternative). HasGoodNodes (ty_view x.ty)) c.index-alternatives-which.is (parts.alternative.nodes a at),
+        subst (λ (x : Alternative). Conforms (ty_view x.ty) (value_view c.in-Some.chosen.now)) c.index-alternatives-which.is (subst (Conforms (ty_view a.ty)) (sym told.1) (parts.alternative.conforms a at)),
+      ),
+    )
+
+pub put_chosen-returns-clause-appended : goal.put_chosen-returns-clause-appended
+put_chosen-returns-clause-appended t c =
     let rule = rule_of c.args.rule in
     let v = value_view c.args.value.now in
-    let alternatives = c.in-Choice.alternatives in
-    let is = ap ty_view c.in-Choice.is ∙ ty-Choice alternatives in
-    let parts = choice_parts alternatives.items v (subst (λ (s : Shape). Conforms s v) is c.requires.conforms) (subst HasGoodNodes is c.requires.nodes) in
+    let alternatives = c.args.alternatives.now in
+    let shape = Shape.choice (alternatives_view alternatives) in
+    let parts = choice_parts alternatives v c.requires.conforms c.requires.nodes in
     let told = c.in-Some.ensures parts.which parts.value parts.is in
-    let a = c.index.result.now in
-    let at : a ≡ get_or alternatives.items parts.which a = c.index.ensures ∙ ap (λ k. get_or alternatives.items k a) told.0 in
-    let alike = alike-chain _ _ _ (parts.alternative.encodes rule a at) (choice_alike rule (alternatives_view alternatives.items) parts.which parts.value) in
-    appended_by c.put_back.result (Turned (IsEncoding rule (ty_view a.ty) (value_view c.in-Some.chosen.now))) (Turned (IsEncoding rule (ty_view c.args.ty.now) v)) c.args.out.now.items c.put_back.new.out.items
+    let a = c.index-alternatives-which.result in
+    let at : a ≡ get_or alternatives parts.which a = c.index-alternatives-which.is ∙ ap (λ k. get_or alternatives k a) told.0 in
+    let alike = alike-chain _ _ _ (parts.alternative.encodes rule a at) (choice_alike rule (alternatives_view alternatives) parts.which parts.value) in
+    appended_by c.put_back.result (Turned (IsEncoding rule (ty_view a.ty) (value_view c.in-Some.chosen.now))) (Turned (IsEncoding rule shape v)) c.args.out.now.items c.put_back.new.out.items
     (λ b h.
     let here : IsEncoding rule (ty_view a.ty) parts.value (reverse b) = subst (λ (w : Val). IsEncoding rule (ty_view a.ty) w (reverse b)) told.1 h in
-    subst (λ (s : Shape). IsEncoding rule s v (reverse b)) (sym is) (subst (λ (w : Val). IsEncoding rule (Shape.choice (alternatives_view alternatives.items)) w (reverse b)) (sym parts.is) (alike.to (reverse b) here)))
-    c.put_back.ensures.appended
+    subst (λ (w : Val). IsEncoding rule shape w (reverse b)) (sym parts.is) (alike.to (reverse b) here))
+    (subst (λ (x : Alternative). OnOk c.put_back.result (Appends (Turned (IsEncoding rule (ty_view x.ty) (value_view c.in-Some.chosen.now))) c.args.out.now.items c.put_back.new.out.items)) (sym c.index-alternatives-which.is) c.put_back.ensures.appended)
 
 pub put_back-returns-in_ok-put_components-in-Sequence-clause-appended : goal.put_back-returns-in_ok-put_components-in-Sequence-clause-appended
 put_back-returns-in_ok-put_components-in-Sequence-clause-appended t c =
@@ -169,7 +179,7 @@ put_back-returns-in_ok-put_back-in-Explicit-clause-appended t c =
     let v = value_view c.args.value.now in
     let is : ty_view c.args.ty.now ≡ Shape.explicit tag type = ap ty_view c.in-Explicit.is ∙ ty-Explicit tag c.in-Explicit.inner in
     let one = c.put_end-in-Explicit.new.out.items in
-    let two = c.put_back-in-Explicit.new.out.items in
+    let two = c.put_back.new.out.items in
     let here : Appends (Turned (IsEncoding rule type v)) one two = subst (λ (e : Ty). Appends (Turned (IsEncoding rule (ty_view e) v)) one two) c.deref-in-Explicit.ensures c.in_ok-put_back-in-Explicit.ensures.appended in
     arm c.put_head-in-Explicit.result rule tag (IsEncoding rule type v) (IsEncoding rule (ty_view c.args.ty.now) v) c.len-start.result c.args.out.now.items one two c.put_head-in-Explicit.new.out.items
     (omega (arith, c.len-start.ensures)) c.in_ok-put_end-in-Explicit.ensures.appended here (λ b h. subst (λ (s : Shape). IsEncoding rule s v b) (sym is) ((explicit_alike rule tag type v).to b h)) c.put_head-in-Explicit.ensures.appended

@@ -1,14 +1,13 @@
-use Rattle.std.proofs.Common.{◌≡◌, ◌<◌, ℕ, false, ◌++◌, replicate, All, vec_items, Err, refl, sym, ap, ◌∙◌, subst, subst₂, arith}
+use Rattle.std.proofs.Common.{◌≡◌, ◌<◌, ℕ, false, ◌++◌, replicate, All, Err, refl, sym, ap, ◌∙◌, subst, subst₂, arith}
 use Rattle.std.proofs.lemmas.List.Elements.{All-from_get_or}
 use Rattle.octets.specs.Rule.{ber}
+use Rattle.octets.proofs.ResultLemmas.{IfOk-map}
 use Rattle.primitives.specs.declared.fault.Fault as fault
 use Rattle.types.specs.Refusal.{IsFinal}
-use Rattle.types.specs.Conforms.{Conforms}
-use Rattle.types.specs.Shape.{StringValue, Shape, Val}
-use Rattle.types.proofs.ViewLemmas.{ty-Bits, ty-NamedBits, ty-Octets, value-Octets}
+use Rattle.types.specs.Shape.{StringType, StringValue, Shape, Val}
+use Rattle.types.proofs.ViewLemmas.{ty-Bits, ty-NamedBits, ty-Octets}
 use Rattle.types.specs.View.{ty_view, value_view}
-use Rattle.types.specs.declared.value.Value.TheVariants.{Octets as OctetsValue}
-use Rattle.contents.specs.Contents.{HoldsContents, refusal_of_fault}
+use Rattle.contents.specs.Contents.{HoldsContents, HoldsValue, octets_view, refusal_of_fault}
 use Rattle.contents.proofs.contents.read_contents.Goals as goal
 
 contents_fault : (f : fault.Fault) → IsFinal (refusal_of_fault f) → f ≡ fault.TheVariants.Contents
@@ -30,15 +29,11 @@ returns-in-Err-read_bits-2-clause-none c = λ final v conforms holds.
     let bits = subst (λ (shape : Shape). HoldsContents ber shape v contents) (ap ty_view arm.is ∙ ty-NamedBits arm.field-0 arm.field-1) holds in
     c.in-Err-read_bits-2.ensures.none (ap Err known) (bits.spelt.bits ++ replicate bits.spelt.zeros false) bits.spelt.spelt
 
-pub returns-in-Ok-from_slice-clause-value : goal.returns-in-Ok-from_slice-clause-value
-returns-in-Ok-from_slice-clause-value c =
+pub returns-in-Octets-clause-value : goal.returns-in-Octets-clause-value
+returns-in-Octets-clause-value c =
     let contents = c.args.contents.now in
-    let octets = vec_items c.in-Ok-from_slice.octets in
-    let same : octets ≡ contents = c.in-Ok-from_slice.ensures.items in
     let fits : All (λ octet. octet < 256) contents = All-from_get_or {X = ℕ} (λ octet. octet < 256) contents 0 (λ i below. omega (arith, c.type_inv.contents i)) in
-    let v = Val.string (StringValue.octets octets) in
-    let viewed : value_view (OctetsValue c.in-Ok-from_slice.octets) ≡ v = value-Octets c.in-Ok-from_slice.octets in
-    subst₂ (λ (shape : Shape) (w : Val). Conforms shape w × HoldsContents ber shape w contents) (sym (ap ty_view c.in-Octets.is ∙ ty-Octets c.in-Octets.field-0)) (sym viewed) (
-      subst (All (λ octet. octet < 256)) (sym same) fits,
-      record { value = StringValue.octets octets; is = refl; spelt = ap StringValue.octets same },
-    )
+    let holds : HoldsValue ber (Shape.string c.in-Octets.field-0 StringType.octet_string) (octets_view contents) contents = (fits, record { value = StringValue.octets contents; is = refl; spelt = refl }) in
+    IfOk-map c.read_octets.result _ (λ value. HoldsValue ber (ty_view c.args.ty.now) (value_view value) contents)
+    (λ value is. subst₂ (λ (shape : Shape) (w : Val). HoldsValue ber shape w contents) (sym (ap ty_view c.in-Octets.is ∙ ty-Octets c.in-Octets.field-0)) (sym is) holds)
+    c.read_octets.ensures.value
