@@ -5,8 +5,11 @@
 //! to a reader that goes part by part: what is not read here has taken nothing.
 #![tactic(auto)]
 
+mod components;
 mod heads;
+mod items;
 mod leaf;
+mod members;
 mod reading;
 
 pub use reading::read_whole;
