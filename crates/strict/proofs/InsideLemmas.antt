@@ -16,6 +16,7 @@ use Rattle.strict.specs.Head.{HasDefinite, IsDefiniteAt, HasConstructed, IsOpene
 -- of the definite form
 pub opened_definite : (tag : Tag) (room start size : ℕ) (octets : List ℕ) → IsDefiniteAt tag true room octets start size → IsOpened der tag room octets record { start = start; room = size; definite = true }
 opened_definite tag room start size octets h = record {
+  form = refl;
   there = h.there;
   fits = omega (arith, h.fits);
   makes = λ contents fills. subst (λ x. IsConstructed der tag contents (take start octets ++ x)) (sym (append-nil contents)) (h.makes contents (fills.exact refl));
@@ -65,6 +66,7 @@ opened_indefinite tag room i used octets there id h =
     let behind = drop i octets in
     let one : used ≡ 1 = sym (length-take-le used behind h.there) ∙ ap length h.mark in
     record {
+      form = refl;
       there = omega (arith, there, h.there, length-drop i octets);
       fits = omega (arith, h.fits);
       makes = λ contents fills. record {

@@ -20,6 +20,8 @@ pub mod SequenceLemmas
 pub mod ListLemmas
 pub mod OrderedLemmas
 pub mod ChosenLemmas
+pub mod EndingLemmas
+pub mod EndingInstances
 pub mod AloneLemmas
 pub mod BegunLemmas
 pub mod MemberLemmas

@@ -1,7 +1,7 @@
 -- Encodings at the front by their identifier octets and length octets, and where their contents octets end.
-use Rattle.std.specs.Prelude.{◌≡◌, ◌+◌, ◌<◌, ◌≤◌, ℕ, Bool, true, false, List, [], ◌∷◌, ◌++◌, length, take, drop}
+use Rattle.std.specs.Prelude.{◌≡◌, ◌+◌, ◌<◌, ◌≤◌, ⊤, ℕ, Bool, true, false, List, [], ◌∷◌, ◌++◌, length, take, drop}
 use Rattle.octets.specs.declared.tag.Tag.{Tag}
-use Rattle.octets.specs.Rule.{Rule, der}
+use Rattle.octets.specs.Rule.{Rule, ber, cer, der}
 use Rattle.types.specs.Form.{IsDefinite, IsConstructed}
 use Rattle.octets.specs.declared.TheConstants.{MAX_ENCODING}
 use Rattle.strict.specs.declared.canonical.Canonical.{Canonical}
@@ -34,6 +34,10 @@ pub record Fills (definite : Bool) (room : ℕ) (contents : List ℕ) : Type 0 w
   pub within : length contents ≤ room
   pub exact : definite ≡ true → length contents ≡ room
 
+-- fewer octets than so many contents octets and the end behind them
+abbrev pub AreFewer : Bool → ℕ → List ℕ → Type 0
+AreFewer definite room octets = length octets < room + length (mark definite)
+
 -- the octets begin with a constructed encoding
 pub record HasConstructed (rule : Rule) (tag : Tag) (room : ℕ) (octets : List ℕ) : Type 0 where
   pub contents : List ℕ
@@ -43,8 +47,15 @@ pub record HasConstructed (rule : Rule) (tag : Tag) (room : ℕ) (octets : List 
   pub fits : length part ≤ room
   pub parts : octets ≡ part ++ rest
 
+-- 9.1 and 10.1: the form that the rule has of constructed encodings is this
+abbrev pub IsFormOf : Rule → Bool → Type 0
+IsFormOf ber definite = ⊤
+IsFormOf cer definite = definite ≡ false
+IsFormOf der definite = definite ≡ true
+
 -- what was read before its contents octets
 pub record IsOpened (rule : Rule) (tag : Tag) (room : ℕ) (octets : List ℕ) (inside : Inside) : Type 0 where
+  pub form : IsFormOf rule inside.definite
   pub there : inside.start ≤ length octets
   pub fits : inside.start + inside.room + length (mark inside.definite) ≤ room
   pub makes : (contents : List ℕ) → Fills inside.definite inside.room contents → IsConstructed rule tag contents (take inside.start octets ++ (contents ++ mark inside.definite))

@@ -3,6 +3,7 @@ pub mod Canonical
 pub mod Bars
 pub mod Head
 pub mod Leaf
+pub mod Begun
 pub mod Segments
 pub mod Reading
 pub mod Items

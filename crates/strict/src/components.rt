@@ -9,10 +9,11 @@ ghost use Rattle.types.specs.View.{components_view, field_view};
 ghost use Rattle.contents.specs.Parts.{IsGoodType, IsGoodComponent};
 ghost use Rattle.strict.specs.Canonical.{rule_of};
 ghost use Rattle.strict.specs.Bars.{Bars};
-ghost use Rattle.strict.specs.Head.{EndsHere};
+ghost use Rattle.strict.specs.Head.{EndsHere, AreFewer};
 ghost use Rattle.strict.specs.Reading.{IsRead, HasPart};
 ghost use Rattle.strict.specs.Components.{IsFront, HasPresent, IsPresentRead, HasComponents, AreComponentsRead, IsComponentRead, BarsComponents};
 ghost use Rattle.strict.specs.Refusal.{IsOfStrictReading};
+ghost use Rattle.strict.specs.Begun.{IsBegun};
 
 use crate::canonical::Canonical;
 use crate::fronts::{front_tag, is_left_out, is_next, is_spelt_out, left_over, not_next};
@@ -39,6 +40,7 @@ pub fn read_sequence(
     requires room { room ≤ MAX_ENCODING }
     ensures value { IfOk result (λ used. IsRead (rule_of rule) (Shape.sequence tag (components_view fields.now)) room octets.now slot.new used) }
     ensures refused { IfErr result (λ refusal. Bars refusal (HasPart (rule_of rule) (Shape.sequence tag (components_view fields.now)) room) octets.now) }
+    ensures cut { IfErr result (λ refusal. refusal ≡ Refusal.Truncated → IsBegun rule (Shape.sequence tag (components_view fields.now)) room octets.now) }
     ensures numbers { IfErr result IsOfStrictReading }
 {
     let inside = opened(rule, tag, room, octets)?;
@@ -73,6 +75,7 @@ fn read_components(
     ensures value { IfOk result (λ used. AreComponentsRead (rule_of rule) (map field_view fields.now) [] inside.now.definite inside.now.room octets.now slots.new.items used
         × EndsHere inside.now.definite (inside.now.room - used) (drop used octets.now)) }
     ensures refused { IfErr result (λ refusal. Bars refusal (HasComponents (rule_of rule) (map field_view fields.now) inside.now.definite inside.now.room) octets.now) }
+    ensures cut { IfErr result (λ refusal. refusal ≡ Refusal.Truncated → AreFewer inside.now.definite inside.now.room octets.now) }
     ensures numbers { IfErr result IsOfStrictReading }
 {
     let mut at = 0;
@@ -96,7 +99,8 @@ fn read_components(
 }
 
 // Reads the encoding of the component at the front, which has this place, if it stands there, or none where it may be
-// absent. Most that are absent are the last ones, and for those no octet is looked at.
+// absent. Most that are absent are the last ones, and for those no octet is looked at. Any other is read at once, and
+// only where that is refused its tag is looked at.
 #[cycle(reading)]
 #[inline(always)]
 fn read_component(
@@ -115,38 +119,13 @@ fn read_component(
     requires place { place < length fields.now }
     ensures value { IfOk result (λ used. IsComponentRead (rule_of rule) (field_view field.now) definite room octets.now slot.new used) }
     ensures refused { IfErr result (λ refusal. BarsComponents (rule_of rule) (field_view field.now) definite room octets.now refusal) }
+    ensures cut { IfErr result (λ refusal. refusal ≡ Refusal.Truncated → AreFewer definite room octets.now) }
     ensures numbers { IfErr result IsOfStrictReading }
 {
     if is_left_out(&field.presence, definite, room) {
         clear(slot);
         return Ok(0);
     }
-    read_next(
-        alloc, rule, field, fields, place, definite, room, octets, slot,
-    )
-}
-
-// Reads the encoding of the component, or none, where there may be more. It is read at once, and only where that is
-// refused its tag is looked at.
-#[cycle(reading)]
-fn read_next(
-    alloc: Global,
-    rule: Canonical,
-    field: &Field,
-    fields: &[Field],
-    place: usize,
-    definite: bool,
-    room: usize,
-    octets: &[u8],
-    slot: &mut Option<Value>,
-) -> Result<usize, Refusal>
-    requires good { IsGoodComponent (field_view field.now) }
-    requires room { room ≤ MAX_ENCODING }
-    requires place { place < length fields.now }
-    ensures value { IfOk result (λ used. IsComponentRead (rule_of rule) (field_view field.now) definite room octets.now slot.new used) }
-    ensures refused { IfErr result (λ refusal. BarsComponents (rule_of rule) (field_view field.now) definite room octets.now refusal) }
-    ensures numbers { IfErr result IsOfStrictReading }
-{
     match read_present(alloc, rule, field, room, octets, slot) {
         Ok(used) => Ok(used),
         Err(refusal) => {
@@ -177,6 +156,7 @@ pub fn read_present(
     requires room { room ≤ MAX_ENCODING }
     ensures value { IfOk result (λ used. IsPresentRead (rule_of rule) (field_view field.now) room octets.now slot.new used) }
     ensures refused { IfErr result (λ refusal. Bars refusal (HasPresent (rule_of rule) (field_view field.now) room) octets.now) }
+    ensures cut { IfErr result (λ refusal. refusal ≡ Refusal.Truncated → length octets.now < room) }
     ensures numbers { IfErr result IsOfStrictReading }
 {
     let used = read_one(alloc, rule, &field.ty, room, octets, slot)?;

@@ -3,7 +3,7 @@
 ghost use Rattle.std.specs.Prelude.{◌≡◌, ◌⊎◌, ◌≤◌, ◌++◌, ℕ, List, length, IfOk, IfErr};
 ghost use Rattle.contents.specs.Segments.{BeginsAboveZero};
 ghost use Rattle.strict.specs.Bars.{Bars};
-ghost use Rattle.strict.specs.Head.{EndsHere, IsEndKnown};
+ghost use Rattle.strict.specs.Head.{EndsHere, IsEndKnown, AreFewer};
 ghost use Rattle.strict.specs.Refusal.{IsOfStrictReading};
 
 use types::Refusal;
@@ -14,6 +14,7 @@ pub fn ends(definite: bool, room: usize, octets: &[u8]) -> Result<bool, Refusal>
     ensures value { IfOk result (λ ended. IsEndKnown ended definite room octets.now) }
     ensures refused { IfErr result (λ refusal.
         Bars refusal (λ o. EndsHere definite room o ⊎ BeginsAboveZero o) octets.now) }
+    ensures cut { IfErr result (λ refusal. refusal ≡ Refusal.Truncated → AreFewer definite room octets.now) }
     ensures numbers { IfErr result IsOfStrictReading }
 {
     if definite {

@@ -67,15 +67,16 @@ fn leaf_tag(ty: &Ty) -> Option<Tag>
 }
 
 // Puts the value into the slot that the contents octets are of a type without parts, as CER and DER have them. Where
-// they are those of none, or memory runs out, it says no more.
+// they are those of none, or memory runs out, it says no more. Of BOOLEAN and BIT STRING BER has others (X.690 11.1 and
+// 11.2): these stand apart, so that all other types are told apart once.
 fn fill_canonical(alloc: Global, ty: &Ty, contents: &[u8], slot: &mut Option<Value>) -> bool
     requires { IsLeaf (ty_view ty.now) }
     ensures { IsTrue result → IsFilled der (ty_view ty.now) contents.now slot.new }
 {
     match ty {
-        Ty::Boolean(_) | Ty::Bits(_) | Ty::NamedBits(_, _) => {
-            fill_narrowed(alloc, ty, contents, slot)
-        }
+        Ty::Boolean(_) => fill_truth(contents, slot),
+        Ty::Bits(_) => fill_bits(alloc, contents, slot),
+        Ty::NamedBits(_, _) => fill_value(alloc, ty, contents, slot),
         Ty::Integer(_)
         | Ty::Enumerated(_, _)
         | Ty::Null(_)
@@ -103,36 +104,8 @@ fn fill_alike(alloc: Global, ty: &Ty, contents: &[u8], slot: &mut Option<Value>)
     fill(alloc, ty, contents, slot)
 }
 
-// Fills in a value of which BER has contents octets that CER and DER do not have (X.690 11.1 and 11.2). It stands apart,
-// so that all other types are told apart once.
-#[inline(never)]
-fn fill_narrowed(alloc: Global, ty: &Ty, contents: &[u8], slot: &mut Option<Value>) -> bool
-    requires { IsLeaf (ty_view ty.now) }
-    ensures { IsTrue result → IsFilled der (ty_view ty.now) contents.now slot.new }
-{
-    match ty {
-        Ty::Boolean(_) => fill_truth(contents, slot),
-        Ty::Bits(_) => fill_bits(alloc, contents, slot),
-        Ty::NamedBits(_, _)
-        | Ty::Integer(_)
-        | Ty::Enumerated(_, _)
-        | Ty::Null(_)
-        | Ty::Oid(_)
-        | Ty::RelativeOid(_)
-        | Ty::Octets(_)
-        | Ty::Text(_, _)
-        | Ty::Time(_, _)
-        | Ty::Sequence(_, _)
-        | Ty::Set(_, _)
-        | Ty::SequenceOf(_, _)
-        | Ty::SetOf(_, _)
-        | Ty::Choice(_)
-        | Ty::Explicit(_, _) => fill_value(alloc, ty, contents, slot),
-    }
-}
-
 // Fills in a BOOLEAN.
-#[inline(always)]
+#[inline(never)]
 fn fill_truth(contents: &[u8], slot: &mut Option<Value>) -> bool
     ensures { IsTrue result → MatchOption slot.new ⊥ (λ value. IsBooleanOf (value_view value) contents.now) }
 {
@@ -144,7 +117,7 @@ fn fill_truth(contents: &[u8], slot: &mut Option<Value>) -> bool
 }
 
 // Fills in a BIT STRING without named bits.
-#[inline(always)]
+#[inline(never)]
 fn fill_bits(alloc: Global, contents: &[u8], slot: &mut Option<Value>) -> bool
     ensures { IsTrue result → MatchOption slot.new ⊥ (λ value. IsBitsOf (value_view value) contents.now) }
 {

@@ -3,11 +3,12 @@
 ghost use Rattle.std.specs.Prelude.{◌≡◌, ⊤, false, ◌↔◌, ℕ, List, None, Contains, IsTrue, IfOk, IfErr, MatchOption};
 ghost use Rattle.types.specs.Conforms.{DiffersFromDefault, MayBeAbsent};
 ghost use Rattle.types.specs.FirstTags.{first_tags};
+ghost use Rattle.types.specs.Refusal.{IsFinal};
 ghost use Rattle.types.specs.View.{ty_view, value_view, requirement_view};
 ghost use Rattle.contents.specs.Parts.{IsSlotOf};
 ghost use Rattle.strict.specs.Bars.{Bars};
 ghost use Rattle.strict.specs.Components.{IsFront, EndsOrBegins};
-ghost use Rattle.strict.specs.Head.{EndsHere};
+ghost use Rattle.strict.specs.Head.{EndsHere, AreFewer};
 ghost use Rattle.strict.specs.Refusal.{IsOfStrictReading};
 
 use crate::ends::ends;
@@ -19,6 +20,7 @@ use types::{Field, Presence, Refusal, Ty, Value, may_be_absent};
 pub fn front_tag(definite: bool, room: usize, octets: &[u8]) -> Result<Option<Tag>, Refusal>
     ensures value { IfOk result (λ front. IsFront front definite room octets.now) }
     ensures refused { IfErr result (λ refusal. Bars refusal (EndsOrBegins definite room) octets.now) }
+    ensures cut { IfErr result (λ refusal. refusal ≡ Refusal.Truncated → AreFewer definite room octets.now) }
     ensures numbers { IfErr result IsOfStrictReading }
 {
     if ends(definite, room, octets)? {
@@ -49,7 +51,8 @@ pub fn is_left_out(presence: &Presence, definite: bool, room: usize) -> bool
 // Why what stands there is refused where a component must, before these.
 #[inline(never)]
 pub fn not_next(front: Option<Tag>, later: &[Field]) -> Refusal
-    ensures { IsOfStrictReading result }
+    ensures never { IsFinal result }
+    ensures numbers { IsOfStrictReading result }
 {
     let Some(tag) = front else {
         return Refusal::Missing;
@@ -64,7 +67,8 @@ pub fn not_next(front: Option<Tag>, later: &[Field]) -> Refusal
 
 // Why the tag is refused behind the components that have these slots.
 pub fn left_over(tag: Tag, slots: &[Option<Value>]) -> Refusal
-    ensures { IsOfStrictReading result }
+    ensures never { IsFinal result }
+    ensures numbers { IsOfStrictReading result }
 {
     match slots.last() {
         Some(None) => not_due(tag),

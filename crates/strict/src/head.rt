@@ -10,6 +10,8 @@ ghost use Rattle.strict.specs.Canonical.{rule_of};
 ghost use Rattle.strict.specs.Bars.{Bars, MayFollow};
 ghost use Rattle.strict.specs.Head.{IsDefiniteAt, HasDefinite, IsInsideDefinite, IsOpened, HasConstructed, mark};
 ghost use Rattle.strict.specs.Refusal.{IsOfStrictReading};
+ghost use Rattle.contents.specs.Cut.{IsIdentifierCut, IsLengthCut};
+ghost use Rattle.strict.specs.Begun.{IsConstructedCut};
 
 use crate::canonical::Canonical;
 use crate::short::short_opened;
@@ -35,6 +37,7 @@ pub fn read_its_tag(tag: Tag, room: usize, octets: &[u8]) -> Result<(bool, usize
     requires { tag.number ≤ MAX_TAG_NUMBER }
     ensures value { IfOk result (λ p. IsReadTag tag room 0 octets.now p.0 p.1) }
     ensures refused { IfErr result (λ refusal. Bars refusal (IsTagWithin tag room 0) octets.now) }
+    ensures cut { IfErr result (λ refusal. refusal ≡ Refusal.Truncated → IsIdentifierCut room 0 octets.now) }
     ensures numbers { IfErr result IsOfStrictReading }
 {
     let (found, constructed, used) = read_head_tag(room, 0, octets)?;
@@ -51,6 +54,7 @@ fn definite(tag: Tag, room: usize, octets: &[u8]) -> Result<(usize, usize), Refu
     requires room { room ≤ MAX_ENCODING }
     ensures value { IfOk result (λ p. IsDefiniteAt tag true room octets.now p.0 p.1) }
     ensures refused { IfErr result (λ refusal. Bars refusal (HasDefinite tag true room) octets.now) }
+    ensures cut { IfErr result (λ refusal. refusal ≡ Refusal.Truncated → IsConstructedCut Canonical.Der tag room octets.now) }
     ensures numbers { IfErr result IsOfStrictReading }
 {
     let (constructed, identifier) = read_its_tag(tag, room, octets)?;
@@ -76,6 +80,7 @@ pub fn read_size(room: usize, identifier: usize, octets: &[u8]) -> Result<(usize
     ensures value { IfOk result (λ p. IsReadDefinite room identifier (drop identifier octets.now) p.0 p.1) }
     ensures refused { IfErr result (λ refusal. (tag : Tag) → IsIdentifier tag false (take identifier octets.now) →
         Bars refusal (HasDefinite tag false room) octets.now) }
+    ensures cut { IfErr result (λ refusal. refusal ≡ Refusal.Truncated → IsLengthCut room identifier (drop identifier octets.now)) }
     ensures numbers { IfErr result IsOfStrictReading }
 {
     match read_extent(false, room, identifier, &octets[identifier..])? {
@@ -115,6 +120,7 @@ pub fn opened(rule: Canonical, tag: Tag, room: usize, octets: &[u8]) -> Result<I
     requires room { room ≤ MAX_ENCODING }
     ensures value { IfOk result (λ inside. IsOpened (rule_of rule) tag room octets.now inside) }
     ensures refused { IfErr result (λ refusal. Bars refusal (HasConstructed (rule_of rule) tag room) octets.now) }
+    ensures cut { IfErr result (λ refusal. refusal ≡ Refusal.Truncated → IsConstructedCut rule tag room octets.now) }
     ensures numbers { IfErr result IsOfStrictReading }
 {
     match short_opened(rule, tag, room, octets) {
@@ -130,6 +136,7 @@ fn long_opened(rule: Canonical, tag: Tag, room: usize, octets: &[u8]) -> Result<
     requires room { room ≤ MAX_ENCODING }
     ensures value { IfOk result (λ inside. IsOpened (rule_of rule) tag room octets.now inside) }
     ensures refused { IfErr result (λ refusal. Bars refusal (HasConstructed (rule_of rule) tag room) octets.now) }
+    ensures cut { IfErr result (λ refusal. refusal ≡ Refusal.Truncated → IsConstructedCut rule tag room octets.now) }
     ensures numbers { IfErr result IsOfStrictReading }
 {
     match rule {
@@ -152,6 +159,7 @@ pub fn indefinite(tag: Tag, room: usize, octets: &[u8]) -> Result<Inside, Refusa
     ensures value { IfOk result (λ inside. IsOpened (rule_of Canonical.Cer) tag room octets.now inside) }
     ensures form { IfOk result (λ inside. inside.definite ≡ false) }
     ensures refused { IfErr result (λ refusal. Bars refusal (HasConstructed (rule_of Canonical.Cer) tag room) octets.now) }
+    ensures cut { IfErr result (λ refusal. refusal ≡ Refusal.Truncated → IsConstructedCut Canonical.Cer tag room octets.now) }
     ensures numbers { IfErr result IsOfStrictReading }
 {
     let (form, identifier) = read_its_tag(tag, room, octets)?;
@@ -200,6 +208,7 @@ pub fn is_inside_definite(rule: Canonical, room: usize) -> bool
 // that has the definite form.
 pub fn named(rule: Canonical, room: usize, refusal: Refusal) -> Refusal
     ensures follows { (more : List ℕ) → MayFollow result more → MayFollow refusal more }
+    ensures cut { result ≡ Refusal.Truncated → refusal ≡ Refusal.Truncated }
     ensures numbers { IsOfStrictReading refusal → IsOfStrictReading result }
 {
     if refusal == Refusal::TooLong && is_inside_definite(rule, room) {

@@ -9,10 +9,11 @@ ghost use Rattle.types.specs.View.{ty_view};
 ghost use Rattle.contents.specs.Parts.{IsGoodType};
 ghost use Rattle.strict.specs.Canonical.{rule_of};
 ghost use Rattle.strict.specs.Bars.{Bars};
-ghost use Rattle.strict.specs.Head.{EndsHere};
+ghost use Rattle.strict.specs.Head.{EndsHere, AreFewer};
 ghost use Rattle.strict.specs.Reading.{IsRead, HasPart};
 ghost use Rattle.strict.specs.Items.{HasItems, AreItemsRead, HasOrdered, AreOrderedRead};
 ghost use Rattle.strict.specs.Refusal.{IsOfStrictReading};
+ghost use Rattle.strict.specs.Begun.{IsBegun};
 
 use crate::canonical::Canonical;
 use crate::ends::ends;
@@ -38,6 +39,7 @@ pub fn read_list(
     requires room { room ≤ MAX_ENCODING }
     ensures value { IfOk result (λ used. IsRead (rule_of rule) (Shape.sequence_of tag (ty_view inner.now)) room octets.now slot.new used) }
     ensures refused { IfErr result (λ refusal. Bars refusal (HasPart (rule_of rule) (Shape.sequence_of tag (ty_view inner.now)) room) octets.now) }
+    ensures cut { IfErr result (λ refusal. refusal ≡ Refusal.Truncated → IsBegun rule (Shape.sequence_of tag (ty_view inner.now)) room octets.now) }
     ensures numbers { IfErr result IsOfStrictReading }
 {
     let inside = opened(rule, tag, room, octets)?;
@@ -68,6 +70,7 @@ fn read_items(
     ensures value { IfOk result (λ used. AreItemsRead (rule_of rule) (ty_view inner.now) inside.now.definite inside.now.room octets.now items.new.items used
         × EndsHere inside.now.definite (inside.now.room - used) (drop used octets.now)) }
     ensures refused { IfErr result (λ refusal. Bars refusal (HasItems (rule_of rule) (ty_view inner.now) inside.now.definite inside.now.room) octets.now) }
+    ensures cut { IfErr result (λ refusal. refusal ≡ Refusal.Truncated → AreFewer inside.now.definite inside.now.room octets.now) }
     ensures numbers { IfErr result IsOfStrictReading }
 {
     let mut at = 0;
@@ -101,6 +104,7 @@ pub fn read_set_of(
     requires room { room ≤ MAX_ENCODING }
     ensures value { IfOk result (λ used. IsRead (rule_of rule) (Shape.set_of tag (ty_view inner.now)) room octets.now slot.new used) }
     ensures refused { IfErr result (λ refusal. Bars refusal (HasPart (rule_of rule) (Shape.set_of tag (ty_view inner.now)) room) octets.now) }
+    ensures cut { IfErr result (λ refusal. refusal ≡ Refusal.Truncated → IsBegun rule (Shape.set_of tag (ty_view inner.now)) room octets.now) }
     ensures numbers { IfErr result IsOfStrictReading }
 {
     let inside = opened(rule, tag, room, octets)?;
@@ -131,6 +135,7 @@ fn read_ordered(
     ensures value { IfOk result (λ used. (before : ℕ) × AreOrderedRead (rule_of rule) (ty_view inner.now) inside.now.definite inside.now.room octets.now items.new.items before used
         × EndsHere inside.now.definite (inside.now.room - used) (drop used octets.now)) }
     ensures refused { IfErr result (λ refusal. Bars refusal (HasOrdered (rule_of rule) (ty_view inner.now) inside.now.definite inside.now.room []) octets.now) }
+    ensures cut { IfErr result (λ refusal. refusal ≡ Refusal.Truncated → AreFewer inside.now.definite inside.now.room octets.now) }
     ensures numbers { IfErr result IsOfStrictReading }
 {
     let mut at = 0;

@@ -1,7 +1,7 @@
 //! Encodings of types without parts (X.690 8.2 to 8.8, 8.19, 8.20, 8.23, 8.25, 9.2 and 10.2): a primitive one, or a
 //! string that CER cuts.
 
-ghost use Rattle.std.specs.Prelude.{◌≡◌, ◌↔◌, ◌+◌, ◌≤◌, ℕ, List, true, false, IsTrue, IfOk, IfErr};
+ghost use Rattle.std.specs.Prelude.{◌≡◌, ◌↔◌, ◌+◌, ◌≤◌, ℕ, List, true, false, IsTrue, IfOk, IfErr, drop};
 ghost use Rattle.octets.specs.declared.TheConstants.{MAX_ENCODING};
 ghost use Rattle.octets.specs.declared.tag.Tag.{Tag};
 ghost use Rattle.types.specs.Leaf.{tag_of, IsLeaf};
@@ -13,6 +13,7 @@ ghost use Rattle.strict.specs.Refusal.{IsOfStrictReading};
 ghost use Rattle.strict.specs.Canonical.{rule_of};
 ghost use Rattle.strict.specs.Leaf.{HasPrimitive, IsPlace, IsWhole};
 ghost use Rattle.strict.specs.Reading.{HasPart, IsRead};
+ghost use Rattle.strict.specs.Begun.{IsBegun, IsPrimitiveBegun};
 
 use crate::canonical::Canonical;
 use crate::head::{is_inside_definite, is_shortest, read_its_tag, read_size};
@@ -40,6 +41,7 @@ pub fn read_leaf(
     requires room { room ≤ MAX_ENCODING }
     ensures value { IfOk result (λ used. IsRead (rule_of rule) (ty_view ty.now) room octets.now slot.new used) }
     ensures refused { IfErr result (λ refusal. Bars refusal (HasPart (rule_of rule) (ty_view ty.now) room) octets.now) }
+    ensures cut { IfErr result (λ refusal. refusal ≡ Refusal.Truncated → IsBegun rule (ty_view ty.now) room octets.now) }
     ensures numbers { IfErr result IsOfStrictReading }
 {
     let (constructed, identifier) = read_its_tag(tag, room, octets)?;
@@ -67,6 +69,7 @@ fn read_constructed(
     requires tagged { (identifier : ℕ) × IsReadTag tag room 0 octets.now true identifier }
     ensures value { IfOk result (λ used. IsRead (rule_of rule) (ty_view ty.now) room octets.now slot.new used) }
     ensures refused { IfErr result (λ refusal. Bars refusal (HasPart (rule_of rule) (ty_view ty.now) room) octets.now) }
+    ensures cut { IfErr result (λ refusal. refusal ≡ Refusal.Truncated → IsBegun rule (ty_view ty.now) room octets.now) }
     ensures numbers { IfErr result IsOfStrictReading }
 {
     let Some(kind) = kind_of(ty) else {
@@ -104,6 +107,7 @@ fn read_primitive(
     requires tagged { IsReadTag (tag_of (ty_view ty.now)) room 0 octets.now false identifier }
     ensures value { IfOk result (λ used. IsRead (rule_of rule) (ty_view ty.now) room octets.now slot.new used) }
     ensures refused { IfErr result (λ refusal. Bars refusal (HasPart (rule_of rule) (ty_view ty.now) room) octets.now) }
+    ensures cut { IfErr result (λ refusal. refusal ≡ Refusal.Truncated → IsPrimitiveBegun rule (ty_view ty.now) room identifier (drop identifier octets.now)) }
     ensures numbers { IfErr result IsOfStrictReading }
 {
     let (start, stop) = read_place(rule, ty, identifier, room, octets)?;
@@ -126,6 +130,7 @@ fn read_place(
     ensures place { IfOk result (λ p. IsPlace (tag_of (ty_view ty.now)) room octets.now p.0 p.1) }
     ensures whole { IfOk result (λ p. (size : ℕ) → p.1 ≡ p.0 + size → IsWhole rule (ty_view ty.now) size) }
     ensures refused { IfErr result (λ refusal. Bars refusal (HasPrimitive rule (ty_view ty.now) room) octets.now) }
+    ensures cut { IfErr result (λ refusal. refusal ≡ Refusal.Truncated → IsPrimitiveBegun rule (ty_view ty.now) room identifier (drop identifier octets.now)) }
     ensures numbers { IfErr result IsOfStrictReading }
 {
     let (size, used) = match read_size(room, identifier, octets) {
@@ -157,6 +162,7 @@ fn is_to_be_cut(rule: Canonical, ty: &Ty, size: usize) -> bool
 // passes the end of all, but not before one that passes the end of a definite encoding around it.
 fn why(rule: Canonical, ty: &Ty, room: usize, octets: &[u8], refusal: Refusal) -> Refusal
     ensures follows { (more : List ℕ) → MayFollow result more → MayFollow refusal more }
+    ensures cut { result ≡ Refusal.Truncated → refusal ≡ Refusal.Truncated }
     ensures numbers { IsOfStrictReading refusal → IsOfStrictReading result }
 {
     if refusal != Refusal::TooLong || is_inside_definite(rule, room) {

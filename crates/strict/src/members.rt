@@ -10,10 +10,11 @@ ghost use Rattle.types.specs.View.{field_view, components_view};
 ghost use Rattle.contents.specs.Parts.{IsGoodType, IsGoodComponent};
 ghost use Rattle.strict.specs.Canonical.{rule_of};
 ghost use Rattle.strict.specs.Bars.{Bars};
-ghost use Rattle.strict.specs.Head.{EndsHere};
+ghost use Rattle.strict.specs.Head.{EndsHere, AreFewer};
 ghost use Rattle.strict.specs.Reading.{IsRead, HasPart};
 ghost use Rattle.strict.specs.Members.{HasMembers, AreMembersRead, AreFilled};
 ghost use Rattle.strict.specs.Refusal.{IsOfStrictReading};
+ghost use Rattle.strict.specs.Begun.{IsBegun};
 
 use crate::canonical::Canonical;
 use crate::components::read_present;
@@ -42,6 +43,7 @@ pub fn read_set(
     requires room { room ≤ MAX_ENCODING }
     ensures value { IfOk result (λ used. IsRead (rule_of rule) (Shape.set tag (components_view fields.now)) room octets.now slot.new used) }
     ensures refused { IfErr result (λ refusal. Bars refusal (HasPart (rule_of rule) (Shape.set tag (components_view fields.now)) room) octets.now) }
+    ensures cut { IfErr result (λ refusal. refusal ≡ Refusal.Truncated → IsBegun rule (Shape.set tag (components_view fields.now)) room octets.now) }
     ensures numbers { IfErr result IsOfStrictReading }
 {
     let inside = opened(rule, tag, room, octets)?;
@@ -83,6 +85,7 @@ fn read_members(
         × ((last : Option TagOf) × AreMembersRead (rule_of rule) (map field_view fields.now) slots.new.items last inside.now.definite inside.now.room octets.now used)
         × EndsHere inside.now.definite (inside.now.room - used) (drop used octets.now)) }
     ensures refused { IfErr result (λ refusal. Bars refusal (HasMembers (rule_of rule) (map field_view fields.now) (map (λ c. None) (map field_view fields.now)) None inside.now.definite inside.now.room) octets.now) }
+    ensures cut { IfErr result (λ refusal. refusal ≡ Refusal.Truncated → AreFewer inside.now.definite inside.now.room octets.now) }
     ensures numbers { IfErr result IsOfStrictReading }
 {
     let mut at = 0;

@@ -1,15 +1,16 @@
 //! Values of any type, each part by a call that nests in that of what holds it.
 
-ghost use Rattle.std.specs.Prelude.{◌-◌, ◌≤◌, drop, IfOk, IfErr};
+ghost use Rattle.std.specs.Prelude.{◌-◌, ◌≤◌, drop, IfOk, IfErr, ◌≡◌};
 ghost use Rattle.octets.specs.declared.TheConstants.{MAX_ENCODING};
 ghost use Rattle.types.specs.Shape.{Shape};
 ghost use Rattle.types.specs.View.{alternatives_view, ty_view};
 ghost use Rattle.contents.specs.Parts.{IsGoodType};
 ghost use Rattle.strict.specs.Canonical.{rule_of};
 ghost use Rattle.strict.specs.Bars.{Bars};
-ghost use Rattle.strict.specs.Head.{EndsHere};
+ghost use Rattle.strict.specs.Head.{EndsHere, AreFewer};
 ghost use Rattle.strict.specs.Reading.{IsRead, HasPart, HasAlone};
 ghost use Rattle.strict.specs.Refusal.{IsOfStrictReading};
+ghost use Rattle.strict.specs.Begun.{IsBegun};
 
 use crate::canonical::Canonical;
 use crate::components::read_sequence;
@@ -40,6 +41,7 @@ pub fn read_one(
     requires room { room ≤ MAX_ENCODING }
     ensures value { IfOk result (λ used. IsRead (rule_of rule) (ty_view ty.now) room octets.now slot.new used) }
     ensures refused { IfErr result (λ refusal. Bars refusal (HasPart (rule_of rule) (ty_view ty.now) room) octets.now) }
+    ensures cut { IfErr result (λ refusal. refusal ≡ Refusal.Truncated → IsBegun rule (ty_view ty.now) room octets.now) }
     ensures numbers { IfErr result IsOfStrictReading }
 {
     match read_shortly(alloc, ty, room, octets, slot) {
@@ -62,6 +64,7 @@ fn read_any(
     requires room { room ≤ MAX_ENCODING }
     ensures value { IfOk result (λ used. IsRead (rule_of rule) (ty_view ty.now) room octets.now slot.new used) }
     ensures refused { IfErr result (λ refusal. Bars refusal (HasPart (rule_of rule) (ty_view ty.now) room) octets.now) }
+    ensures cut { IfErr result (λ refusal. refusal ≡ Refusal.Truncated → IsBegun rule (ty_view ty.now) room octets.now) }
     ensures numbers { IfErr result IsOfStrictReading }
 {
     match ty {
@@ -100,6 +103,7 @@ fn read_chosen(
     requires room { room ≤ MAX_ENCODING }
     ensures value { IfOk result (λ used. IsRead (rule_of rule) (Shape.choice (alternatives_view alternatives.now)) room octets.now slot.new used) }
     ensures refused { IfErr result (λ refusal. Bars refusal (HasPart (rule_of rule) (Shape.choice (alternatives_view alternatives.now)) room) octets.now) }
+    ensures cut { IfErr result (λ refusal. refusal ≡ Refusal.Truncated → IsBegun rule (Shape.choice (alternatives_view alternatives.now)) room octets.now) }
     ensures numbers { IfErr result IsOfStrictReading }
 {
     let (tag, _, _) = read_head_tag(room, 0, octets)?;
@@ -132,6 +136,7 @@ fn read_explicit(
     requires room { room ≤ MAX_ENCODING }
     ensures value { IfOk result (λ used. IsRead (rule_of rule) (Shape.explicit tag (ty_view inner.now)) room octets.now slot.new used) }
     ensures refused { IfErr result (λ refusal. Bars refusal (HasPart (rule_of rule) (Shape.explicit tag (ty_view inner.now)) room) octets.now) }
+    ensures cut { IfErr result (λ refusal. refusal ≡ Refusal.Truncated → IsBegun rule (Shape.explicit tag (ty_view inner.now)) room octets.now) }
     ensures numbers { IfErr result IsOfStrictReading }
 {
     let inside = opened(rule, tag, room, octets)?;
@@ -157,6 +162,7 @@ fn read_alone(
     ensures value { IfOk result (λ used. IsRead (rule_of rule) (ty_view ty.now) inside.now.room octets.now slot.new used
         × EndsHere inside.now.definite (inside.now.room - used) (drop used octets.now)) }
     ensures refused { IfErr result (λ refusal. Bars refusal (HasAlone (rule_of rule) (ty_view ty.now) inside.now.definite inside.now.room) octets.now) }
+    ensures cut { IfErr result (λ refusal. refusal ≡ Refusal.Truncated → AreFewer inside.now.definite inside.now.room octets.now) }
     ensures numbers { IfErr result IsOfStrictReading }
 {
     let used = read_one(alloc, rule, ty, inside.room, octets, slot)?;

@@ -2,6 +2,7 @@
 
 ghost use Rattle.std.specs.Prelude.{◌≡◌, ◌↔◌, ℕ, IsTrue, IfOk, IfErr, MatchOption, length, map};
 ghost use Rattle.types.specs.FirstTags.{AreDistinct, tags_of_components};
+ghost use Rattle.types.specs.Refusal.{IsFinal};
 ghost use Rattle.types.specs.View.{field_view, components_view};
 ghost use Rattle.strict.specs.Members.{IsBegunAt, IsEmptyAt, AreFilled};
 ghost use Rattle.strict.specs.Refusal.{IsOfStrictReading};
@@ -23,6 +24,7 @@ pub fn place_due(
         IsBegunAt (map field_view fields.now) place tag × IsEmptyAt slots.now place) }
     ensures never { IfErr result (λ refusal. (place : ℕ) →
         IsBegunAt (map field_view fields.now) place tag → ¬ IsEmptyAt slots.now place) }
+    ensures lasting { IfErr result IsFinal }
     ensures numbers { IfErr result IsOfStrictReading }
 {
     let Some(place) = place_of(fields, behind, tag) else {
@@ -73,7 +75,8 @@ fn first_begun(fields: &[Field], tag: Tag) -> Option<usize>
 
 // Why the tag is refused, which begins no component.
 fn none_due(slots: &[Option<Value>], tag: Tag) -> Refusal
-    ensures { IsOfStrictReading result }
+    ensures never { IsFinal result }
+    ensures numbers { IsOfStrictReading result }
 {
     for slot in slots {
         if slot.is_none() {

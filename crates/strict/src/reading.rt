@@ -11,6 +11,8 @@ ghost use Rattle.types.specs.View.{ty_view, value_view};
 ghost use Rattle.types.specs.WellFormed.{IsWellFormed};
 ghost use Rattle.strict.specs.Canonical.{rule_of};
 ghost use Rattle.strict.specs.Refusal.{IsOfStrictReading};
+ghost use Rattle.strict.specs.Begun.{IsBegun};
+ghost use Rattle.octets.specs.declared.TheConstants.{MAX_ENCODING};
 
 use crate::canonical::Canonical;
 use crate::parts::read_one;
@@ -22,8 +24,8 @@ use types::{Refusal, Value, WellTyped};
 /// `ty` and how many octets the encoding has. What stands behind it is not looked at.
 ///
 /// Refused at the first fault that stands in the octets: as BER refuses it, or with `NotCanonical` where BER takes it
-/// and DER does not. Refused with `Truncated` where the octets end inside the encoding, and with `NoMemory`. Takes
-/// memory for the value alone.
+/// and DER does not. Refused with `Truncated` where the octets end inside the encoding, and so much of its identifier
+/// octets and length octets as is there can be that of `ty`, and with `NoMemory`. Takes memory for the value alone.
 pub fn read_der(alloc: Global, ty: &WellTyped, octets: &[u8]) -> Result<(Value, usize), Refusal>
     ensures value { IfOk result (λ p. (p.1 ≤ length octets.now)
         × IsAccepted der (ty_view ty.now) (value_view p.0) (take p.1 octets.now)) }
@@ -32,6 +34,8 @@ pub fn read_der(alloc: Global, ty: &WellTyped, octets: &[u8]) -> Result<(Value, 
         (n ≡ p.1) × IsSame (ty_view ty.now) (value_view p.0) v) }
     ensures truncated { result ≡ Err Refusal.Truncated →
         ¬ HasFront (IsSomeAccepted der (ty_view ty.now)) octets.now }
+    ensures begun { result ≡ Err Refusal.Truncated →
+        IsBegun Canonical.Der (ty_view ty.now) MAX_ENCODING octets.now }
     ensures never { IfErr result (λ refusal. IsFinal refusal → (more : List ℕ) →
         ¬ HasFront (IsSomeAccepted der (ty_view ty.now)) (octets.now ++ more)) }
     ensures numbers { IfErr result IsOfStrictReading }
@@ -49,6 +53,8 @@ pub fn read_cer(alloc: Global, ty: &WellTyped, octets: &[u8]) -> Result<(Value, 
         (n ≡ p.1) × IsSame (ty_view ty.now) (value_view p.0) v) }
     ensures truncated { result ≡ Err Refusal.Truncated →
         ¬ HasFront (IsSomeAccepted cer (ty_view ty.now)) octets.now }
+    ensures begun { result ≡ Err Refusal.Truncated →
+        IsBegun Canonical.Cer (ty_view ty.now) MAX_ENCODING octets.now }
     ensures never { IfErr result (λ refusal. IsFinal refusal → (more : List ℕ) →
         ¬ HasFront (IsSomeAccepted cer (ty_view ty.now)) (octets.now ++ more)) }
     ensures numbers { IfErr result IsOfStrictReading }
@@ -71,6 +77,8 @@ pub fn read_canonical(
         (n ≡ p.1) × IsSame (ty_view ty.now) (value_view p.0) v) }
     ensures truncated { result ≡ Err Refusal.Truncated →
         ¬ HasFront (IsSomeAccepted (rule_of rule) (ty_view ty.now)) octets.now }
+    ensures begun { result ≡ Err Refusal.Truncated →
+        IsBegun rule (ty_view ty.now) MAX_ENCODING octets.now }
     ensures never { IfErr result (λ refusal. IsFinal refusal → (more : List ℕ) →
         ¬ HasFront (IsSomeAccepted (rule_of rule) (ty_view ty.now)) (octets.now ++ more)) }
     ensures numbers { IfErr result IsOfStrictReading }

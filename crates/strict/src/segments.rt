@@ -10,11 +10,13 @@ ghost use Rattle.types.specs.Refusal.{IsFinal};
 ghost use Rattle.types.specs.View.{ty_view, value_view};
 ghost use Rattle.contents.specs.Joined.{Element, HoldsPiece, IsHeld, IsStringOf, segment_of, string_of};
 ghost use Rattle.strict.specs.Bars.{Bars};
-ghost use Rattle.strict.specs.Head.{EndsHere};
+ghost use Rattle.strict.specs.Head.{EndsHere, AreFewer};
 ghost use Rattle.strict.specs.Leaf.{HasCut, HoldsSegment, IsOfSpelling, IsPlace, value_is};
 ghost use Rattle.strict.specs.Reading.{IsRead};
 ghost use Rattle.strict.specs.Segments.{AreSegmentsKnown, HasSomeSegments, IsJoinedSegment};
 ghost use Rattle.strict.specs.Refusal.{IsOfStrictReading};
+ghost use Rattle.strict.specs.Begun.{IsConstructedCut};
+ghost use Rattle.strict.specs.declared.canonical.Canonical.{Canonical};
 
 use crate::ends::ends;
 use crate::head::{indefinite, is_shortest, read_size};
@@ -46,6 +48,7 @@ pub fn read_cut(
     requires room { room ≤ MAX_ENCODING }
     ensures value { IfOk result (λ used. IsRead cer (ty_view ty.now) room octets.now slot.new used) }
     ensures refused { IfErr result (λ refusal. Bars refusal (HasCut kind (ty_view ty.now) room) octets.now) }
+    ensures cut { IfErr result (λ refusal. refusal ≡ Refusal.Truncated → IsConstructedCut Canonical.Cer tag room octets.now) }
     ensures numbers { IfErr result IsOfStrictReading }
 {
     let inside = indefinite(tag, room, octets)?;
@@ -72,6 +75,7 @@ fn read_segments(
     ensures value { IfOk result (λ used. AreSegmentsKnown kind room octets.now (string_of kind joined.new) used) }
     ensures held { OnOk result (IsHeld kind joined.new) }
     ensures refused { IfErr result (λ refusal. Bars refusal (HasSomeSegments kind true room) octets.now) }
+    ensures cut { IfErr result (λ refusal. refusal ≡ Refusal.Truncated → AreFewer false room octets.now) }
     ensures numbers { IfErr result IsOfStrictReading }
 {
     let mut at = 0;
@@ -102,6 +106,7 @@ fn read_segment(
     ensures whole { IfOk result (λ p. IsTrue p.1 → joined.new.unused ≡ 0) }
     ensures open { IfOk result (λ p. IsTrue full) }
     ensures refused { IfErr result (λ refusal. Bars refusal (HasSomeSegments kind full room) octets.now) }
+    ensures cut { IfErr result (λ refusal. refusal ≡ Refusal.Truncated → length octets.now < room) }
     ensures numbers { IfErr result IsOfStrictReading }
 {
     let (start, stop) = read_segment_place(kind, full, joined.unused, room, octets)?;
@@ -129,6 +134,7 @@ fn read_segment_place(
     ensures short { IfOk result (λ p. p.1 ≤ p.0 + 1000) }
     ensures open { IfOk result (λ p. IsTrue full) }
     ensures refused { IfErr result (λ refusal. Bars refusal (HasSomeSegments kind full room) octets.now) }
+    ensures cut { IfErr result (λ refusal. refusal ≡ Refusal.Truncated → length octets.now < room) }
     ensures numbers { IfErr result IsOfStrictReading }
 {
     let (constructed, identifier) = read_tag(segment_tag(kind), room, 0, octets)?;

@@ -1,4 +1,5 @@
 use Rattle.std.proofs.Common.{rules, ◌≡◌, ◌+◌, ◌-◌, ◌≤◌, ◌<◌, ◌⊎◌, inl, ◌++◌, ◌∷◌, ℕ, List, [], Option, Some, None, Err, length, map, take, drop, set, MatchOption, true, false, sym, ap, ◌∙◌, subst, subst₂, arith, refl}
+use Rattle.std.specs.List.{concat}
 use Rattle.std.specs.Ordering.{nat_cmp, is_lt}
 use Rattle.std.specs.Cmp.Lexicographic.{slice_cmp}
 use Rattle.std.proofs.lemmas.List.{take_rest, take_more_set, length-set, length-drop, length-map}
@@ -17,7 +18,7 @@ use Rattle.contents.specs.Parts.{IsGoodType, IsGoodComponent, IsSlotOf}
 use Rattle.contents.specs.Segments.{BeginsAboveZero}
 use Rattle.strict.specs.Canonical.{rule_of}
 use Rattle.strict.specs.Bars.{Bars}
-use Rattle.strict.specs.Head.{EndsHere, IsEndKnown}
+use Rattle.strict.specs.Head.{EndsHere, IsEndKnown, HasConstructed}
 use Rattle.strict.specs.Reading.{IsRead, HasPart, HasAlone}
 use Rattle.strict.specs.Items.{HasItems, AreItemsRead, HasOrdered, AreOrderedRead, between}
 use Rattle.strict.specs.Components.{IsFront, EndsOrBegins, HasPresent, IsPresentRead, HasComponents, AreComponentsRead, BarsComponents}
@@ -32,10 +33,11 @@ use Rattle.strict.proofs.SequenceLemmas.{absent_read, stands_read, present_stand
 use Rattle.strict.proofs.ListLemmas.{item_or_end, item_stands, item_read, items_inside, list_read}
 use Rattle.strict.proofs.OrderedLemmas.{ordered_or_end, ordered_stands, none_ordered, ordered_read, none_out_of_order, set_of_read, ordered_inside}
 use Rattle.strict.proofs.ChosenLemmas.{tag_of_part, choice_of_part, this_at, none_there, good_at, chosen_read}
-use Rattle.strict.proofs.AloneLemmas.{alone_inside, ends_alone, explicit_read}
+use Rattle.strict.proofs.AloneLemmas.{alone_inside, ends_alone, explicit_read, part_alone}
 use Rattle.strict.proofs.BegunLemmas.{begun_within, empty_length}
 use Rattle.strict.proofs.DueLemmas.{members_begin, members_filled, none_goes_on, is_due, present_due, none_before, begun_at, component_all}
 use Rattle.strict.proofs.SetLemmas.{come_length, no_members, member_more, set_read, members_inside, good_members}
+use Rattle.strict.proofs.EndingLemmas.{cut_through, never_cut, fewer_behind, less_behind, begun_short, opened_cut, begun_constructed, begun_chosen}
 use Rattle.strict.proofs.+reading.Goals as goal
 
 pub items::read_items-returns-in_err-ends-clause-refused : goal.items::read_items-returns-in_err-ends-clause-refused
@@ -447,12 +449,12 @@ components::read_component-returns-then-is_left_out-clause-value t c = λ others
     let may : MayBeAbsent view.requirement = subst MayBeAbsent (sym (field_requirement f)) left.1 in
     absent_read c.args.rule view others d room octets c.clear.new.slot c.clear.ensures may c.requires.good.type known
 
-pub components::read_next-returns-in-Ok-clause-value : goal.components::read_next-returns-in-Ok-clause-value
-components::read_next-returns-in-Ok-clause-value t c = λ others runs goods.
+pub components::read_component-returns-in-Ok-clause-value : goal.components::read_component-returns-in-Ok-clause-value
+components::read_component-returns-in-Ok-clause-value t c = λ others runs goods.
     stands_read c.args.rule (field_view c.args.field.now) others c.args.definite c.args.room c.args.octets.now c.read_present.new.slot c.in-Ok.used c.requires.good.type runs goods c.in-Ok.ensures.value
 
-pub components::read_next-returns-in_err-front-in-Err-clause-refused : goal.components::read_next-returns-in_err-front-in-Err-clause-refused
-components::read_next-returns-in_err-front-in-Err-clause-refused t c =
+pub components::read_component-returns-in_err-front-in-Err-clause-refused : goal.components::read_component-returns-in_err-front-in-Err-clause-refused
+components::read_component-returns-in_err-front-in-Err-clause-refused t c =
     let octets = c.args.octets.now in
     let rule = c.args.rule in
     let view = field_view c.args.field.now in
@@ -462,8 +464,8 @@ components::read_next-returns-in_err-front-in-Err-clause-refused t c =
     let Q = HasComponents (rule_of rule) (view ∷ others) d room in
     subst (λ x. Bars x Q octets) (sym is) (bars_by _ Q (EndsOrBegins d room) octets octets (λ more h. ends_or_begins rule (view ∷ others) d room (octets ++ more) (c.requires.good, goods) h) c.in_err-front-in-Err.ensures.refused))
 
-pub components::read_next-returns-then-is_next-clause-refused : goal.components::read_next-returns-then-is_next-clause-refused
-components::read_next-returns-then-is_next-clause-refused t c = λ others runs goods.
+pub components::read_component-returns-then-is_next-clause-refused : goal.components::read_component-returns-then-is_next-clause-refused
+components::read_component-returns-then-is_next-clause-refused t c = λ others runs goods.
     let octets = c.args.octets.now in
     let rule = c.args.rule in
     let f = c.args.field.now in
@@ -473,8 +475,8 @@ components::read_next-returns-then-is_next-clause-refused t c = λ others runs g
     let known : IsStandingKnown true view.type d room octets = subst₂ (λ b t. IsStandingKnown b t d room octets) c.if-is_next.true (sym (field_type f)) (front_known c.in_ok-front-in-Err.front c.is_next.result (ty_view f.ty) d room octets c.in_ok-front-in-Err.ensures.value c.is_next.ensures) in
     bars_by _ (HasComponents (rule_of rule) (view ∷ others) d room) (HasPresent (rule_of rule) view room) octets octets (λ more h. present_stands rule view others d room octets more runs goods known h) c.in-Err.ensures.refused
 
-pub components::read_next-returns-then-not-may_be_absent-clause-refused : goal.components::read_next-returns-then-not-may_be_absent-clause-refused
-components::read_next-returns-then-not-may_be_absent-clause-refused t c = λ others runs goods more may h.
+pub components::read_component-returns-then-not-may_be_absent-clause-refused : goal.components::read_component-returns-then-not-may_be_absent-clause-refused
+components::read_component-returns-then-not-may_be_absent-clause-refused t c = λ others runs goods more may h.
     let octets = c.args.octets.now in
     let f = c.args.field.now in
     let view = field_view f in
@@ -486,8 +488,8 @@ components::read_next-returns-then-not-may_be_absent-clause-refused t c = λ oth
     let no : c.may_be_absent.result ≡ false = c.if-not-may_be_absent.true in
     absurd cc
 
-pub components::read_next-returns-else-not-may_be_absent-clause-value : goal.components::read_next-returns-else-not-may_be_absent-clause-value
-components::read_next-returns-else-not-may_be_absent-clause-value t c = λ others runs goods.
+pub components::read_component-returns-else-not-may_be_absent-clause-value : goal.components::read_component-returns-else-not-may_be_absent-clause-value
+components::read_component-returns-else-not-may_be_absent-clause-value t c = λ others runs goods.
     let octets = c.args.octets.now in
     let f = c.args.field.now in
     let view = field_view f in
@@ -495,7 +497,7 @@ components::read_next-returns-else-not-may_be_absent-clause-value t c = λ other
     let room = c.args.room in
     let known : IsStandingKnown false view.type d room octets = subst₂ (λ b t. IsStandingKnown b t d room octets) c.if-is_next.false (sym (field_type f)) (front_known c.in_ok-front-in-Err.front c.is_next.result (ty_view f.ty) d room octets c.in_ok-front-in-Err.ensures.value c.is_next.ensures) in
     let may : MayBeAbsent view.requirement = subst MayBeAbsent (sym (field_requirement f)) (c.may_be_absent.ensures.0 c.if-not-may_be_absent.false) in
-    absent_read c.args.rule view others d room octets c.clear.new.slot c.clear.ensures may c.requires.good.type known
+    absent_read c.args.rule view others d room octets c.clear-in-Err.new.slot c.clear-in-Err.ensures may c.requires.good.type known
 
 pub components::read_present-returns-in_err-used-clause-refused : goal.components::read_present-returns-in_err-used-clause-refused
 components::read_present-returns-in_err-used-clause-refused t c =
@@ -768,3 +770,178 @@ members::read_set-returns-in-Err-clause-refused t c =
     let Q = HasPart rule (Shape.set c.args.tag (components_view c.args.fields.now)) c.args.room in
     let P = HasMembers rule components (map (λ k. None) components) None inside.definite inside.room in
     bars_inside c.in-Err.refusal c.named.result Q P octets inside.start c.named.ensures.follows (λ more h. members_inside c.args.rule c.args.tag components c.args.room octets more inside c.in_ok-inside.ensures.value h) c.in-Err.ensures.refused
+
+pub items::read_items-returns-in_err-ends-clause-cut : goal.items::read_items-returns-in_err-ends-clause-cut
+items::read_items-returns-in_err-ends-clause-cut t c =
+    let inside = c.args.inside.now in
+    let read = c.loop-item.invariant in
+    cut_through c.from_residual.result _ _ c.from_residual.ensures.1 (λ same. fewer_behind inside.definite inside.room c.loop-item.at c.args.octets.now read.within read.there (c.in_err-ends.ensures.cut same))
+
+pub items::read_items-returns-in_err-used-clause-cut : goal.items::read_items-returns-in_err-used-clause-cut
+items::read_items-returns-in_err-used-clause-cut t c =
+    let octets = c.args.octets.now in
+    let inside = c.args.inside.now in
+    let at = c.loop-item.at in
+    let read = c.loop-item.invariant in
+    cut_through c.from_residual-in_err-used.result _ _ c.from_residual-in_err-used.ensures.1
+    (λ same. less_behind inside.definite inside.room at octets read.within read.there (begun_short c.args.rule (ty_view c.args.inner.now) (inside.room - at) (take (length octets - at) (drop at octets)) (c.in_err-used.ensures.cut same)))
+
+pub items::read_ordered-returns-in_err-ends-clause-cut : goal.items::read_ordered-returns-in_err-ends-clause-cut
+items::read_ordered-returns-in_err-ends-clause-cut t c =
+    let inside = c.args.inside.now in
+    let read = c.loop-item.invariant in
+    cut_through c.from_residual.result _ _ c.from_residual.ensures.1 (λ same. fewer_behind inside.definite inside.room c.loop-item.at c.args.octets.now read.within read.there (c.in_err-ends.ensures.cut same))
+
+pub items::read_ordered-returns-in_err-used-clause-cut : goal.items::read_ordered-returns-in_err-used-clause-cut
+items::read_ordered-returns-in_err-used-clause-cut t c =
+    let octets = c.args.octets.now in
+    let inside = c.args.inside.now in
+    let at = c.loop-item.at in
+    let read = c.loop-item.invariant in
+    cut_through c.from_residual-in_err-used.result _ _ c.from_residual-in_err-used.ensures.1
+    (λ same. less_behind inside.definite inside.room at octets read.within read.there (begun_short c.args.rule (ty_view c.args.inner.now) (inside.room - at) (take (length octets - at) (drop at octets)) (c.in_err-used.ensures.cut same)))
+
+pub items::read_list-returns-in_err-inside-clause-cut : goal.items::read_list-returns-in_err-inside-clause-cut
+items::read_list-returns-in_err-inside-clause-cut t c =
+    cut_through c.from_residual.result _ _ c.from_residual.ensures.1 (λ same. begun_constructed c.args.rule (Shape.sequence_of c.args.tag (ty_view c.args.inner.now)) c.args.tag c.args.room c.args.octets.now (refl, refl) tt (c.in_err-inside.ensures.cut same))
+
+pub items::read_list-returns-in-Err-clause-cut : goal.items::read_list-returns-in-Err-clause-cut
+items::read_list-returns-in-Err-clause-cut t c = λ same.
+    let octets = c.args.octets.now in
+    begun_constructed c.args.rule (Shape.sequence_of c.args.tag (ty_view c.args.inner.now)) c.args.tag c.args.room octets (refl, refl) tt
+    (opened_cut c.args.rule c.args.tag c.args.room octets c.in_ok-inside.inside c.in_ok-inside.ensures.value (c.in-Err.ensures.cut (c.named.ensures.cut same)))
+
+pub items::read_set_of-returns-in_err-inside-clause-cut : goal.items::read_set_of-returns-in_err-inside-clause-cut
+items::read_set_of-returns-in_err-inside-clause-cut t c =
+    cut_through c.from_residual.result _ _ c.from_residual.ensures.1 (λ same. begun_constructed c.args.rule (Shape.set_of c.args.tag (ty_view c.args.inner.now)) c.args.tag c.args.room c.args.octets.now (refl, refl) tt (c.in_err-inside.ensures.cut same))
+
+pub items::read_set_of-returns-in-Err-clause-cut : goal.items::read_set_of-returns-in-Err-clause-cut
+items::read_set_of-returns-in-Err-clause-cut t c = λ same.
+    let octets = c.args.octets.now in
+    begun_constructed c.args.rule (Shape.set_of c.args.tag (ty_view c.args.inner.now)) c.args.tag c.args.room octets (refl, refl) tt
+    (opened_cut c.args.rule c.args.tag c.args.room octets c.in_ok-inside.inside c.in_ok-inside.ensures.value (c.in-Err.ensures.cut (c.named.ensures.cut same)))
+
+pub parts::read_explicit-returns-in_err-inside-clause-cut : goal.parts::read_explicit-returns-in_err-inside-clause-cut
+parts::read_explicit-returns-in_err-inside-clause-cut t c =
+    cut_through c.from_residual.result _ _ c.from_residual.ensures.1 (λ same. begun_constructed c.args.rule (Shape.explicit c.args.tag (ty_view c.args.inner.now)) c.args.tag c.args.room c.args.octets.now (refl, refl) tt (c.in_err-inside.ensures.cut same))
+
+pub parts::read_explicit-returns-in-Err-clause-cut : goal.parts::read_explicit-returns-in-Err-clause-cut
+parts::read_explicit-returns-in-Err-clause-cut t c = λ same.
+    let octets = c.args.octets.now in
+    begun_constructed c.args.rule (Shape.explicit c.args.tag (ty_view c.args.inner.now)) c.args.tag c.args.room octets (refl, refl) tt
+    (opened_cut c.args.rule c.args.tag c.args.room octets c.in_ok-inside.inside c.in_ok-inside.ensures.value (c.in-Err.ensures.cut (c.named.ensures.cut same)))
+
+pub components::read_sequence-returns-in_err-inside-clause-cut : goal.components::read_sequence-returns-in_err-inside-clause-cut
+components::read_sequence-returns-in_err-inside-clause-cut t c =
+    cut_through c.from_residual.result _ _ c.from_residual.ensures.1 (λ same. begun_constructed c.args.rule (Shape.sequence c.args.tag (components_view c.args.fields.now)) c.args.tag c.args.room c.args.octets.now (refl, refl) tt (c.in_err-inside.ensures.cut same))
+
+pub components::read_sequence-returns-in-Err-clause-cut : goal.components::read_sequence-returns-in-Err-clause-cut
+components::read_sequence-returns-in-Err-clause-cut t c = λ same.
+    let octets = c.args.octets.now in
+    begun_constructed c.args.rule (Shape.sequence c.args.tag (components_view c.args.fields.now)) c.args.tag c.args.room octets (refl, refl) tt
+    (opened_cut c.args.rule c.args.tag c.args.room octets c.in_ok-inside.inside c.in_ok-inside.ensures.value (c.in-Err.ensures.cut (c.named.ensures.cut same)))
+
+pub members::read_set-returns-in_err-inside-clause-cut : goal.members::read_set-returns-in_err-inside-clause-cut
+members::read_set-returns-in_err-inside-clause-cut t c =
+    cut_through c.from_residual.result _ _ c.from_residual.ensures.1 (λ same. begun_constructed c.args.rule (Shape.set c.args.tag (components_view c.args.fields.now)) c.args.tag c.args.room c.args.octets.now (refl, refl) tt (c.in_err-inside.ensures.cut same))
+
+pub members::read_set-returns-in-Err-clause-cut : goal.members::read_set-returns-in-Err-clause-cut
+members::read_set-returns-in-Err-clause-cut t c = λ same.
+    let octets = c.args.octets.now in
+    begun_constructed c.args.rule (Shape.set c.args.tag (components_view c.args.fields.now)) c.args.tag c.args.room octets (refl, refl) tt
+    (opened_cut c.args.rule c.args.tag c.args.room octets c.in_ok-inside.inside c.in_ok-inside.ensures.value (c.in-Err.ensures.cut (c.named.ensures.cut same)))
+
+pub parts::read_chosen-returns-in_err-tag-clause-cut : goal.parts::read_chosen-returns-in_err-tag-clause-cut
+parts::read_chosen-returns-in_err-tag-clause-cut t c =
+    cut_through c.from_residual.result _ _ c.from_residual.ensures.1 (λ same. inl (c.in_err-tag.ensures.cut (ap Err same)))
+
+pub parts::read_chosen-returns-in_err-used-clause-cut : goal.parts::read_chosen-returns-in_err-used-clause-cut
+parts::read_chosen-returns-in_err-used-clause-cut t c =
+    let found = c.in-Some.ensures in
+    cut_through c.from_residual-in_err-used.result _ _ c.from_residual-in_err-used.ensures.1
+    (λ same. begun_chosen c.args.rule c.args.alternatives.now c.in-Some.which c.in-Some.alternative.now c.args.room c.args.octets.now found.0 found.1 (c.in_err-used.ensures.cut same))
+
+pub parts::read_alone-returns-in_err-used-clause-cut : goal.parts::read_alone-returns-in_err-used-clause-cut
+parts::read_alone-returns-in_err-used-clause-cut t c =
+    let inside = c.args.inside.now in
+    cut_through c.from_residual.result _ _ c.from_residual.ensures.1 (λ same.
+    let short = begun_short c.args.rule (ty_view c.args.ty.now) inside.room c.args.octets.now (c.in_err-used.ensures.cut same) in
+    omega (arith, short))
+
+pub parts::read_alone-returns-in_err-front_tag-clause-cut : goal.parts::read_alone-returns-in_err-front_tag-clause-cut
+parts::read_alone-returns-in_err-front_tag-clause-cut t c =
+    let inside = c.args.inside.now in
+    let read = c.in_ok-used.ensures.value in
+    cut_through c.from_residual-in_err-front_tag.result _ _ c.from_residual-in_err-front_tag.ensures.1 (λ same. fewer_behind inside.definite inside.room c.in_ok-used.used c.args.octets.now read.1 read.0 (c.in_err-front_tag.ensures.cut same))
+
+pub components::read_components-returns-in_err-at-clause-cut : goal.components::read_components-returns-in_err-at-clause-cut
+components::read_components-returns-in_err-at-clause-cut t c =
+    let inside = c.args.inside.now in
+    let read = c.loop-place.invariant.0 in
+    cut_through c.from_residual.result _ _ c.from_residual.ensures.1 (λ same. fewer_behind inside.definite inside.room c.loop-place.at c.args.octets.now read.within read.there (c.in_err-at.ensures.cut same))
+
+pub components::read_components-returns-in_err-tag-clause-cut : goal.components::read_components-returns-in_err-tag-clause-cut
+components::read_components-returns-in_err-tag-clause-cut t c =
+    let inside = c.args.inside.now in
+    let read = c.loop-place.invariant.0 in
+    cut_through c.from_residual-in_err-tag.result _ _ c.from_residual-in_err-tag.ensures.1 (λ same. fewer_behind inside.definite inside.room c.loop-place.at c.args.octets.now read.within read.there (c.in_err-tag.ensures.cut same))
+
+pub components::read_components-returns-in-Some-clause-cut : goal.components::read_components-returns-in-Some-clause-cut
+components::read_components-returns-in-Some-clause-cut t c = never_cut c.left_over.result _ c.left_over.ensures.never
+
+pub components::read_component-returns-in_err-front-in-Err-clause-cut : goal.components::read_component-returns-in_err-front-in-Err-clause-cut
+components::read_component-returns-in_err-front-in-Err-clause-cut t c = cut_through c.from_residual.result _ _ c.from_residual.ensures.1 c.in_err-front-in-Err.ensures.cut
+
+pub components::read_component-returns-then-is_next-clause-cut : goal.components::read_component-returns-then-is_next-clause-cut
+components::read_component-returns-then-is_next-clause-cut t c = λ same. let short = c.in-Err.ensures.cut same in omega (arith, short)
+
+pub components::read_component-returns-then-not-may_be_absent-clause-cut : goal.components::read_component-returns-then-not-may_be_absent-clause-cut
+components::read_component-returns-then-not-may_be_absent-clause-cut t c = never_cut c.not_next.result _ c.not_next.ensures.never
+
+pub components::read_present-returns-in_err-used-clause-cut : goal.components::read_present-returns-in_err-used-clause-cut
+components::read_present-returns-in_err-used-clause-cut t c =
+    cut_through c.from_residual.result _ _ c.from_residual.ensures.1 (λ same. begun_short c.args.rule (ty_view c.args.field.now.ty) c.args.room c.args.octets.now (c.in_err-used.ensures.cut same))
+
+pub members::read_members-returns-in_err-tag-clause-cut : goal.members::read_members-returns-in_err-tag-clause-cut
+members::read_members-returns-in_err-tag-clause-cut t c =
+    let inside = c.args.inside.now in
+    let read = c.loop-tag.invariant in
+    cut_through c.from_residual.result _ _ c.from_residual.ensures.1 (λ same. fewer_behind inside.definite inside.room c.loop-tag.at c.args.octets.now read.within read.there (c.in_err-tag.ensures.cut same))
+
+pub members::read_members-returns-in_err-place-clause-cut : goal.members::read_members-returns-in_err-place-clause-cut
+members::read_members-returns-in_err-place-clause-cut t c = cut_through c.from_residual-in_err-place.result _ _ c.from_residual-in_err-place.ensures.1 (never_cut _ _ c.in_err-place.ensures.lasting)
+
+pub members::read_members-returns-in_err-at-clause-cut : goal.members::read_members-returns-in_err-at-clause-cut
+members::read_members-returns-in_err-at-clause-cut t c =
+    let inside = c.args.inside.now in
+    let read = c.loop-tag.invariant in
+    cut_through c.from_residual-in_err-at.result _ _ c.from_residual-in_err-at.ensures.1 (λ same. less_behind inside.definite inside.room c.loop-tag.at c.args.octets.now read.within read.there (c.in_err-at.ensures.cut same))
+
+pub members::read_set-returns-in_err-inside-clause-refused : goal.members::read_set-returns-in_err-inside-clause-refused
+members::read_set-returns-in_err-inside-clause-refused t c =
+    let octets = c.args.octets.now in
+    let rule = rule_of c.args.rule in
+    let Q = HasPart rule (Shape.set c.args.tag (components_view c.args.fields.now)) c.args.room in
+    let P = HasConstructed rule c.args.tag c.args.room in
+    let there : (more : List ℕ) → Q (octets ++ more) → P (octets ++ more) = λ more h. record { contents = concat h.encoding.order; part = h.part; rest = h.rest; whole = h.encoding.whole; fits = h.fits; parts = h.parts } in
+    bars_through c.from_residual.result _ Q octets c.from_residual.ensures.1 (bars_by _ Q P octets octets there c.in_err-inside.ensures.refused)
+
+pub parts::read_explicit-returns-in_err-inside-clause-refused : goal.parts::read_explicit-returns-in_err-inside-clause-refused
+parts::read_explicit-returns-in_err-inside-clause-refused t c =
+    let octets = c.args.octets.now in
+    let rule = rule_of c.args.rule in
+    let Q = HasPart rule (Shape.explicit c.args.tag (ty_view c.args.inner.now)) c.args.room in
+    let P = HasConstructed rule c.args.tag c.args.room in
+    let there : (more : List ℕ) → Q (octets ++ more) → P (octets ++ more) = λ more h. record { contents = h.encoding.inner; part = h.part; rest = h.rest; whole = h.encoding.whole; fits = h.fits; parts = h.parts } in
+    bars_through c.from_residual.result _ Q octets c.from_residual.ensures.1 (bars_by _ Q P octets octets there c.in_err-inside.ensures.refused)
+
+pub parts::read_alone-returns-in_err-used-clause-refused : goal.parts::read_alone-returns-in_err-used-clause-refused
+parts::read_alone-returns-in_err-used-clause-refused t c =
+    let octets = c.args.octets.now in
+    let rule = rule_of c.args.rule in
+    let type = ty_view c.args.ty.now in
+    let d = c.args.inside.now.definite in
+    let room = c.args.inside.now.room in
+    let Q = HasAlone rule type d room in
+    let P = HasPart rule type room in
+    bars_through c.from_residual.result _ Q octets c.from_residual.ensures.1 (bars_by _ Q P octets octets (λ more h. part_alone rule type d room (octets ++ more) h) c.in_err-used.ensures.refused)

@@ -1,8 +1,9 @@
-use Rattle.std.proofs.Common.{◌≡◌, inl, inr, [], false, Err, ap, sym, subst, rules, append-nil}
+use Rattle.std.proofs.Common.{◌≡◌, inl, inr, [], false, Err, ap, sym, subst, rules, append-nil, arith}
 use Rattle.strict.specs.Head.{EndsHere, IsEndKnown}
 use Rattle.strict.specs.Components.{EndsOrBegins}
 use Rattle.strict.proofs.BarsLemmas.{bars_of, bars_through}
 use Rattle.strict.proofs.FrontLemmas.{tag_read}
+use Rattle.strict.proofs.EndingLemmas.{cut_through}
 use Rattle.strict.proofs.fronts.front_tag.Goals as goal
 
 pub returns-in_err-tag-clause-refused : goal.returns-in_err-tag-clause-refused
@@ -23,3 +24,9 @@ returns-clause-value c =
     let off : c.in_ok-ends.field-0 ≡ false = search rules in
     let goes : IsEndKnown false c.args.definite c.args.room octets = subst (λ b. IsEndKnown b c.args.definite c.args.room octets) off c.in_ok-ends.ensures.value in
     (tag_read c.in_ok-tag.tag c.in_ok-tag.field-0-1 c.args.room c.in_ok-tag.field-0-2 octets c.in_ok-tag.ensures.value, goes)
+
+pub returns-in_err-ends-clause-cut : goal.returns-in_err-ends-clause-cut
+returns-in_err-ends-clause-cut c = cut_through c.from_residual.result _ _ c.from_residual.ensures.1 c.in_err-ends.ensures.cut
+
+pub returns-in_err-tag-clause-cut : goal.returns-in_err-tag-clause-cut
+returns-in_err-tag-clause-cut c = cut_through c.from_residual-in_err-tag.result _ _ c.from_residual-in_err-tag.ensures.1 (λ same. let h = c.in_err-tag.ensures.cut (ap Err same) in omega (arith, h.fits))

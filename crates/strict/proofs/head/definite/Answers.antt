@@ -1,4 +1,4 @@
-use Rattle.std.proofs.Common.{◌≡◌, true, false, ◌-◌, ◌++◌, length, take, drop, Err, ap, sym, ◌∙◌, subst, rules}
+use Rattle.std.proofs.Common.{◌≡◌, true, false, ◌-◌, ◌++◌, length, take, drop, Err, ap, sym, ◌∙◌, subst, rules, inl}
 use Rattle.std.proofs.lemmas.List.{take_rest, length-take-le}
 use Rattle.octets.specs.Identifier.{IsIdentifier}
 use Rattle.octets.proofs.FrontLemmas.{front_of_more}
@@ -7,6 +7,8 @@ use Rattle.contents.specs.Head.{IsTagWithin, IsExtentWithin, IsReadDefinite, IsR
 use Rattle.strict.specs.Head.{HasDefinite}
 use Rattle.strict.proofs.BarsLemmas.{bars_of, bars_by, bars_through}
 use Rattle.strict.proofs.HeadLemmas.{tag_of_definite, form_of_definite, behind_identifier, its_length, shortest_of, definite_at}
+use Rattle.strict.proofs.EndingLemmas.{cut_through, length_cut}
+use Rattle.strict.specs.declared.canonical.Canonical.TheVariants.{Der}
 use Rattle.strict.proofs.head.definite.Goals as goal
 
 pub returns-in_err-constructed-clause-refused : goal.returns-in_err-constructed-clause-refused
@@ -89,3 +91,15 @@ returns-in-Indefinite-clause-refused c = λ more may h.
     let b = behind_identifier c.args.tag j c.args.room i octets more tagged.there id h in
     no_length-128 (length h.contents) h.whole.size (h.contents ++ h.rest) (drop used (drop i octets) ++ more) h.whole.sized.form
     (sym (front_of_more used (drop i octets) more ∙ ap (λ x. x ++ (drop used (drop i octets) ++ more)) read.mark) ∙ b.parts)
+
+pub returns-in_err-constructed-clause-cut : goal.returns-in_err-constructed-clause-cut
+returns-in_err-constructed-clause-cut c = cut_through c.from_residual.result _ _ c.from_residual.ensures.1 (λ same. inl (c.in_err-constructed.ensures.cut same))
+
+pub returns-in_err-size-clause-cut : goal.returns-in_err-size-clause-cut
+returns-in_err-size-clause-cut c =
+    let octets = c.args.octets.now in
+    let i = c.in_ok-constructed.identifier in
+    let read = c.in_ok-constructed.ensures.value in
+    let form : c.in_ok-constructed.constructed ≡ true = search rules in
+    let id = subst (λ f. IsIdentifier c.args.tag f (take i octets)) form read.tagged in
+    cut_through c.from_residual-in_err-size.result _ _ c.from_residual-in_err-size.ensures.1 (λ same. length_cut Der c.args.tag c.args.room i octets read.there id (c.in_err-size.ensures.cut (ap Err same)))

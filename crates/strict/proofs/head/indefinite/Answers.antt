@@ -1,4 +1,4 @@
-use Rattle.std.proofs.Common.{◌≡◌, ◌-◌, ◌∷◌, ◌++◌, length, take, drop, true, Err, ap, sym, ◌∙◌, subst, rules}
+use Rattle.std.proofs.Common.{◌≡◌, ◌-◌, ◌∷◌, ◌++◌, length, take, drop, true, Err, ap, sym, ◌∙◌, subst, rules, inl}
 use Rattle.std.proofs.lemmas.List.{take_rest}
 use Rattle.octets.specs.Identifier.{IsIdentifier}
 use Rattle.octets.specs.Rule.{cer}
@@ -8,6 +8,8 @@ use Rattle.contents.specs.Head.{IsExtentWithin, IsReadDefinite, IsReadIndefinite
 use Rattle.strict.specs.Head.{HasConstructed}
 use Rattle.strict.proofs.BarsLemmas.{bars_of, bars_by, bars_through}
 use Rattle.strict.proofs.InsideLemmas.{behind_indefinite, opened_indefinite}
+use Rattle.strict.proofs.EndingLemmas.{cut_through, length_cut}
+use Rattle.strict.specs.declared.canonical.Canonical.TheVariants.{Cer}
 use Rattle.strict.proofs.head.indefinite.Goals as goal
 
 pub returns-in_err-used-clause-refused : goal.returns-in_err-used-clause-refused
@@ -49,3 +51,15 @@ returns-in-Definite-clause-refused c = λ more may h.
     let read : IsReadDefinite c.args.room i (drop i octets) n used = subst (λ x. IsReadDefinite c.args.room i x n used) all first in
     let b = behind_indefinite c.args.tag c.args.room i octets more tagged.there (subst (λ f. IsIdentifier c.args.tag f (take i octets)) form tagged.tagged) h in
     no_length-128 n (take used (drop i octets)) (drop used (drop i octets) ++ more) (h.contents ++ (0 ∷ 0 ∷ h.rest)) read.sized (sym b.parts ∙ front_of_more used (drop i octets) more)
+
+pub returns-in_err-form-clause-cut : goal.returns-in_err-form-clause-cut
+returns-in_err-form-clause-cut c = cut_through c.from_residual.result _ _ c.from_residual.ensures.1 (λ same. inl (c.in_err-form.ensures.cut same))
+
+pub returns-in_err-used-clause-cut : goal.returns-in_err-used-clause-cut
+returns-in_err-used-clause-cut c =
+    let octets = c.args.octets.now in
+    let i = c.in_ok-form.identifier in
+    let read = c.in_ok-form.ensures.value in
+    let form : c.in_ok-form.form ≡ true = search rules in
+    let id = subst (λ f. IsIdentifier c.args.tag f (take i octets)) form read.tagged in
+    cut_through c.from_residual-in_err-used.result _ _ c.from_residual-in_err-used.ensures.1 (λ same. length_cut Cer c.args.tag c.args.room i octets read.there id (c.in_err-used.ensures.cut (ap Err same)))

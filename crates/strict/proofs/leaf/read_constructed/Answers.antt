@@ -8,6 +8,7 @@ use Rattle.strict.specs.Leaf.{HasCut}
 use Rattle.strict.specs.Reading.{HasPart}
 use Rattle.strict.proofs.BarsLemmas.{bars_by}
 use Rattle.strict.proofs.LeafLemmas.{cut_of_part}
+use Rattle.strict.proofs.EndingLemmas.{begun_string}
 use Rattle.strict.proofs.leaf.read_constructed.Goals as goal
 
 pub returns-in_default-clause-refused : goal.returns-in_default-clause-refused
@@ -40,3 +41,7 @@ returns-else-cuts-clause-refused c = λ more may h.
     let id : IsIdentifier (tag_of type) true (take i octets) = subst (λ t. IsIdentifier t true (take i octets)) (sym c.requires.tag) c.requires.tagged.1.tagged in
     let told : true ≡ false = sym (c.cuts.ensures.1 (cut_of_part c.args.rule type c.args.room i octets more c.requires.leaf id h).by) ∙ c.if-cuts.false in
     absurd cc
+
+pub returns-then-cuts-clause-cut : goal.returns-then-cuts-clause-cut
+returns-then-cuts-clause-cut c =
+    IfErr-map c.read_cut.result _ _ (λ refusal cut same. begun_string c.args.rule (ty_view c.args.ty.now) c.args.tag c.args.room c.args.octets.now (c.cuts.ensures.0 c.if-cuts.true) c.requires.tag c.in-Some.ensures.string (cut same)) c.read_cut.ensures.cut

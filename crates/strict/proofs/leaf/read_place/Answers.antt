@@ -1,5 +1,5 @@
-use Rattle.std.proofs.Common.{◌≡◌, ◌++◌, true, false, length, take, drop, sym, ◌∙◌, ap, subst, arith}
-use Rattle.std.proofs.lemmas.List.{length-take-le, length-drop}
+use Rattle.std.proofs.Common.{◌≡◌, ◌++◌, true, false, length, take, drop, sym, ◌∙◌, ap, subst, arith, inl, inr}
+use Rattle.std.proofs.lemmas.List.{length-take-le, length-drop, take-append-drop}
 use Rattle.types.specs.Leaf.{tag_of}
 use Rattle.types.specs.View.{ty_view}
 use Rattle.contents.specs.Lengths.{CanHaveLength}
@@ -68,3 +68,34 @@ returns-clause-place c =
     let there = c.requires.tagged.there in
     let s : IsShortestLength n (take used (drop i octets)) = (c.is_shortest.ensures (take used (drop i octets)) read.sized (length-take-le used (drop i octets) read.there)).0 c.if-not-is_shortest.false in
     place_of (tag_of type) c.args.room i n used octets there c.requires.tagged.tagged read s (omega (arith, c.if-size-octets.false, there, read.there, length-drop i octets))
+
+pub returns-in-Err-clause-cut : goal.returns-in-Err-clause-cut
+returns-in-Err-clause-cut c = λ same. inl (c.in-Err.ensures.cut (c.why.ensures.cut same))
+
+pub returns-then-size-octets-clause-cut : goal.returns-then-size-octets-clause-cut
+returns-then-size-octets-clause-cut c = λ same.
+    let octets = c.args.octets.now in
+    let type = ty_view c.args.ty.now in
+    let i = c.args.identifier in
+    let n = c.in-Ok.read.0 in
+    let used = c.in-Ok.read.1 in
+    let read = c.in-Ok.ensures.value in
+    let behind = drop i octets in
+    let size = length-take-le used behind read.there in
+    let s : IsShortestLength n (take used behind) = (c.is_shortest.ensures (take used behind) read.sized size).0 c.if-not-is_shortest.false in
+    inr record {
+      contents = n;
+      can = c.can_have_length.ensures.0 c.if-not-can_have_length.false;
+      whole = c.is_to_be_cut.ensures.0 c.if-is_to_be_cut.false;
+      begun = record {
+        cut = record {
+          size = take used behind;
+          some = drop used behind;
+          sized = read.sized;
+          joined = sym (take-append-drop used behind);
+          fewer = omega (arith, c.if-size-octets.true, length-drop i octets, length-drop used behind);
+          fits = omega (arith, read.fits, size);
+        };
+        shortest = s;
+      };
+    }

@@ -6,6 +6,7 @@ use Rattle.strict.specs.Reading.{HasPart}
 use Rattle.strict.proofs.BarsLemmas.{bars_of, bars_by, bars_through}
 use Rattle.strict.proofs.LeafLemmas.{primitive_of_part}
 use Rattle.strict.proofs.PlaceLemmas.{leaf_read, held_of_primitive}
+use Rattle.strict.proofs.EndingLemmas.{cut_through}
 use Rattle.strict.proofs.leaf.read_primitive.Goals as goal
 
 pub returns-in_err-start-clause-refused : goal.returns-in_err-start-clause-refused
@@ -35,3 +36,9 @@ returns-in_err-value-clause-refused c =
 pub returns-clause-value : goal.returns-clause-value
 returns-clause-value c =
     leaf_read c.args.rule (ty_view c.args.ty.now) c.args.room c.in_ok-start.start c.in_ok-start.stop c.args.octets.now c.in_ok-value.value c.requires.leaf c.in_ok-start.ensures.place c.in_ok-start.ensures.whole c.in_ok-value.ensures.value.0 c.in_ok-value.ensures.value.1
+
+pub returns-in_err-start-clause-cut : goal.returns-in_err-start-clause-cut
+returns-in_err-start-clause-cut c = cut_through c.from_residual.result _ _ c.from_residual.ensures.1 c.in_err-start.ensures.cut
+
+pub returns-in_err-value-clause-cut : goal.returns-in_err-value-clause-cut
+returns-in_err-value-clause-cut c = cut_through c.from_residual-in_err-value.result _ _ c.from_residual-in_err-value.ensures.1 (λ same. absurd (subst IsOfSpelling same c.in_err-value.ensures.numbers))

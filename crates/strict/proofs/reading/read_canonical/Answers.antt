@@ -7,6 +7,7 @@ use Rattle.strict.proofs.BarsLemmas.{bars_cut, bars_never}
 use Rattle.strict.proofs.FrontLemmas.{canonical_of}
 use Rattle.strict.proofs.StrictLemmas.{part_of_front, accepted, only_that}
 use Rattle.types.specs.declared.refusal.Refusal.TheVariants.{Truncated}
+use Rattle.strict.specs.Begun.{IsBegun}
 use Rattle.strict.proofs.reading.read_canonical.Goals as goal
 
 pub returns-in-Err-clause-truncated : goal.returns-in-Err-clause-truncated
@@ -39,3 +40,8 @@ returns-clause-only c = λ v n there h.
     let well = c.as_type-node.ensures.well_formed in
     let read = subst₂ (λ t s. IsRead rule (ty_view t) 1_048_576 octets s c.in-Ok.used) c.as_type-node.ensures.value c.in-Some.is c.in-Ok.ensures.value in
     only_that rule (ty_view c.args.ty.now) c.in-Some.value v octets c.in-Ok.used n well read there h
+
+pub returns-in-Err-clause-begun : goal.returns-in-Err-clause-begun
+returns-in-Err-clause-begun c = λ same.
+    let cut : c.in-Err.refusal ≡ Truncated = cc same in
+    subst (λ t. IsBegun c.args.rule (ty_view t) 1_048_576 c.args.octets.now) c.as_type-node.ensures.value (c.in-Err.ensures.cut cut)

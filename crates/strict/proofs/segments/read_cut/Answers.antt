@@ -5,12 +5,14 @@ use Rattle.types.specs.Conforms.{Conforms}
 use Rattle.types.specs.Leaf.{tag_of}
 use Rattle.types.specs.View.{ty_view}
 use Rattle.contents.specs.Joined.{string_of}
-use Rattle.strict.specs.Head.{IsOpened}
+use Rattle.strict.specs.Head.{IsOpened, AreFewer}
 use Rattle.strict.specs.Leaf.{HasCut, HoldsSegment, IsOfSpelling, value_is}
 use Rattle.strict.specs.Segments.{HasSomeSegments, AreSegmentsKnown}
 use Rattle.strict.proofs.BarsLemmas.{bars_of, bars_by, bars_through}
 use Rattle.strict.proofs.CutLemmas.{segments_inside, string_is, cut_read}
 use Rattle.strict.proofs.KindLemmas.{IsLong}
+use Rattle.strict.proofs.EndingLemmas.{cut_through, opened_cut}
+use Rattle.strict.specs.declared.canonical.Canonical.TheVariants.{Cer}
 use Rattle.strict.proofs.segments.read_cut.Goals as goal
 
 pub returns-in_err-used-clause-refused : goal.returns-in_err-used-clause-refused
@@ -80,3 +82,17 @@ returns-clause-value c =
     let opened : IsOpened cer (tag_of type) room octets inside = subst (λ t. IsOpened cer t room octets inside) (sym c.requires.tag) c.in_ok-inside.ensures.value in
     let known = subst (λ x. AreSegmentsKnown kind inside.room x (string_of kind joined) used) all c.in_ok-used.ensures.value in
     cut_read kind type room octets inside joined c.in_ok-value.value used c.close.result c.requires.string opened c.in_ok-inside.ensures.form known (c.is_long.ensures.long c.if-not-is_long.false) c.in_ok-value.ensures.value.0 c.in_ok-value.ensures.value.1 c.close.ensures
+
+pub returns-in_err-inside-clause-cut : goal.returns-in_err-inside-clause-cut
+returns-in_err-inside-clause-cut c = cut_through c.from_residual.result _ _ c.from_residual.ensures.1 c.in_err-inside.ensures.cut
+
+pub returns-in_err-used-clause-cut : goal.returns-in_err-used-clause-cut
+returns-in_err-used-clause-cut c =
+    let octets = c.args.octets.now in
+    let inside = c.in_ok-inside.inside in
+    let inner = take (length octets - inside.start) (drop inside.start octets) in
+    cut_through c.from_residual-in_err-used.result _ _ c.from_residual-in_err-used.ensures.1
+    (λ same. opened_cut Cer c.args.tag c.args.room octets inside c.in_ok-inside.ensures.value (subst (λ d. AreFewer d inside.room inner) (sym c.in_ok-inside.ensures.form) (c.in_err-used.ensures.cut same)))
+
+pub returns-in_err-value-clause-cut : goal.returns-in_err-value-clause-cut
+returns-in_err-value-clause-cut c = cut_through c.from_residual-in_err-value.result _ _ c.from_residual-in_err-value.ensures.1 (λ same. absurd (subst IsOfSpelling same c.in_err-value.ensures.numbers))

@@ -5,6 +5,7 @@ use Rattle.strict.proofs.BarsLemmas.{bars_through}
 use Rattle.strict.proofs.JoiningLemmas.{joined_segment}
 use Rattle.strict.proofs.KindLemmas.{held_by_ber}
 use Rattle.strict.proofs.SegmentLemmas.{stands_at}
+use Rattle.strict.proofs.EndingLemmas.{cut_through}
 use Rattle.strict.proofs.segments.read_segment.Goals as goal
 
 pub returns-in_err-join-clause-refused : goal.returns-in_err-join-clause-refused
@@ -40,3 +41,13 @@ returns-else-is_spelt-clause-refused c = λ more may h.
     let at = stands_at kind c.args.full c.args.room start stop octets more h.0 c.requires.no_end c.in_ok-start.ensures.place h.1 in
     let told : true ≡ false = sym ((c.is_spelt.ensures at.piece (held_by_ber kind at.piece (slice_range octets start stop) at.holds)).1 (at.holds, at.some)) ∙ c.if-is_spelt.false in
     absurd cc
+
+pub returns-in_err-start-clause-cut : goal.returns-in_err-start-clause-cut
+returns-in_err-start-clause-cut c = cut_through c.from_residual.result _ _ c.from_residual.ensures.1 c.in_err-start.ensures.cut
+
+pub returns-in_err-join-clause-cut : goal.returns-in_err-join-clause-cut
+returns-in_err-join-clause-cut c = cut_through c.from_residual-in_err-join.result _ _ c.from_residual-in_err-join.ensures.1 (λ same.
+    elim c.in_err-join.ensures.numbers [
+      | inl contents ↦ absurd cc
+      | inr memory ↦ absurd cc
+    ])

@@ -10,6 +10,7 @@ use Rattle.strict.proofs.BarsLemmas.{bars_of, bars_by, bars_through}
 use Rattle.strict.proofs.HeadLemmas.{tag_of_definite, form_of_definite}
 use Rattle.strict.proofs.PlaceLemmas.{its_size, place_of}
 use Rattle.strict.proofs.SegmentLemmas.{first_segment, definite_of_first}
+use Rattle.strict.proofs.EndingLemmas.{cut_through}
 use Rattle.strict.proofs.segments.read_segment_place.Goals as goal
 
 pub returns-in_err-constructed-clause-refused : goal.returns-in_err-constructed-clause-refused
@@ -105,3 +106,17 @@ returns-clause-place c =
     let read = tagged c.segment_tag.result (segment_of kind) room i octets c.in_ok-constructed.constructed false c.segment_tag.ensures c.if-constructed.false c.in_ok-constructed.ensures.value in
     let s : IsShortestLength n (take used (drop i octets)) = (c.is_shortest.ensures (take used (drop i octets)) sized.sized (length-take-le used (drop i octets) sized.there)).0 c.if-not-is_shortest.false in
     place_of (segment_of kind) room i n used octets read.there read.tagged sized s (omega (arith, c.if-size-octets.false, read.there, sized.there, length-drop i octets))
+
+pub returns-in_err-constructed-clause-cut : goal.returns-in_err-constructed-clause-cut
+returns-in_err-constructed-clause-cut c = cut_through c.from_residual.result _ _ c.from_residual.ensures.1 (λ same. let h = c.in_err-constructed.ensures.cut (ap Err same) in omega (arith, h.fits))
+
+pub returns-in_err-size-clause-cut : goal.returns-in_err-size-clause-cut
+returns-in_err-size-clause-cut c =
+    cut_through c.from_residual-in_err-size.result _ _ c.from_residual-in_err-size.ensures.1 (λ same.
+    let h = c.in_err-size.ensures.cut same in
+    omega (arith, h.fits, length-drop c.in_ok-constructed.identifier c.args.octets.now, c.in_ok-constructed.ensures.value.there))
+
+pub returns-then-size-octets-clause-cut : goal.returns-then-size-octets-clause-cut
+returns-then-size-octets-clause-cut c = λ same.
+    let read = c.in_ok-size.ensures.value in
+    omega (arith, c.if-size-octets.true, read.fits)

@@ -6,6 +6,7 @@ use Rattle.strict.specs.Segments.{HasSomeSegments, IsJoinedSegment}
 use Rattle.strict.proofs.BarsLemmas.{bars_by, bars_through}
 use Rattle.strict.proofs.JoiningLemmas.{none_joined, more_joined}
 use Rattle.strict.proofs.SegmentLemmas.{segments_or_end, some_octets}
+use Rattle.strict.proofs.EndingLemmas.{cut_through, fewer_behind, less_behind}
 use Rattle.strict.proofs.segments.read_segments.Goals as goal
 
 pub loop-kind-init : goal.loop-kind-init
@@ -79,3 +80,13 @@ returns-clause-value c =
     let on : c.in_ok-ends.field-0 ≡ true = search rules in
     let ends : EndsHere false (c.args.room - at) inner = subst (λ b. IsEndKnown b false (c.args.room - at) inner) on c.in_ok-ends.ensures.value in
     record { full = c.loop-kind.full; read = c.loop-kind.invariant.read; ends = subst (EndsHere false (c.args.room - at)) all ends }
+
+pub returns-in_err-ends-clause-cut : goal.returns-in_err-ends-clause-cut
+returns-in_err-ends-clause-cut c =
+    let read = c.loop-kind.invariant.read in
+    cut_through c.from_residual.result _ _ c.from_residual.ensures.1 (λ same. fewer_behind false c.args.room c.loop-kind.at c.args.octets.now read.within read.there (c.in_err-ends.ensures.cut same))
+
+pub returns-in_err-used-clause-cut : goal.returns-in_err-used-clause-cut
+returns-in_err-used-clause-cut c =
+    let read = c.loop-kind.invariant.read in
+    cut_through c.from_residual-in_err-used.result _ _ c.from_residual-in_err-used.ensures.1 (λ same. less_behind false c.args.room c.loop-kind.at c.args.octets.now read.within read.there (c.in_err-used.ensures.cut same))
