@@ -1,3 +1,4 @@
 pub mod Keyword
 pub mod Numbering
+pub mod Root
 pub mod Standing

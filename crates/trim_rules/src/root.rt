@@ -1,5 +1,8 @@
 //! What a type is at its root: behind names, but not behind tags.
 
+ghost use Rattle.std.specs.Prelude.{◌≡◌};
+ghost use Rattle.trim_rules.specs.Root.{is_open, takes_any};
+
 /// What a type is at its root.
 #[derive(Clone, Copy, Debug, PartialEq, Eq)]
 pub enum Root {
@@ -17,7 +20,9 @@ pub enum Root {
 
 impl Root {
     /// Whether a tag without a keyword in front of it is explicit (X.680 31.2.7).
-    pub fn is_open(self) -> bool {
+    pub fn is_open(self) -> bool
+        ensures { result ≡ is_open self }
+    {
         match self {
             Root::Choice | Root::Open | Root::Field => true,
             Root::LeftOutString | Root::Other => false,
@@ -25,7 +30,9 @@ impl Root {
     }
 
     /// Whether values of any type may stand there.
-    pub fn takes_any(self) -> bool {
+    pub fn takes_any(self) -> bool
+        ensures { result ≡ takes_any self }
+    {
         match self {
             Root::Open | Root::Field => true,
             Root::Choice | Root::LeftOutString | Root::Other => false,

@@ -80,7 +80,7 @@ fn asked<'a>(alloc: Global, sources: &Sources<'a>, request: &'a Request) -> Resu
     if let Some(module) = &request.module {
         return match sources.find_in(module.as_str(), name) {
             Ok(spot) => Ok(spot),
-            Err(cause) => Err(refused(alloc, None, format!(in alloc; "{cause}")?)),
+            Err(cause) => Err(refused(alloc, None, with_to_do(alloc, cause)?)),
         };
     }
     let spots = sources.all(alloc, name)?;
@@ -91,12 +91,28 @@ fn asked<'a>(alloc: Global, sources: &Sources<'a>, request: &'a Request) -> Resu
             None,
             format!(in alloc; "no module assigns a type {name}")?,
         )),
-        _ => Err(refused(
-            alloc,
-            None,
-            modules_with(alloc, sources, name, spots.as_slice())?,
-        )),
+        spots => match repeated_module(sources, spots) {
+            Some(cause) => Err(refused(alloc, None, with_to_do(alloc, cause)?)),
+            None => Err(refused(alloc, None, modules_with(alloc, sources, name, spots)?)),
+        },
     }
+}
+
+// Why nothing is found, and what to do.
+fn with_to_do(alloc: Global, cause: Cause<'_>) -> Result<String, AllocError> {
+    let to_do = cause.to_do();
+    format!(in alloc; "{cause}{to_do}")
+}
+
+// That all of these stand in modules of one name, if they do.
+fn repeated_module<'a>(sources: &Sources<'a>, spots: &[Spot]) -> Option<Cause<'a>> {
+    let first = sources.module_at(spots.first()?.module)?;
+    for spot in spots {
+        if sources.module_at(spot.module)?.name.name != first.name.name {
+            return None;
+        }
+    }
+    Some(Cause::RepeatedModule(first.name.name.as_str()))
 }
 
 // That several modules assign the name, and which.

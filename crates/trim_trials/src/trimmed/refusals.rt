@@ -38,7 +38,10 @@ T; T ::= SET { a U, b V } U ::= W; m.asn:2:20: refused: V is neither assigned no
 T; T ::= [v] NULL v INTEGER ::= w; m.asn:2:7: refused: a number that is not known, or out of range at T
 T; T ::= [268435456] NULL; m.asn:2:7: refused: a number that is not known, or out of range at T
 U; T ::= NULL; asn1x-trim: refused: no module assigns a type U
-N.T; T ::= NULL; asn1x-trim: refused: T is of the module N, which is in none of the files
+N.T; T ::= NULL; asn1x-trim: refused: T is of the module N, which is in none of the files; give its file
+T; T ::= NULL END M DEFINITIONS ::= BEGIN T ::= BOOLEAN; asn1x-trim: refused: the module M stands in the files more than once; give one of its files
+M.T; T ::= NULL END M DEFINITIONS ::= BEGIN T ::= BOOLEAN; asn1x-trim: refused: the module M stands in the files more than once; give one of its files
+T; T ::= NULL END N DEFINITIONS ::= BEGIN T ::= NULL END N DEFINITIONS ::= BEGIN T ::= NULL; asn1x-trim: refused: T stands in several modules; give one of M.T, N.T, N.T
 T; T ::= NULL T ::= NULL; asn1x-trim: refused: no module assigns a type T
 T; T ::= SET { a NULL, b NULL }; m.asn:2:1: refused: the type as it is trimmed has tags that are not distinct, which asn1x refuses with 28
 T --narrow; T ::= SET { a C } C ::= CHOICE { x REAL, y NULL }; m.asn:2:15: refused: a CHOICE without all of its alternatives in a SET at T.a

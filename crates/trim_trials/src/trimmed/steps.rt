@@ -28,7 +28,7 @@ AUTOMATIC TAGS; T; T ::= SEQUENCE { a [3] INTEGER, b BOOLEAN }; T ::= SEQUENCE {
 AUTOMATIC TAGS; T; T ::= SEQUENCE { a INTEGER, b U } U ::= [7] BOOLEAN; T ::= SEQUENCE { a [0] IMPLICIT INTEGER, b [1] IMPLICIT U } U ::= [7] IMPLICIT BOOLEAN;
 AUTOMATIC TAGS; T; T ::= SEQUENCE { a INTEGER, ..., b NULL, [[ c NULL, d NULL ]], ..., e BOOLEAN }; T ::= SEQUENCE { a [0] IMPLICIT INTEGER, b [2] IMPLICIT NULL OPTIONAL, c [3] IMPLICIT NULL OPTIONAL, d [4] IMPLICIT NULL OPTIONAL, e [1] IMPLICIT BOOLEAN };
 AUTOMATIC TAGS; T --narrow; T ::= SEQUENCE { a REAL OPTIONAL, b NULL }; T ::= SEQUENCE { b [1] IMPLICIT NULL }; m.asn:2:20: narrowed: T.a is left out: REAL at T.a
-# additions may be absent, in values of an earlier version
+# additions may be absent, in values of an earlier version (X.680 6)
 ; T; T ::= SEQUENCE { a NULL, ..., b INTEGER, c BOOLEAN DEFAULT TRUE, d UTF8String OPTIONAL }; T ::= SEQUENCE { a NULL, b INTEGER OPTIONAL, c BOOLEAN DEFAULT TRUE, d UTF8String OPTIONAL };
 ; T; T ::= CHOICE { a NULL, ..., b INTEGER }; T ::= CHOICE { a NULL, b INTEGER };
 # items without a number (X.680 20)
@@ -36,7 +36,7 @@ AUTOMATIC TAGS; T --narrow; T ::= SEQUENCE { a REAL OPTIONAL, b NULL }; T ::= SE
 ; T; T ::= ENUMERATED { a, b(3), ..., c(1) }; T ::= ENUMERATED { a(0), b(3), c(1) };
 ; T; T ::= ENUMERATED { a, b, ..., c(3), d }; T ::= ENUMERATED { a(0), b(1), c(3), d(4) };
 ; T; T ::= ENUMERATED { a(v), b, c(-1), d } v INTEGER ::= 1; T ::= ENUMERATED { a(1), b(0), c(-1), d(2) };
-# values behind DEFAULT as literals
+# values behind DEFAULT as literals (X.680 16; X.690 11.5 leaves out the same ones)
 ; T; T ::= SEQUENCE { a V DEFAULT two, b INTEGER DEFAULT -7, c [5] W DEFAULT w } V ::= [1] INTEGER { two(2) } W ::= V w V ::= two; T ::= SEQUENCE { a V DEFAULT 2, b INTEGER DEFAULT -7, c [5] EXPLICIT W DEFAULT 2 } V ::= [1] EXPLICIT INTEGER W ::= V;
 ; T; T ::= SEQUENCE { a E DEFAULT y, b BOOLEAN DEFAULT t } E ::= ENUMERATED { x, y } y E ::= x t BOOLEAN ::= TRUE; T ::= SEQUENCE { a E DEFAULT y, b BOOLEAN DEFAULT TRUE } E ::= ENUMERATED { x(0), y(1) };
 ; T; T ::= SEQUENCE { a B DEFAULT { y, x }, b [0] B DEFAULT {}, c [1] B DEFAULT '0101'B } B ::= BIT STRING { x(1), y(4) }; T ::= SEQUENCE { a B DEFAULT '01001'B, b [0] EXPLICIT B DEFAULT ''B, c [1] EXPLICIT B DEFAULT '0101'B } B ::= BIT STRING { x(1), y(4) };
@@ -45,7 +45,7 @@ AUTOMATIC TAGS; T --narrow; T ::= SEQUENCE { a REAL OPTIONAL, b NULL }; T ::= SE
 ; T; T ::= [0] IMPLICIT U U ::= TeletexString; T ::= [0] IMPLICIT OCTET STRING;
 AUTOMATIC TAGS; T; T ::= SEQUENCE { a GeneralString, b ObjectDescriptor }; T ::= SEQUENCE { a [0] IMPLICIT OCTET STRING, b [1] IMPLICIT OCTET STRING };
 ; T; T ::= ISO646String; T ::= VisibleString;
-# the types of open types
+# the types of open types: a value is encoded as one of its own type (X.690 8.15)
 ; T --as T.a=U --as V=NULL; T ::= SEQUENCE { a ANY DEFINED BY b, b V } U ::= BOOLEAN V ::= FOO.&Type FOO ::= TYPE-IDENTIFIER; T ::= SEQUENCE { a U, b V } U ::= BOOLEAN V ::= NULL;
 ; T --as T.a.b=INTEGER; T ::= SET OF SEQUENCE { a CHOICE { b ANY } }; T ::= SET OF SEQUENCE { a CHOICE { b INTEGER } };
 # a field of a class is open by what its class says (X.681 9 and 14), and a tag in front of an open type explicit
@@ -59,11 +59,11 @@ AUTOMATIC TAGS; T; T ::= SET { a [0] NULL, COMPONENTS OF U } U ::= SET { b [1] N
 ; T; T ::= SEQUENCE { COMPONENTS OF U } U ::= SEQUENCE { a NULL, ..., x V, ..., c SEQUENCE { y BOOLEAN, ..., z W } } V ::= NULL W ::= BOOLEAN; T ::= SEQUENCE { a NULL, c SEQUENCE { y BOOLEAN, z W OPTIONAL } } W ::= BOOLEAN;
 ; T --as U.a=NULL --verbose; T ::= SEQUENCE { COMPONENTS OF U } U ::= SEQUENCE { a ANY, b INTEGER (0..5) }; T ::= SEQUENCE { a NULL, b INTEGER }; m.asn:2:70: dropped: a constraint of U.b
 ; T --narrow; T ::= SEQUENCE { COMPONENTS OF U } U ::= SEQUENCE { a NULL, b REAL OPTIONAL }; T ::= SEQUENCE { a NULL }; m.asn:2:63: narrowed: U.b is left out: REAL at U.b
-# what may be absent is left out, so values that hold it are refused
+# what may be absent (X.680 25, 29) is left out, so values that hold it are refused
 ; T --narrow; T ::= CHOICE { a REAL, b NULL, c U } U ::= SEQUENCE { x EXTERNAL }; T ::= CHOICE { b NULL }; m.asn:2:18: narrowed: T.a is left out: REAL at T.a m.asn:2:34: narrowed: T.c is left out: EXTERNAL at U.x
 ; T --narrow; T ::= SEQUENCE { a U OPTIONAL, b NULL DEFAULT NULL } U ::= CHOICE { x REAL, y REAL }; T ::= SEQUENCE { }; m.asn:2:20: narrowed: T.a is left out: REAL at U.x m.asn:2:34: narrowed: T.b is left out: a DEFAULT of a kind that asn1x does not take at T.b
 ; T --narrow; T ::= SEQUENCE { a OBJECT IDENTIFIER, b ANY DEFINED BY a OPTIONAL }; T ::= SEQUENCE { a OBJECT IDENTIFIER }; m.asn:2:41: narrowed: T.b is left out: an open type at T.b
-# a type that refers to itself is written out, its last level narrowed
+# a name stands for its type (X.680 14), so one that refers to itself is written out, its last level narrowed
 ; T --unroll 1; T ::= CHOICE { a U, b NULL } U ::= SET OF T; T ::= CHOICE { a U, b NULL } U ::= SET OF T-2 T-2 ::= CHOICE { b NULL }; m.asn:2:18: narrowed: T.a is left out: T refers to itself at U
 ; T --unroll 2; T ::= SEQUENCE { a NULL, b T OPTIONAL }; T ::= SEQUENCE { a NULL, b T-2 OPTIONAL } T-2 ::= SEQUENCE { a NULL, b T-3 OPTIONAL } T-3 ::= SEQUENCE { a NULL }; m.asn:2:28: narrowed: T.b is left out: T refers to itself at T.b
 # what is dropped is told
