@@ -14,6 +14,7 @@
 #     from der  reads NAME.hex by the strict rule, and writes it again
 #     by cer    writes CER, reads that by the strict rule, and writes NAME.hex
 #     json      asn1x-view prints JSON that jq reads, with the names and the values of NAME.txt (json.jq)
+#     each to   writes NAME.hex and NAME.txt, a line for each value as it completes: the programs that call the library
 #
 # VIEW names asn1x-view; where it is not set, the one that is built, or on the path. Where it or jq is missing, a line
 # says so, and json is left out.
@@ -35,6 +36,7 @@ done
 }
 command -v "$program" >/dev/null || { echo "examples: $program is missing" >&2; exit 2; }
 program=$(realpath "$(command -v "$program")")
+asn1x=$program
 for tool in diff mktemp; do
     command -v "$tool" >/dev/null || { echo "examples: $tool is missing" >&2; exit 2; }
 done
@@ -94,6 +96,12 @@ over_rows() {
         mv "$work/said" "$work/cer"
         run convert "$module" "$type" "$work/cer" --hex --from cer --to der
         compare 'by cer' "$work/der"
+        if [ "$program" != "$asn1x" ]; then
+            run each "$module" "$type" "$file" --hex --to der
+            compare 'each to der' "expected/$name.hex"
+            run each "$module" "$type" "$file" --hex --to text
+            compare 'each to text' "expected/$name.txt"
+        fi
         if [ -n "$view" ]; then
             "$view" json "$module" "$type" "$file" --hex >"$work/json" 2>&1 || echo "status $?" >>"$work/json"
             jq -s -r --rawfile texts "expected/$name.txt" -f json.jq "$work/json" >"$work/said" 2>&1 || :
@@ -108,14 +116,18 @@ over_refused() {
     name=refused passed=
     while read -r what type octets words; do
         echo "$octets" | tr _ ' ' >"$work/octets"
-        for task in check convert; do
-            [ $task = check ] || words="$words --to der"
+        for task in check show convert; do
+            [ $task != convert ] || words="$words --to der"
             # shellcheck disable=SC2086
             "$asn1x" $task refused.asn "$type" "$work/octets" --hex $words >"$work/wanted" 2>&1 ||
                 echo "status $?" >>"$work/wanted"
             # shellcheck disable=SC2086
             run $task refused.asn "$type" "$work/octets" --hex $words
             compare "$what to $task" "$work/wanted"
+            [ $task = show ] || continue
+            # shellcheck disable=SC2086
+            run each refused.asn "$type" "$work/octets" --hex $words --to text
+            compare "$what to each" "$work/wanted"
         done
     done <refused.rows
     printf '%-14s %s\n' "$name" "${passed%,}"
@@ -127,7 +139,6 @@ has() {
 }
 
 over_rows
-asn1x=$program
 view=
 if [ ! -f ../crates/asn1x_c/out/libasn1x_c.a ]; then
     echo 'examples: the library is left out, since it is not built: "make install" proves and builds it'

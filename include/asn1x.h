@@ -76,6 +76,16 @@ typedef struct asn1x_done {
     size_t octets;
 } asn1x_done;
 
+/* What a call that writes one value comes to. */
+typedef struct asn1x_one {
+    /* ASN1X_OK, 1 to 12, 14, 17, or ASN1X_WRONG_ARGUMENT. */
+    uint32_t refusal;
+    /* How many octets the value has, where one was written; else 0. The next one begins behind them. */
+    size_t used;
+    /* How many octets there are to write, whether there was room for them or not; 0 after a refusal. */
+    size_t octets;
+} asn1x_one;
+
 /*
  * Makes the type that a module means by a name, which may refer to other types of the module. The module's text is as
  * it stands in a file, of at most 262,144 octets. The type that was held before is freed. After a fault none is held.
@@ -110,6 +120,26 @@ asn1x_done asn1x_check(asn1x_type *type, uint32_t from, const uint8_t *octets, s
  * 1,048,576 octets.
  */
 asn1x_done asn1x_first(asn1x_type *type, uint32_t from, const uint8_t *octets, size_t length);
+
+/*
+ * Reads the first value as `asn1x_first` does, and writes its one encoding by the rule `to`, which is ASN1X_CER or
+ * ASN1X_DER. All of it stands at the front of `out` where `octets` of the result is at most `room`; else `out` is as it
+ * was, and a call with as much room as `octets` says writes it. So a stream that comes in pieces is converted value by
+ * value, and what was read is not read again:
+ *
+ *     asn1x_one one = asn1x_convert_first(&type, ASN1X_BER, ASN1X_DER, octets + at, length - at, out, room);
+ *
+ * After ASN1X_OK the caller takes what is in `out`, adds `used` to `at`, and calls again unless `at` is `length` then.
+ * After ASN1X_TRUNCATED it keeps the octets from `at` on, and calls again with the next piece behind them, if there is
+ * one: the value that is cut, and it alone, is read again from its first octet. After any other refusal more octets do
+ * not help.
+ */
+asn1x_one asn1x_convert_first(asn1x_type *type, uint32_t from, uint32_t to, const uint8_t *octets, size_t length,
+                              uint8_t *out, size_t room);
+
+/* Reads the first value as `asn1x_convert_first` does, and writes a line of text for it, with a line feed at its end. */
+asn1x_one asn1x_show_first(asn1x_type *type, uint32_t from, const uint8_t *octets, size_t length, uint8_t *out,
+                           size_t room);
 
 /*
  * Writes the name of a refusal or of a fault of a module into `out`, with no NUL behind it, and returns how many octets

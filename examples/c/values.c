@@ -2,8 +2,9 @@
  * Does what asn1x does with the same words, by the library:
  *
  *     values check|show|convert MODULE TYPE FILE --hex [--from ber|cer|der] [--to cer|der]
+ *     values each MODULE TYPE FILE --hex [--from ber|cer|der] [--to cer|der|text]
  *
- * FILE is hexadecimal text. `show` takes the octets in pieces, and goes from value to value.
+ * FILE is hexadecimal text. `each` takes the octets in pieces, and writes a line for each value as it completes.
  */
 #include <asn1x.h>
 #include <stdio.h>
@@ -11,6 +12,9 @@
 #include <string.h>
 
 static const size_t PIECE = 50;
+
+/* What `each` writes where it is not encodings by a rule. */
+enum { TEXT = ASN1X_DER + 1 };
 
 /* Octets, and how many there are. */
 struct octets {
@@ -78,8 +82,8 @@ static struct octets unhex(struct octets text)
 
 static int rule_of(const char *name)
 {
-    static const char *const names[] = {"ber", "cer", "der"};
-    for (int i = ASN1X_BER; i <= ASN1X_DER; i++)
+    static const char *const names[] = {"ber", "cer", "der", "text"};
+    for (int i = ASN1X_BER; i <= TEXT; i++)
         if (strcmp(name, names[i]) == 0)
             return i;
     fail("no such rule: ", name);
@@ -96,14 +100,22 @@ static const char *name_of(uint32_t number)
 }
 
 /* Says why a call stopped, if it did, and returns the status that goes with it. */
-static int status_of(asn1x_done done, uint64_t before)
+static int status_of(uint32_t refusal, uint64_t values)
 {
-    if (done.refusal == ASN1X_OK)
+    if (refusal == ASN1X_OK)
         return 0;
     fflush(stdout);
-    fprintf(stderr, "asn1x: refused %u %s after %llu values\n", (unsigned)done.refusal, name_of(done.refusal),
-            (unsigned long long)(before + done.values));
-    return done.refusal == ASN1X_NO_MEMORY ? 4 : done.refusal == ASN1X_SINK_FAULT ? 3 : 1;
+    fprintf(stderr, "asn1x: refused %u %s after %llu values\n", (unsigned)refusal, name_of(refusal),
+            (unsigned long long)values);
+    return refusal == ASN1X_NO_MEMORY ? 4 : refusal == ASN1X_SINK_FAULT ? 3 : 1;
+}
+
+static void print_digits(const uint8_t *octets, size_t length)
+{
+    for (size_t i = 0; i < length; i++)
+        printf("%02x", octets[i]);
+    if (length)
+        putchar('\n');
 }
 
 static int check(asn1x_type *type, int from, struct octets octets)
@@ -111,7 +123,13 @@ static int check(asn1x_type *type, int from, struct octets octets)
     asn1x_done done = asn1x_check(type, (uint32_t)from, octets.at, octets.length);
     if (done.refusal == ASN1X_OK)
         printf("ok %llu\n", (unsigned long long)done.values);
-    return status_of(done, 0);
+    return status_of(done.refusal, done.values);
+}
+
+static void grow(struct octets *room, size_t octets)
+{
+    free(room->at);
+    *room = (struct octets){room_for(octets), octets};
 }
 
 /* A call that has too little room says how much it takes, and is made again. */
@@ -120,59 +138,67 @@ static int convert(asn1x_type *type, int from, int to, struct octets octets)
     struct octets out = {room_for(1), 1};
     asn1x_done done = asn1x_convert(type, (uint32_t)from, (uint32_t)to, octets.at, octets.length, out.at, out.length);
     if (done.octets > out.length) {
-        free(out.at);
-        out.length = done.octets;
-        out.at = room_for(out.length);
+        grow(&out, done.octets);
         done = asn1x_convert(type, (uint32_t)from, (uint32_t)to, octets.at, octets.length, out.at, out.length);
     }
-    for (size_t i = 0; i < done.octets; i++)
-        printf("%02x", out.at[i]);
-    if (done.octets)
-        putchar('\n');
+    print_digits(out.at, done.octets);
     free(out.at);
-    return status_of(done, 0);
+    return status_of(done.refusal, done.values);
 }
 
-/* Writes the text of one value. */
-static asn1x_done show_one(asn1x_type *type, int from, const uint8_t *octets, size_t length)
-{
-    uint8_t none[1];
-    asn1x_done done = asn1x_show(type, (uint32_t)from, octets, length, none, 0);
-    uint8_t *text = room_for(done.octets);
-    done = asn1x_show(type, (uint32_t)from, octets, length, text, done.octets);
-    fwrite(text, 1, done.octets, stdout);
-    free(text);
-    return done;
-}
-
-/* Takes the octets in pieces. What no value has yet stays in front of the next piece. */
 static int show(asn1x_type *type, int from, struct octets octets)
 {
+    struct octets out = {room_for(1), 1};
+    asn1x_done done = asn1x_show(type, (uint32_t)from, octets.at, octets.length, out.at, out.length);
+    if (done.octets > out.length) {
+        grow(&out, done.octets);
+        done = asn1x_show(type, (uint32_t)from, octets.at, octets.length, out.at, out.length);
+    }
+    fwrite(out.at, 1, done.octets, stdout);
+    free(out.at);
+    return status_of(done.refusal, done.values);
+}
+
+/* Writes the first value's text or, by a rule, its encoding into `out`, which grows to the room that this takes. */
+static asn1x_one first(asn1x_type *type, int from, int to, const uint8_t *octets, size_t length, struct octets *out)
+{
+    for (;;) {
+        asn1x_one one = to == TEXT ? asn1x_show_first(type, (uint32_t)from, octets, length, out->at, out->length)
+                                   : asn1x_convert_first(type, (uint32_t)from, (uint32_t)to, octets, length, out->at,
+                                                         out->length);
+        if (one.octets <= out->length)
+            return one;
+        grow(out, one.octets);
+    }
+}
+
+/* Takes the octets in pieces, and goes from value to value. A value that is cut stays in front of the next piece. */
+static int each(asn1x_type *type, int from, int to, struct octets octets)
+{
+    struct octets out = {room_for(1), 1};
+    asn1x_one one = {0};
     uint64_t values = 0;
     size_t at = 0, end = 0;
-    while (at < octets.length) {
-        if (end < octets.length)
-            end += octets.length - end < PIECE ? octets.length - end : PIECE;
-        asn1x_done done;
-        while (at < end && (done = asn1x_first(type, (uint32_t)from, octets.at + at, end - at)).refusal == ASN1X_OK) {
-            size_t length = done.octets;
-            done = show_one(type, from, octets.at + at, length);
-            if (done.refusal != ASN1X_OK)
-                return status_of(done, values);
-            values += done.values;
-            at += length;
+    while (end < octets.length && (one.refusal == ASN1X_OK || one.refusal == ASN1X_TRUNCATED)) {
+        end += octets.length - end < PIECE ? octets.length - end : PIECE;
+        while (at < end && (one = first(type, from, to, octets.at + at, end - at, &out)).refusal == ASN1X_OK) {
+            if (to == TEXT)
+                fwrite(out.at, 1, one.octets, stdout);
+            else
+                print_digits(out.at, one.octets);
+            at += one.used;
+            values++;
         }
-        if (at < end && (done.refusal != ASN1X_TRUNCATED || end == octets.length))
-            return status_of(done, values);
     }
-    return 0;
+    free(out.at);
+    return status_of(one.refusal, values);
 }
 
 int main(int count, char **words)
 {
     int from = ASN1X_BER, to = ASN1X_DER;
     if (count < 6 || strcmp(words[5], "--hex") != 0)
-        fail("usage: values check|show|convert MODULE TYPE FILE --hex [--from RULE] [--to RULE]", "");
+        fail("usage: values check|show|convert|each MODULE TYPE FILE --hex [--from RULE] [--to RULE]", "");
     for (int i = 6; i + 1 < count; i += 2)
         *(strcmp(words[i], "--to") == 0 ? &to : &from) = rule_of(words[i + 1]);
 
@@ -188,6 +214,7 @@ int main(int count, char **words)
     struct octets octets = unhex(read_file(words[4]));
     int status = strcmp(words[1], "check") == 0  ? check(&type, from, octets)
                  : strcmp(words[1], "show") == 0 ? show(&type, from, octets)
+                 : strcmp(words[1], "each") == 0 ? each(&type, from, to, octets)
                                                  : convert(&type, from, to, octets);
     free(octets.at);
     asn1x_type_free(&type);

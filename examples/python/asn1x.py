@@ -2,8 +2,8 @@
 
     ty = asn1x.Type(module, "Certificate")
     der = ty.convert(octets)
-    for octets in ty.values(pieces):
-        print(ty.show(octets), end="")
+    for text in ty.show_each(pieces):
+        print(text, end="")
 
 The library is looked for where the environment's ASN1X_LIBRARY says, else where the system's loader does. A Type
 stays in the thread that made it.
@@ -28,6 +28,10 @@ class _Done(ctypes.Structure):
     _fields_ = [("refusal", ctypes.c_uint32), ("values", ctypes.c_uint64), ("octets", ctypes.c_size_t)]
 
 
+class _One(ctypes.Structure):
+    _fields_ = [("refusal", ctypes.c_uint32), ("used", ctypes.c_size_t), ("octets", ctypes.c_size_t)]
+
+
 def _call(name, result, *arguments):
     call = getattr(_library, name)
     call.restype = result
@@ -44,6 +48,8 @@ _convert = _call("asn1x_convert", _Done, _held, _rule, _rule, *_octets, *_octets
 _show = _call("asn1x_show", _Done, _held, _rule, *_octets, *_octets)
 _check = _call("asn1x_check", _Done, _held, _rule, *_octets)
 _first = _call("asn1x_first", _Done, _held, _rule, *_octets)
+_convert_first = _call("asn1x_convert_first", _One, _held, _rule, _rule, *_octets, *_octets)
+_show_first = _call("asn1x_show_first", _One, _held, _rule, *_octets, *_octets)
 _name = _call("asn1x_name", ctypes.c_size_t, ctypes.c_uint32, *_octets)
 
 
@@ -76,16 +82,44 @@ def _counted(done, written=b""):
     return done
 
 
-def _written(call):
-    """What a call writes. One that has too little room says how much it takes, and is made again."""
+def _with_room(call):
+    """A call and what it writes. One that has too little room says how much it takes, and is made again."""
     out = ctypes.create_string_buffer(256)
     done = call(out, len(out))
     if done.octets > len(out):
         out = ctypes.create_string_buffer(done.octets)
         done = call(out, len(out))
-    written = out.raw[: done.octets]
+    return done, out.raw[: done.octets]
+
+
+def _written(call):
+    done, written = _with_room(call)
     _counted(done, written)
     return written
+
+
+def _one_by_one(pieces, first):
+    """What `first` gives for each value in pieces of octets, with a value that is cut kept for the next piece."""
+    rest, count = bytearray(), 0
+    for piece in pieces:
+        rest += piece
+        at = 0
+        while at < len(rest):
+            refusal, used, written = first(ctypes.byref(ctypes.c_char.from_buffer(rest, at)), len(rest) - at)
+            if refusal == TRUNCATED:
+                break
+            if refusal:
+                raise Refused(refusal, count)
+            yield rest[at : at + used] if written is None else written
+            at, count = at + used, count + 1
+        del rest[:at]
+    if rest:
+        raise Refused(TRUNCATED, count)
+
+
+def _one(call):
+    one, written = _with_room(call)
+    return one.refusal, one.used, written
 
 
 class Type:
@@ -118,18 +152,21 @@ class Type:
         return _counted(_first(self._held, source, octets, len(octets))).octets
 
     def values(self, pieces, source=BER):
-        """The encodings of the values in pieces of octets, one by one, with what is cut kept for the next piece."""
-        rest, count = b"", 0
-        for piece in pieces:
-            rest += piece
-            while rest:
-                try:
-                    length = self.first(rest, source)
-                except Refused as refused:
-                    if refused.number == TRUNCATED:
-                        break
-                    raise Refused(refused.number, count) from None
-                yield rest[:length]
-                rest, count = rest[length:], count + 1
-        if rest:
-            raise Refused(TRUNCATED, count)
+        """The encoding of each value in pieces of octets, as it stands there, as the value completes."""
+
+        def first(*octets):
+            done = _first(self._held, source, *octets)
+            return done.refusal, done.octets, None
+
+        return map(bytes, _one_by_one(pieces, first))
+
+    def convert_each(self, pieces, source=BER, to=DER):
+        """The encoding of each value by the rule `to`, likewise."""
+        return _one_by_one(
+            pieces, lambda *octets: _one(lambda *out: _convert_first(self._held, source, to, *octets, *out))
+        )
+
+    def show_each(self, pieces, source=BER):
+        """A line of text for each value, likewise."""
+        texts = _one_by_one(pieces, lambda *octets: _one(lambda *out: _show_first(self._held, source, *octets, *out)))
+        return map(bytes.decode, texts)

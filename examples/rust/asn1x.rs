@@ -31,6 +31,13 @@ struct Done {
     octets: usize,
 }
 
+#[repr(C)]
+struct One {
+    refusal: u32,
+    used: usize,
+    octets: usize,
+}
+
 unsafe extern "C" {
     fn asn1x_type_from(held: &mut Held, text: *const u8, length: usize, name: *const u8, name_length: usize) -> Fault;
     fn asn1x_type_free(held: &mut Held);
@@ -45,7 +52,16 @@ unsafe extern "C" {
     ) -> Done;
     fn asn1x_show(held: &mut Held, from: u32, octets: *const u8, length: usize, out: *mut u8, room: usize) -> Done;
     fn asn1x_check(held: &mut Held, from: u32, octets: *const u8, length: usize) -> Done;
-    fn asn1x_first(held: &mut Held, from: u32, octets: *const u8, length: usize) -> Done;
+    fn asn1x_convert_first(
+        held: &mut Held,
+        from: u32,
+        to: u32,
+        octets: *const u8,
+        length: usize,
+        out: *mut u8,
+        room: usize,
+    ) -> One;
+    fn asn1x_show_first(held: &mut Held, from: u32, octets: *const u8, length: usize, out: *mut u8, room: usize) -> One;
     fn asn1x_name(number: u32, out: *mut u8, room: usize) -> usize;
 }
 
@@ -125,10 +141,24 @@ impl Type {
         counted(&done)
     }
 
-    /// How many octets the first value has.
-    pub fn first(&mut self, from: Rule, octets: &[u8]) -> Result<usize, Refused> {
-        let done = unsafe { asn1x_first(&mut self.0, from as u32, octets.as_ptr(), octets.len()) };
-        counted(&done).map(|_| done.octets)
+    /// Writes the first value's encoding behind `out`, and returns how many octets it has in `octets`.
+    pub fn convert_first(
+        &mut self,
+        from: Rule,
+        to: Rule,
+        octets: &[u8],
+        out: &mut Vec<u8>,
+    ) -> Result<usize, Refused> {
+        let held = &mut self.0;
+        used(out, |at, room| unsafe {
+            asn1x_convert_first(held, from as u32, to as u32, octets.as_ptr(), octets.len(), at, room)
+        })
+    }
+
+    /// Writes a line of text for the first value behind `out`, likewise.
+    pub fn show_first(&mut self, from: Rule, octets: &[u8], out: &mut Vec<u8>) -> Result<usize, Refused> {
+        let held = &mut self.0;
+        used(out, |at, room| unsafe { asn1x_show_first(held, from as u32, octets.as_ptr(), octets.len(), at, room) })
     }
 }
 
@@ -137,14 +167,23 @@ fn counted(done: &Done) -> Result<u64, Refused> {
     if number == 0 { Ok(values) } else { Err(Refused { number, values }) }
 }
 
+fn written(out: &mut Vec<u8>, call: impl FnMut(*mut u8, usize) -> Done) -> Result<u64, Refused> {
+    counted(&with_room(out, call, |done| done.octets))
+}
+
+fn used(out: &mut Vec<u8>, call: impl FnMut(*mut u8, usize) -> One) -> Result<usize, Refused> {
+    let One { refusal: number, used, .. } = with_room(out, call, |one| one.octets);
+    if number == 0 { Ok(used) } else { Err(Refused { number, values: 0 }) }
+}
+
 /// A call that has too little room says how much it takes, and is made again.
-fn written(out: &mut Vec<u8>, mut call: impl FnMut(*mut u8, usize) -> Done) -> Result<u64, Refused> {
+fn with_room<T>(out: &mut Vec<u8>, mut call: impl FnMut(*mut u8, usize) -> T, octets: impl Fn(&T) -> usize) -> T {
     let mut room = vec![0; 64];
     let mut done = call(room.as_mut_ptr(), room.len());
-    if done.octets > room.len() {
-        room = vec![0; done.octets];
+    if octets(&done) > room.len() {
+        room = vec![0; octets(&done)];
         done = call(room.as_mut_ptr(), room.len());
     }
-    out.extend_from_slice(&room[..done.octets]);
-    counted(&done)
+    out.extend_from_slice(&room[..octets(&done)]);
+    done
 }

@@ -1,2 +1,3 @@
 pub mod LooseValues
 pub mod KeptValues
+mod FirstLemmas

@@ -14,6 +14,7 @@ use Rattle.engine.specs.Stream.{IsChecked, IsCheckStopped, IsConverted, IsLine, 
 use Rattle.engine.specs.declared.stopped.Stopped.{Stopped}
 use Rattle.asn1x_c.specs.Numbers.{wrong_argument}
 use Rattle.asn1x_c.specs.declared.done.Done.{Done}
+use Rattle.asn1x_c.specs.declared.done.ModuleFault.{ModuleFault}
 
 -- what is written stands at the front of a buffer that has room for all of it; else the buffer is as it was
 abbrev pub with_front : List ℕ → List ℕ → List ℕ
@@ -68,6 +69,10 @@ pub record HasRead (rule : Rule) (shape : Shape) (octets : List ℕ) (done : Don
 -- nothing was done, since an argument is none
 abbrev pub IsWrong : Done → Type 0
 IsWrong done = (done.refusal ≡ wrong_argument) × (done.values ≡ 0) × (done.octets ≡ 0)
+
+-- a fault that stands nowhere in a module is given its front
+abbrev pub HasNoPlace : ModuleFault → Type 0
+HasNoPlace fault = (fault.line ≡ 1) × (fault.column ≡ 1)
 
 -- what a call comes to, by the type that is held and the rule of the number that is passed
 abbrev pub ByRule : Option Ty → Option Rule → (Shape → Rule → Type 0) → Type 0 → Type 0

@@ -2,3 +2,4 @@ pub mod Kept
 pub mod Held
 pub mod Numbers
 pub mod Done
+pub mod One

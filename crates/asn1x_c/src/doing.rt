@@ -5,6 +5,7 @@ ghost use Rattle.octets.specs.Front.{HasFront};
 ghost use Rattle.types.specs.Encoding.{IsAccepted, IsSomeAccepted};
 ghost use Rattle.types.specs.Refusal.{IsFinal};
 ghost use Rattle.types.specs.View.{ty_view, value_view};
+ghost use Rattle.engine.specs.Refusal.{IsOfReadingBy};
 ghost use Rattle.engine.specs.Rule.{rule_of, canonical_rule_of};
 ghost use Rattle.asn1x_c.specs.Done.{HasChecked, HasConverted, HasListed, HasRead};
 
@@ -76,7 +77,7 @@ pub(crate) fn read_first(alloc: Global, ty: &WellTyped, from: Rule, octets: &[u8
 }
 
 // The first value by the rule, and how many octets it has.
-fn read_by(
+pub(crate) fn read_by(
     alloc: Global,
     ty: &WellTyped,
     from: Rule,
@@ -88,6 +89,7 @@ fn read_by(
         ¬ HasFront (IsSomeAccepted (rule_of from) (ty_view ty.now)) octets.now }
     ensures never { IfErr result (λ refusal. IsFinal refusal → (more : List ℕ) →
         ¬ HasFront (IsSomeAccepted (rule_of from) (ty_view ty.now)) (octets.now ++ more)) }
+    ensures numbers { IfErr result (IsOfReadingBy (rule_of from)) }
 {
     match from {
         Rule::Ber => read(alloc, ty, octets),

@@ -12,6 +12,18 @@ pub struct Done {
     pub octets: usize,
 }
 
+/// What a call that writes one value comes to.
+#[repr(C)]
+#[derive(Clone, Copy, Debug)]
+pub struct One {
+    /// 0, or the number of the refusal, or 255 for an argument that is none.
+    pub refusal: u32,
+    /// How many octets the value has; 0 where none was written.
+    pub used: usize,
+    /// How many octets there are to write.
+    pub octets: usize,
+}
+
 /// Why a module gives no type, and where.
 #[repr(C)]
 #[derive(Clone, Copy, Debug)]

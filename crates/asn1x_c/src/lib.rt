@@ -6,6 +6,7 @@
 
 mod doing;
 mod done;
+mod first_value;
 mod held;
 mod kept;
 mod loose;

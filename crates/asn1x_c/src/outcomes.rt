@@ -1,11 +1,12 @@
 //! Makes what calls return to C, and puts octets into its buffers.
 
-ghost use Rattle.std.specs.Prelude.{◌≡◌};
-ghost use Rattle.asn1x_c.specs.Done.{IsPut, IsWrong, done_of};
+ghost use Rattle.std.specs.Prelude.{◌≡◌, IfOk, IfErr};
+ghost use Rattle.asn1x_c.specs.Done.{HasNoPlace, IsPut, IsWrong, done_of};
 ghost use Rattle.asn1x_c.specs.Numbers.{wrong_argument};
+ghost use Rattle.asn1x_c.specs.One.{IsNoOne, IsPutOne, IsRefusedOne};
 
-use crate::done::{Done, ModuleFault};
-use convert::{Fault, Stopped};
+use crate::done::{Done, ModuleFault, One};
+use convert::{Fault, Refusal, Stopped};
 
 // The number of an argument that a call cannot take.
 pub(crate) const WRONG_ARGUMENT: u32 = 255;
@@ -41,6 +42,38 @@ impl Done {
     }
 }
 
+impl One {
+    // What is written for a value of so many octets is put into a buffer.
+    pub(crate) fn of(outcome: Result<(Vec<u8>, usize), Refusal>, out: &mut [u8]) -> One
+        ensures put { IfOk outcome (λ p. IsPutOne p.1 p.0.items out.old out.new result) }
+        ensures refused { IfErr outcome (λ refusal. IsRefusedOne refusal out.old out.new result) }
+    {
+        match outcome {
+            Ok((written, used)) => One {
+                refusal: 0,
+                used,
+                octets: put(written.as_slice(), out),
+            },
+            Err(refusal) => One {
+                refusal: u32::from(refusal.number()),
+                used: 0,
+                octets: 0,
+            },
+        }
+    }
+
+    // An argument is none.
+    pub(crate) fn wrong() -> One
+        ensures { IsNoOne result }
+    {
+        One {
+            refusal: WRONG_ARGUMENT,
+            used: 0,
+            octets: 0,
+        }
+    }
+}
+
 impl ModuleFault {
     // None.
     pub(crate) fn none() -> ModuleFault
@@ -55,23 +88,21 @@ impl ModuleFault {
 
     // Where the module is refused.
     pub(crate) fn of(fault: Fault) -> ModuleFault
-        ensures { result.number ≡ fault.number }
+        ensures number { result.number ≡ fault.number }
+        ensures line { result.line ≡ fault.line }
+        ensures column { result.column ≡ fault.column }
     {
-        let Fault {
-            number,
-            line,
-            column,
-        } = fault;
         ModuleFault {
-            number,
-            line,
-            column,
+            number: fault.number,
+            line: fault.line,
+            column: fault.column,
         }
     }
 
     // A fault that has no place.
     pub(crate) fn without_place(number: u32) -> ModuleFault
-        ensures { result.number ≡ number }
+        ensures number { result.number ≡ number }
+        ensures place { HasNoPlace result }
     {
         ModuleFault {
             number,

@@ -2,7 +2,9 @@
 
 use crate::held::HeldType;
 use crate::type_calls::{asn1x_name, asn1x_type_free, asn1x_type_from};
-use crate::value_calls::{asn1x_check, asn1x_convert, asn1x_first, asn1x_show};
+use crate::value_calls::{
+    asn1x_check, asn1x_convert, asn1x_convert_first, asn1x_first, asn1x_show, asn1x_show_first,
+};
 use std::alloc::Global;
 use std::test::Fail;
 
@@ -58,6 +60,50 @@ fn goes_from_value_to_value(rt: HostRuntime) -> Result<(), Fail> {
     asn1x_type_free(rt.alloc(), &mut ty);
     let done = asn1x_first(rt.alloc(), &mut ty, 0, OCTETS);
     assert_eq!(rt; (done.refusal, done.values, done.octets), (255, 0, 0));
+    Ok(())
+}
+
+#[test]
+fn converts_values_one_by_one(rt: HostRuntime) -> Result<(), Fail> {
+    let mut ty = held(rt.alloc());
+    let mut room = [0; 6];
+    let one = asn1x_convert_first(rt.alloc(), &mut ty, 0, 2, OCTETS, &mut room[..5]);
+    assert_eq!(rt; (one.refusal, one.used, one.octets), (0, 7, 5));
+    let one = asn1x_convert_first(rt.alloc(), &mut ty, 0, 2, &OCTETS[7..], &mut room[5..]);
+    assert_eq!(rt; (one.refusal, one.used, one.octets), (0, 2, 2));
+    assert_eq!(rt; room, [0x30, 0x03, 0x01, 0x01, 0xFF, 0]);
+    asn1x_type_free(rt.alloc(), &mut ty);
+    Ok(())
+}
+
+#[test]
+fn says_why_no_first_value_is_converted(rt: HostRuntime) -> Result<(), Fail> {
+    let mut ty = held(rt.alloc());
+    let mut room = [0; 6];
+    let one = asn1x_convert_first(rt.alloc(), &mut ty, 0, 2, &OCTETS[9..], &mut room);
+    assert_eq!(rt; (one.refusal, one.used, one.octets), (2, 0, 0));
+    let one = asn1x_convert_first(rt.alloc(), &mut ty, 0, 2, &OCTETS[..6], &mut room);
+    assert_eq!(rt; (one.refusal, one.used, one.octets), (1, 0, 0));
+    let one = asn1x_convert_first(rt.alloc(), &mut ty, 0, 0, OCTETS, &mut room);
+    assert_eq!(rt; (one.refusal, one.used, one.octets), (255, 0, 0));
+    assert_eq!(rt; room, [0; 6]);
+    asn1x_type_free(rt.alloc(), &mut ty);
+    Ok(())
+}
+
+#[test]
+fn shows_values_one_by_one(rt: HostRuntime) -> Result<(), Fail> {
+    let mut ty = held(rt.alloc());
+    let mut room = [0; 9];
+    let one = asn1x_show_first(rt.alloc(), &mut ty, 0, OCTETS, &mut room[..8]);
+    assert_eq!(rt; (one.refusal, one.used, one.octets), (0, 7, 9));
+    assert_eq!(rt; room, [0; 9]);
+    let one = asn1x_show_first(rt.alloc(), &mut ty, 0, OCTETS, &mut room);
+    assert_eq!(rt; (one.refusal, one.used, one.octets), (0, 7, 9));
+    assert_eq!(rt; room.as_slice(), b"{ TRUE }\n".as_slice());
+    let one = asn1x_show_first(rt.alloc(), &mut ty, 2, OCTETS, &mut room);
+    assert_eq!(rt; (one.refusal, one.used, one.octets), (12, 0, 0));
+    asn1x_type_free(rt.alloc(), &mut ty);
     Ok(())
 }
 

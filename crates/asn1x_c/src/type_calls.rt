@@ -6,7 +6,7 @@ ghost use Rattle.types.specs.View.{ty_view};
 ghost use Rattle.types.specs.WellFormed.{IsWellFormed};
 ghost use Rattle.types.specs.declared.ty.Ty.{Ty};
 ghost use Rattle.convert.specs.ModuleFile.{FileMeans};
-ghost use Rattle.asn1x_c.specs.Done.{IsPut};
+ghost use Rattle.asn1x_c.specs.Done.{HasNoPlace, IsPut};
 ghost use Rattle.asn1x_c.specs.Held.{type_of};
 ghost use Rattle.asn1x_c.specs.Numbers.{IsFaultNumber, name_numbered, wrong_argument};
 
@@ -34,6 +34,7 @@ pub extern "C" fn asn1x_type_from(
     ensures refused { result.number ≢ 0 → result.number ≢ 33 → result.number ≢ wrong_argument → (type : Shape) →
         FileMeans text.now name.now type → ¬ IsWellFormed type }
     ensures cycle { result.number ≡ 25 → (type : Shape) → ¬ FileMeans text.now name.now type }
+    ensures place { result.number ≡ wrong_argument → HasNoPlace result }
     ensures numbers { (result.number ≡ 0) ⊎ IsFaultNumber result.number ⊎ (result.number ≡ wrong_argument) }
 {
     let _former = held.take(alloc);
@@ -55,6 +56,7 @@ fn type_named(alloc: Global, text: &[u8], name: &[u8]) -> Result<Box<WellTyped>,
     ensures refused { IfErr result (λ fault. fault.number ≢ 33 → fault.number ≢ wrong_argument → (type : Shape) →
         FileMeans text.now name.now type → ¬ IsWellFormed type) }
     ensures cycle { IfErr result (λ fault. fault.number ≡ 25 → (type : Shape) → ¬ FileMeans text.now name.now type) }
+    ensures place { IfErr result (λ fault. fault.number ≡ wrong_argument → HasNoPlace fault) }
     ensures numbers { IfErr result (λ fault. IsFaultNumber fault.number ⊎ (fault.number ≡ wrong_argument)) }
 {
     let Ok(name) = from_utf8(name) else {

@@ -4,9 +4,11 @@ ghost use Rattle.std.specs.Prelude.{◌≡◌};
 ghost use Rattle.asn1x_c.specs.Done.{ByRule, ByRules, HasChecked, HasConverted, HasListed, HasRead, IsWrong};
 ghost use Rattle.asn1x_c.specs.Held.{type_of};
 ghost use Rattle.asn1x_c.specs.Numbers.{canonical_numbered, rule_numbered};
+ghost use Rattle.asn1x_c.specs.One.{HasConvertedFirst, HasShownFirst, IsNoOne};
 
 use crate::doing::{check_all, convert_all, list_all, read_first};
-use crate::done::Done;
+use crate::done::{Done, One};
+use crate::first_value::{convert_first, show_first};
 use crate::held::HeldType;
 use crate::numbers::{canonical_numbered, rule_numbered};
 use std::alloc::Global;
@@ -101,4 +103,60 @@ pub extern "C" fn asn1x_first(alloc: Global, held: &mut HeldType, from: u32, oct
     let done = read_first(alloc, &ty, from, octets);
     held.put(alloc, ty);
     done
+}
+
+/// Converts the first value of `octets`, and puts its encoding into `out` where there is room for all of it. What is
+/// behind the value is not looked at.
+#[unsafe(no_mangle)]
+pub extern "C" fn asn1x_convert_first(
+    alloc: Global,
+    held: &mut HeldType,
+    from: u32,
+    to: u32,
+    octets: &[u8],
+    out: &mut [u8],
+) -> One
+    ensures held { type_of held.new ≡ type_of held.old }
+    ensures done { ByRules (type_of held.old) (rule_numbered from) (canonical_numbered to)
+        (λ shape from to. HasConvertedFirst from to shape octets.now out.old out.new result)
+        (IsNoOne result × (out.new ≡ out.old)) }
+{
+    let Some(from) = rule_numbered(from) else {
+        return One::wrong();
+    };
+    let Some(to) = canonical_numbered(to) else {
+        return One::wrong();
+    };
+    let Some(ty) = held.take(alloc) else {
+        return One::wrong();
+    };
+    let one = convert_first(alloc, &ty, from, to, octets, out);
+    held.put(alloc, ty);
+    one
+}
+
+/// Puts a line of text for the first value of `octets` into `out` where there is room for all of it. What is behind the
+/// value is not looked at.
+#[unsafe(no_mangle)]
+pub extern "C" fn asn1x_show_first(
+    alloc: Global,
+    held: &mut HeldType,
+    from: u32,
+    octets: &[u8],
+    out: &mut [u8],
+) -> One
+    ensures held { type_of held.new ≡ type_of held.old }
+    ensures done { ByRule (type_of held.old) (rule_numbered from)
+        (λ shape from. HasShownFirst from shape octets.now out.old out.new result)
+        (IsNoOne result × (out.new ≡ out.old)) }
+{
+    let Some(from) = rule_numbered(from) else {
+        return One::wrong();
+    };
+    let Some(ty) = held.take(alloc) else {
+        return One::wrong();
+    };
+    let one = show_first(alloc, &ty, from, octets, out);
+    held.put(alloc, ty);
+    one
 }

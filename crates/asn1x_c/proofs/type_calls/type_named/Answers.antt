@@ -9,4 +9,4 @@ returns-in-Ok-new-clause-only c = λ other means.
 
 pub returns-clause-cycle : goal.returns-clause-cycle
 returns-clause-cycle c = λ is type means.
-    c.in-Err.ensures.cycle (sym c.of.ensures ∙ is) type (subst (λ (name : List ℕ). FileMeans c.args.text.now name type) (sym c.in-Ok.ensures.cases.0) means)
+    c.in-Err.ensures.cycle (sym c.of.ensures.number ∙ is) type (subst (λ (name : List ℕ). FileMeans c.args.text.now name type) (sym c.in-Ok.ensures.cases.0) means)

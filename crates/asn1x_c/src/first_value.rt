@@ -1,0 +1,112 @@
+//! What the calls that write the first value do with a type.
+
+ghost use Rattle.std.specs.Prelude.{◌≡◌, ℕ, List, OnOk, IfOk, IfErr};
+ghost use Rattle.octets.specs.Front.{Appends};
+ghost use Rattle.types.specs.Conforms.{Conforms};
+ghost use Rattle.types.specs.Encoding.{IsAccepted};
+ghost use Rattle.types.specs.Refusal.{IsOfWriting};
+ghost use Rattle.types.specs.View.{ty_view, value_view};
+ghost use Rattle.texts.specs.Shown.{IsShown};
+ghost use Rattle.engine.specs.Rule.{rule_of, canonical_rule_of};
+ghost use Rattle.engine.specs.Stream.{IsLine};
+ghost use Rattle.asn1x_c.specs.One.{HasConvertedFirst, HasShownFirst, IsFirstWritten, RefusesFirst};
+
+use crate::doing::read_by;
+use crate::done::One;
+use convert::{Canon, Canonical, Cer, Der, Refusal, Rule, Value, WellTyped, show};
+use std::alloc::Global;
+
+// Converts the first value of the octets into a buffer.
+pub(crate) fn convert_first(
+    alloc: Global,
+    ty: &WellTyped,
+    from: Rule,
+    to: Canonical,
+    octets: &[u8],
+    out: &mut [u8],
+) -> One
+    ensures { HasConvertedFirst (rule_of from) (canonical_rule_of to) (ty_view ty.now) octets.now out.old out.new result }
+{
+    One::of(encode_first(alloc, ty, from, to, octets), out)
+}
+
+// Writes a line of text for the first value into a buffer.
+pub(crate) fn show_first(
+    alloc: Global,
+    ty: &WellTyped,
+    from: Rule,
+    octets: &[u8],
+    out: &mut [u8],
+) -> One
+    ensures { HasShownFirst (rule_of from) (ty_view ty.now) octets.now out.old out.new result }
+{
+    One::of(print_first(alloc, ty, from, octets), out)
+}
+
+// The first value's encoding by the rule `to`, and how many octets it has as it stands.
+fn encode_first(
+    alloc: Global,
+    ty: &WellTyped,
+    from: Rule,
+    to: Canonical,
+    octets: &[u8],
+) -> Result<(Vec<u8>, usize), Refusal>
+    ensures value { IfOk result (λ p. IsFirstWritten (IsAccepted (canonical_rule_of to) (ty_view ty.now))
+        (rule_of from) (ty_view ty.now) octets.now p.1 p.0.items) }
+    ensures refused { IfErr result (RefusesFirst (IsAccepted (canonical_rule_of to) (ty_view ty.now))
+        (rule_of from) (ty_view ty.now) octets.now) }
+{
+    let (value, used) = read_by(alloc, ty, from, octets)?;
+    let mut written = Vec::new(alloc);
+    put_by(alloc, ty, to, &value, &mut written)?;
+    Ok((written, used))
+}
+
+// The first value's line of text, and how many octets it has.
+fn print_first(
+    alloc: Global,
+    ty: &WellTyped,
+    from: Rule,
+    octets: &[u8],
+) -> Result<(Vec<u8>, usize), Refusal>
+    ensures value { IfOk result (λ p. IsFirstWritten (IsLine (IsShown (ty_view ty.now)))
+        (rule_of from) (ty_view ty.now) octets.now p.1 p.0.items) }
+    ensures refused { IfErr result (RefusesFirst (IsLine (IsShown (ty_view ty.now)))
+        (rule_of from) (ty_view ty.now) octets.now) }
+{
+    let (value, used) = read_by(alloc, ty, from, octets)?;
+    let line = line_of(alloc, ty, &value)?;
+    Ok((line, used))
+}
+
+// Appends the encoding of a value by the rule.
+fn put_by(
+    alloc: Global,
+    ty: &WellTyped,
+    to: Canonical,
+    value: &Value,
+    out: &mut Vec<u8>,
+) -> Result<(), Refusal>
+    requires { Conforms (ty_view ty.now) (value_view value.now) }
+    ensures appended { OnOk result (Appends
+        (IsAccepted (canonical_rule_of to) (ty_view ty.now) (value_view value.now)) out.old.items out.new.items) }
+    ensures too_long { result ≡ Err Refusal.OutputTooLong →
+        (b : List ℕ) → ¬ IsAccepted (canonical_rule_of to) (ty_view ty.now) (value_view value.now) b }
+    ensures numbers { IfErr result IsOfWriting }
+{
+    match to {
+        Canonical::Cer => Cer.put(alloc, ty, value, out),
+        Canonical::Der => Der.put(alloc, ty, value, out),
+    }
+}
+
+// The text of a value and a line feed.
+fn line_of(alloc: Global, ty: &WellTyped, value: &Value) -> Result<Vec<u8>, Refusal>
+    requires { Conforms (ty_view ty.now) (value_view value.now) }
+    ensures line { IfOk result (λ line. IsLine (IsShown (ty_view ty.now)) (value_view value.now) line.items) }
+    ensures refused { IfErr result (λ refusal. refusal ≡ Refusal.NoMemory) }
+{
+    let mut text = show(alloc, ty, value)?;
+    text.push('\n')?;
+    Ok(text.into_bytes())
+}
