@@ -3,7 +3,7 @@
 use octets::NoMemory;
 use std::alloc::Global;
 use std::string::String;
-use types::{Field, Item, NamedBit, Presence, Ty};
+use types::{Alternative, Field, Item, NamedBit, Presence, Ty};
 use walking::{LeafTypes, PrintedTag, name_of, show_leaf};
 
 /// How many levels and nodes a type has.
@@ -32,25 +32,7 @@ pub fn put_type(
             let within = put_type(alloc, inner, "", "", level.saturating_add(1), out)?;
             Ok(around(within))
         }
-        Ty::Choice(alternatives) => {
-            let mut size = Size {
-                nodes: 1,
-                levels: 0,
-            };
-            for alternative in alternatives {
-                let name = alternative.name.as_str();
-                let within = put_type(
-                    alloc,
-                    &alternative.ty,
-                    name,
-                    "",
-                    level.saturating_add(1),
-                    out,
-                )?;
-                size = beside(size, within);
-            }
-            Ok(size)
-        }
+        Ty::Choice(alternatives) => put_alternatives(alloc, alternatives, level, out),
         Ty::Enumerated(_, items) => {
             put_item_lines(items, level, out)?;
             Ok(LEAF)
@@ -116,6 +98,30 @@ fn put_fields(
         size = beside(size, within);
     }
     size.levels = size.levels.saturating_add(1);
+    Ok(size)
+}
+
+// Appends the lines of alternatives. A CHOICE has no encoding of its own.
+#[cycle(type_lines)]
+fn put_alternatives(
+    alloc: Global,
+    alternatives: &[Alternative],
+    level: usize,
+    out: &mut String,
+) -> Result<Size, NoMemory> {
+    let mut size = LEAF;
+    for alternative in alternatives {
+        let name = alternative.name.as_str();
+        let within = put_type(
+            alloc,
+            &alternative.ty,
+            name,
+            "",
+            level.saturating_add(1),
+            out,
+        )?;
+        size = beside(size, within);
+    }
     Ok(size)
 }
 
