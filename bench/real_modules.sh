@@ -6,9 +6,9 @@
 #
 # PROGRAM is crates/asn1x_trim/out/asn1x_trim unless given, which `rt run` in crates/asn1x_trim builds. The folders are
 # looked through for modules; without any, those in which the packages have theirs. Each type of each file is asked
-# for, with the other files of its folder behind unless it is an RFC, as it stands, with --narrow, and with --narrow and
-# --unroll 1. Printed are the numbers of files, modules and types, how many came through, and for the others how often
-# each first reason came.
+# for, or each EVERYth where EVERY is set in the environment, with the other files of its folder behind unless it is an
+# RFC, as it stands, with --narrow, and with --narrow and --unroll 1. Printed are the numbers of files, modules and
+# types, how many came through, and for the others how often each first reason came.
 #
 # bench/real_messages.sh, which this runs at the end, converts messages by modules that are trimmed from these texts.
 # The status is 1 where that fails, or where there are no modules.
@@ -62,7 +62,8 @@ types_of() {
 # A line for each type: its number, its file, and its name.
 while read -r file; do
     types_of "$file" | sed "s|^|$file |"
-done <"$work/files" | grep -E ' [A-Z][A-Za-z0-9-]*\.[A-Z]' | nl -ba -s ' ' >"$work/types"
+done <"$work/files" | grep -E ' [A-Z][A-Za-z0-9-]*\.[A-Z]' | awk -v every="${EVERY:-1}" 'NR % every == 0' |
+    nl -ba -s ' ' >"$work/types"
 [ -s "$work/types" ] || { echo "real_modules: no types in these files" >&2; exit 1; }
 asked=$(wc -l <"$work/types")
 files=$(awk '{ print $2 }' "$work/types" | sort -u | wc -l)

@@ -25,6 +25,7 @@ measure() {
     local name=$1 took resident
     shift
     head -c 16777216 >"$work/in.asn"
+    [ -s "$work/in.asn" ] || { echo "trimming: there is no text of $name" >&2; status=1; }
     # shellcheck disable=SC2016
     read -r took resident < <("$work/floor" measure 1 /bin/sh -c '"$@" 2>/dev/null; [ $? -le 1 ]' sh \
         "$program" "$work/in.asn" M.T "$@")
@@ -37,7 +38,7 @@ measure() {
 
 # The line over and over, behind the head of a module or not.
 repeat() {
-    yes "$1" 2>/dev/null || :
+    yes -- "$1" 2>/dev/null || :
 }
 behind() {
     echo "M DEFINITIONS $1 ::= BEGIN"
