@@ -44,9 +44,10 @@ growths: rt
 # Proves the program and each library that it stands on, and puts it on the path, with its manual page and completion.
 # Beside it stands the library for callers of C.
 install: rt
-	@install/proved.sh asn1x asn1x_c
+	@install/proved.sh asn1x
 	@$(call put,crates/asn1x/out/asn1x)
 	@echo 'installed $(program), which is proved, and its manual page (man asn1x)'
+	@install/proved.sh asn1x_c
 	@install/library.sh crates/asn1x_c/out/library
 	@$(put_library)
 	@echo 'installed $(library)/libasn1x.a and libasn1x.so, which are proved, and asn1x.h (pkg-config asn1x)'
