@@ -1,6 +1,7 @@
 //! Tests of the crates that have, read and write values, of each by itself, through what it offers: `octets` (`headed`),
 //! `primitives` (`primitive`), `strings` (`lettered`), `types` (`typed`), `contents` (`by_parts`), `whole` (`at_once`),
-//! `berreader` (`reading`), `canon` (`writing`), `strict` (`canonical`) and `texts` (`shown`).
+//! `berreader` (`reading`), `canon` (`writing`), `strict` (`canonical`) and `texts` (`shown`). Types and values come from
+//! plans (`made`).
 //!
 //! They stand here and not in those crates, since the check of a crate's tests proves the crate once more.
 #![tactic(auto)]
