@@ -18,6 +18,7 @@ pub mod PresentLemmas
 pub mod ComponentLemmas
 pub mod SequenceLemmas
 pub mod ListLemmas
+pub mod NeighbourLemmas
 pub mod OrderedLemmas
 pub mod ChosenLemmas
 pub mod EndingLemmas

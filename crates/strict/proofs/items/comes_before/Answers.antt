@@ -1,0 +1,10 @@
+use Rattle.std.proofs.Common.{ap, sym, ◌∙◌, arith}
+use Rattle.std.specs.Ordering.{is_lt}
+use Rattle.strict.proofs.NeighbourLemmas.{apart_at, alike_at}
+use Rattle.strict.proofs.items.comes_before.Goals as goal
+
+pub returns-then-a-i : goal.returns-then-a-i
+returns-then-a-i c = apart_at c.args.a.now c.args.b.now c.loop-i.i (omega arith) (omega arith) c.if-a-i.true ∙ sym (ap is_lt c.loop-i.invariant)
+
+pub loop-i-preserved : goal.loop-i-preserved
+loop-i-preserved c = c.loop-i.invariant ∙ alike_at c.args.a.now c.args.b.now c.loop-i.i (omega arith) (omega arith) c.if-a-i.false
