@@ -41,6 +41,11 @@ fewer_behind d room at octets within there h = omega (arith, h, within, there, a
 pub less_behind : (d : Bool) (room at : ℕ) (octets : List ℕ) → at ≤ room → at ≤ length octets → length (take (length octets - at) (drop at octets)) < room - at → AreFewer d room octets
 less_behind d room at octets within there h = omega (arith, h, within, there, ap length (take_rest octets at), length-drop at octets)
 
+-- and both through a `?`
+pub cut_behind : {T : Type 0} (result : Result T Refusal) (x : Refusal) (inside : Inside) (at : ℕ) (octets : List ℕ) → IsErrAnd result (λ e. e ≡ x) → at ≤ inside.room → at ≤ length octets → (x ≡ Truncated → AreFewer inside.definite (inside.room - at) (take (length octets - at) (drop at octets)))
+    → IfErr result (λ r. r ≡ Truncated → AreFewer inside.definite inside.room octets)
+cut_behind result x inside at octets is within there cut = cut_through result x (AreFewer inside.definite inside.room octets) is (λ same. fewer_behind inside.definite inside.room at octets within there (cut same))
+
 contents_short : (contents room taken : ℕ) (octets : List ℕ) → AreContentsCut contents room taken octets → taken + length octets < room
 contents_short contents room taken octets h = omega (arith, h.fewer, h.fits, ap length h.joined, length-append h.size h.some)
 
@@ -66,6 +71,13 @@ begun_short rule type room octets (inl h) = omega (arith, h.fits)
 begun_short rule type room octets (inr h) =
     let b = h.begun in
     omega (arith, form_short rule h.node h.constructed room (length b.identifier) b.others b.behind, ap length b.joined, length-append b.identifier b.others)
+
+-- so what holds an item that has begun has too few, through a `?`
+pub item_behind : {T : Type 0} (result : Result T Refusal) (x : Refusal) (rule : Canonical) (type : Shape) (inside : Inside) (at : ℕ) (octets : List ℕ) → IsErrAnd result (λ e. e ≡ x) → at ≤ inside.room → at ≤ length octets
+    → (x ≡ Truncated → IsBegun rule type (inside.room - at) (take (length octets - at) (drop at octets))) → IfErr result (λ r. r ≡ Truncated → AreFewer inside.definite inside.room octets)
+item_behind result x rule type inside at octets is within there cut =
+    cut_through result x (AreFewer inside.definite inside.room octets) is
+    (λ same. less_behind inside.definite inside.room at octets within there (begun_short rule type (inside.room - at) (take (length octets - at) (drop at octets)) (cut same)))
 
 -- length octets that are not complete behind those of the identifier
 pub length_cut : (rule : Canonical) (tag : Tag) (room i : ℕ) (octets : List ℕ) → i ≤ length octets → IsIdentifier tag true (take i octets) → IsLengthCut room i (take (length octets - i) (drop i octets)) → IsConstructedCut rule tag room octets
@@ -141,6 +153,11 @@ begun_constructed rule type tag room octets due can (inr h) = inr record {
   due = due;
   begun = record { identifier = h.identifier; others = h.others; tagged = h.tagged; joined = h.joined; behind = (can, h.behind) };
 }
+
+-- so it is begun where there are too few inside what was opened
+pub begun_around : (rule : Canonical) (type : Shape) (tag : Tag) (room : ℕ) (octets : List ℕ) (inside : Inside) → IsNodeFor tag type type → CanBeConstructed rule type → IsOpened (rule_of rule) tag room octets inside
+    → AreFewer inside.definite inside.room (take (length octets - inside.start) (drop inside.start octets)) → IsBegun rule type room octets
+begun_around rule type tag room octets inside due can h fewer = begun_constructed rule type tag room octets due can (opened_cut rule tag room octets inside h fewer)
 
 -- and of one without parts
 leaf_due : (type : Shape) → IsLeaf type → IsNodeFor (tag_of type) type type

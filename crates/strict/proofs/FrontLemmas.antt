@@ -1,5 +1,5 @@
 -- Lemmas on what stands at the front: a tag, or the end of contents octets.
-use Rattle.std.proofs.Common.{◌≡◌, ◌↔◌, ℕ, ◌≤◌, inl, inr, List, [], ◌∷◌, ◌++◌, Bool, true, false, Option, Some, None, IsTrue, Contains, MatchOption, length, take, drop, refl, sym, ◌∙◌, ap, subst, arith, append_assoc, length-append}
+use Rattle.std.proofs.Common.{◌≡◌, ◌↔◌, ℕ, ◌≤◌, inl, inr, List, ◌∷◌, ◌++◌, Bool, true, false, Option, Some, None, IsTrue, Contains, MatchOption, length, take, drop, refl, sym, ◌∙◌, ap, subst, arith, append_assoc, length-append}
 use Rattle.std.proofs.lemmas.List.{length-take-le, take-append-drop}
 use Rattle.octets.specs.declared.tag.Tag.{Tag}
 use Rattle.octets.specs.Identifier.{IsIdentifier}

@@ -1,0 +1,300 @@
+-- What is answered of the readers of a SET.
+use Rattle.std.proofs.Common.{rules, ◌≡◌, ◌-◌, ◌≤◌, ◌++◌, ℕ, List, Option, Some, None, length, map, take, drop, true, false, sym, ap, ◌∙◌, subst, subst₂, arith, refl}
+use Rattle.std.specs.List.{concat}
+use Rattle.std.proofs.lemmas.List.{take_rest, length-drop, length-map}
+use Rattle.octets.specs.declared.TheConstants.{MAX_ENCODING}
+use Rattle.octets.specs.declared.tag.Tag.{Tag}
+use Rattle.types.specs.declared.value.Value.{Value}
+use Rattle.types.specs.Shape.{Shape}
+use Rattle.types.specs.View.{field_view, components_view}
+use Rattle.types.specs.declared.ty.Ty as node
+use Rattle.types.specs.declared.ty.Field as field
+use Rattle.contents.specs.Parts.{IsGoodType, IsGoodComponent}
+use Rattle.strict.specs.Canonical.{rule_of}
+use Rattle.strict.specs.Head.{EndsHere, HasConstructed}
+use Rattle.strict.specs.Reading.{HasPart}
+use Rattle.strict.specs.Components.{IsFront, EndsOrBegins, HasPresent, IsPresentRead}
+use Rattle.strict.specs.Members.{IsBegunAt, IsEmptyAt, IsOrderTagOf, HasMembers, AreMembersRead, AreFilled}
+use Rattle.strict.proofs.BarsLemmas.{bars_by, bars_through, bars_behind, bars_inside}
+use Rattle.strict.proofs.PartLemmas.{read_some}
+use Rattle.strict.proofs.FieldLemmas.{field_type}
+use Rattle.strict.proofs.BegunLemmas.{begun_within}
+use Rattle.strict.proofs.DueLemmas.{members_begin, members_filled, none_goes_on, is_due, present_due, none_before, begun_at, component_all}
+use Rattle.strict.proofs.SetLemmas.{come_length, no_members, member_more, set_read, members_inside, good_members}
+use Rattle.strict.proofs.EndingLemmas.{cut_through, never_cut, less_behind, begun_constructed, begun_around, cut_behind}
+use Rattle.strict.proofs.+reading.Goals as goal
+
+pub members::read_members-loop-tag-init : goal.members::read_members-loop-tag-init
+members::read_members-loop-tag-init t c = no_members (rule_of c.args.rule) (map field_view c.args.fields.now) c.args.inside.now.definite c.args.inside.now.room c.args.octets.now c.args.slots.now.items c.requires.none
+
+pub members::read_members-returns-in_err-tag-clause-refused : goal.members::read_members-returns-in_err-tag-clause-refused
+members::read_members-returns-in_err-tag-clause-refused t c =
+    let octets = c.args.octets.now in
+    let rule = rule_of c.args.rule in
+    let fields = c.args.fields.now in
+    let cs = map field_view fields in
+    let d = c.args.inside.now.definite in
+    let room = c.args.inside.now.room in
+    let at = c.loop-tag.at in
+    let slots = c.loop-tag.slots.items in
+    let last = c.loop-tag.last in
+    let read = c.loop-tag.invariant in
+    let Q = HasMembers rule cs (map (λ k. None) cs) None d room in
+    let P = EndsOrBegins d (room - at) in
+    bars_behind c.from_residual.result _ Q P octets at c.from_residual.ensures.1 (λ more h. members_begin rule cs slots last d (room - at) (drop at octets ++ more) c.requires.good (read.forth more h)) c.in_err-tag.ensures.refused
+
+pub members::read_members-place_due-requires-clause-slots : goal.members::read_members-place_due-requires-clause-slots
+members::read_members-place_due-requires-clause-slots t c =
+    let fields = c.args.fields.now in
+    let read = c.loop-tag.invariant in
+    ap length c.deref.ensures.value ∙ (come_length (rule_of c.args.rule) (map field_view fields) c.loop-tag.slots.items read.encodings read.each ∙ length-map fields field_view)
+
+pub members::read_members-returns-in_err-place-clause-refused : goal.members::read_members-returns-in_err-place-clause-refused
+members::read_members-returns-in_err-place-clause-refused t c =
+    let octets = c.args.octets.now in
+    let rule = rule_of c.args.rule in
+    let fields = c.args.fields.now in
+    let cs = map field_view fields in
+    let d = c.args.inside.now.definite in
+    let room = c.args.inside.now.room in
+    let at = c.loop-tag.at in
+    let slots = c.loop-tag.slots.items in
+    let last = c.loop-tag.last in
+    let read = c.loop-tag.invariant in
+    let tag = c.in-Some.tag in
+    let front : IsFront (Some tag) d (room - at) (drop at octets) = subst₂ (λ f x. IsFront f d (room - at) x) c.in-Some.is (take_rest octets at) c.in_ok-tag.ensures.value in
+    let Q = HasMembers rule cs (map (λ k. None) cs) None d room in
+    let none = subst (λ (l : List (Option Value)). (place : ℕ) → IsBegunAt cs place tag → IsEmptyAt l place → ⊥) c.deref.ensures.value c.in_err-place.ensures.never in
+    bars_through c.from_residual-in_err-place.result _ Q octets c.from_residual-in_err-place.ensures.1
+    (λ more may h. none_goes_on rule cs slots last d (room - at) (drop at octets) more tag front none (read.forth more h))
+
+pub members::read_members-offset_bounds-fields-place : goal.members::read_members-offset_bounds-fields-place
+members::read_members-offset_bounds-fields-place t c = search (rules, begun_within c.args.fields.now c.in_ok-place.place c.in-Some.tag c.in_ok-place.ensures.value.0)
+
+pub members::read_members-bounds-fields-place : goal.members::read_members-bounds-fields-place
+members::read_members-bounds-fields-place t c = begun_within c.args.fields.now c.in_ok-place.place c.in-Some.tag c.in_ok-place.ensures.value.0
+
+pub members::read_members-order_tag-order-requires : goal.members::read_members-order_tag-order-requires
+members::read_members-order_tag-order-requires t c =
+    let fields = c.args.fields.now in
+    let cs = map field_view fields in
+    let tag = c.in-Some.tag in
+    let place = c.in_ok-place.place in
+    let begun : IsBegunAt cs place tag = c.in_ok-place.ensures.value.0 in
+    let f = c.index-fields-place.result in
+    let view = field_view f in
+    let here = begun_at fields place f tag begun c.index-fields-place.is in
+    let good = component_all IsGoodComponent cs place view here c.requires.good in
+    subst IsGoodType (field_type f) good.type
+
+pub members::read_members-returns-then-not-comes_behind-clause-refused : goal.members::read_members-returns-then-not-comes_behind-clause-refused
+members::read_members-returns-then-not-comes_behind-clause-refused t c = λ more may h.
+    let octets = c.args.octets.now in
+    let rule = rule_of c.args.rule in
+    let fields = c.args.fields.now in
+    let cs = map field_view fields in
+    let d = c.args.inside.now.definite in
+    let room = c.args.inside.now.room in
+    let at = c.loop-tag.at in
+    let slots = c.loop-tag.slots.items in
+    let last = c.loop-tag.last in
+    let read = c.loop-tag.invariant in
+    let tag = c.in-Some.tag in
+    let front : IsFront (Some tag) d (room - at) (drop at octets) = subst₂ (λ f x. IsFront f d (room - at) x) c.in-Some.is (take_rest octets at) c.in_ok-tag.ensures.value in
+    let place = c.in_ok-place.place in
+    let begun : IsBegunAt cs place tag = c.in_ok-place.ensures.value.0 in
+    let f = c.index-fields-place.result in
+    let view = field_view f in
+    let here = begun_at fields place f tag begun c.index-fields-place.is in
+    let order = c.order_tag-order.result in
+    let ordered : IsOrderTagOf rule view.type tag order = subst (λ t. IsOrderTagOf rule t tag order) (sym (field_type f)) c.order_tag-order.ensures in
+    let due = λ (more : List ℕ) (k : HasMembers rule cs slots last d (room - at) (drop at octets ++ more)). is_due rule cs slots last place view order d (room - at) (drop at octets) more tag c.requires.distinct front begun here ordered k in
+    let off : c.comes_behind.result ≡ false = search rules in
+    none_before rule cs slots last place view order c.comes_behind.result d (room - at) (drop at octets ++ more) c.comes_behind.ensures off (due more (read.forth more h))
+
+pub members::read_members-index_mut-requires : goal.members::read_members-index_mut-requires
+members::read_members-index_mut-requires t c =
+    let rule = rule_of c.args.rule in
+    let fields = c.args.fields.now in
+    let cs = map field_view fields in
+    let slots = c.loop-tag.slots.items in
+    let read = c.loop-tag.invariant in
+    let tag = c.in-Some.tag in
+    let place = c.in_ok-place.place in
+    let begun : IsBegunAt cs place tag = c.in_ok-place.ensures.value.0 in
+    let below = begun_within fields place tag begun in
+    let many : length slots ≡ length fields = come_length rule cs slots read.encodings read.each ∙ length-map fields field_view in
+    omega (arith, below, many)
+
+pub members::read_members-read_present-requires : goal.members::read_members-read_present-requires
+members::read_members-read_present-requires t c =
+    let fields = c.args.fields.now in
+    let cs = map field_view fields in
+    let tag = c.in-Some.tag in
+    let place = c.in_ok-place.place in
+    let begun : IsBegunAt cs place tag = c.in_ok-place.ensures.value.0 in
+    let f = c.index-fields-place.result in
+    let view = field_view f in
+    let here = begun_at fields place f tag begun c.index-fields-place.is in
+    let good = component_all IsGoodComponent cs place view here c.requires.good in
+    (search (rules, node.the_lemmas, field.the_lemmas, begun_within fields place tag begun, c.index-fields-place.is), (good, omega (arith, c.requires.room)))
+
+pub members::read_members-returns-in_err-at-clause-refused : goal.members::read_members-returns-in_err-at-clause-refused
+members::read_members-returns-in_err-at-clause-refused t c =
+    let octets = c.args.octets.now in
+    let rule = rule_of c.args.rule in
+    let fields = c.args.fields.now in
+    let cs = map field_view fields in
+    let d = c.args.inside.now.definite in
+    let room = c.args.inside.now.room in
+    let at = c.loop-tag.at in
+    let slots = c.loop-tag.slots.items in
+    let last = c.loop-tag.last in
+    let read = c.loop-tag.invariant in
+    let tag = c.in-Some.tag in
+    let front : IsFront (Some tag) d (room - at) (drop at octets) = subst₂ (λ f x. IsFront f d (room - at) x) c.in-Some.is (take_rest octets at) c.in_ok-tag.ensures.value in
+    let place = c.in_ok-place.place in
+    let begun : IsBegunAt cs place tag = c.in_ok-place.ensures.value.0 in
+    let f = c.index-fields-place.result in
+    let view = field_view f in
+    let here = begun_at fields place f tag begun c.index-fields-place.is in
+    let order = c.order_tag-order.result in
+    let ordered : IsOrderTagOf rule view.type tag order = subst (λ t. IsOrderTagOf rule t tag order) (sym (field_type f)) c.order_tag-order.ensures in
+    let due = λ (more : List ℕ) (k : HasMembers rule cs slots last d (room - at) (drop at octets ++ more)). is_due rule cs slots last place view order d (room - at) (drop at octets) more tag c.requires.distinct front begun here ordered k in
+    let Q = HasMembers rule cs (map (λ k. None) cs) None d room in
+    let P = HasPresent rule view (room - at) in
+    bars_behind c.from_residual-in_err-at.result _ Q P octets at c.from_residual-in_err-at.ensures.1 (λ more h. present_due rule cs slots last place view order d (room - at) (drop at octets ++ more) (due more (read.forth more h))) c.in_err-at.ensures.refused
+
+pub members::read_members-overflow_add-behind : goal.members::read_members-overflow_add-behind
+members::read_members-overflow_add-behind t c = search (rules, begun_within c.args.fields.now c.in_ok-place.place c.in-Some.tag c.in_ok-place.ensures.value.0)
+
+pub members::read_members-loop-tag-smaller : goal.members::read_members-loop-tag-smaller
+members::read_members-loop-tag-smaller t c =
+    let octets = c.args.octets.now in
+    let rule = rule_of c.args.rule in
+    let fields = c.args.fields.now in
+    let cs = map field_view fields in
+    let room = c.args.inside.now.room in
+    let at = c.loop-tag.at in
+    let read = c.loop-tag.invariant in
+    let tag = c.in-Some.tag in
+    let place = c.in_ok-place.place in
+    let begun : IsBegunAt cs place tag = c.in_ok-place.ensures.value.0 in
+    let f = c.index-fields-place.result in
+    let view = field_view f in
+    let here = begun_at fields place f tag begun c.index-fields-place.is in
+    let good = component_all IsGoodComponent cs place view here c.requires.good in
+    let used = c.in_ok-at.field-0 in
+    let one = subst (λ x. IsPresentRead rule view (room - at) x c.read_present.new.slot used) (take_rest octets at) c.in_ok-at.ensures.value in
+    let some = read_some rule view.type (room - at) (drop at octets) c.read_present.new.slot used good.type one.0 in
+    omega (arith, some, one.0.0, length-drop at octets, read.there)
+
+pub members::read_members-loop-tag-preserved : goal.members::read_members-loop-tag-preserved
+members::read_members-loop-tag-preserved t c =
+    let octets = c.args.octets.now in
+    let rule = rule_of c.args.rule in
+    let fields = c.args.fields.now in
+    let cs = map field_view fields in
+    let d = c.args.inside.now.definite in
+    let room = c.args.inside.now.room in
+    let at = c.loop-tag.at in
+    let slots = c.loop-tag.slots.items in
+    let last = c.loop-tag.last in
+    let read = c.loop-tag.invariant in
+    let inner = take (length octets - at) (drop at octets) in
+    let all : inner ≡ drop at octets = take_rest octets at in
+    let tag = c.in-Some.tag in
+    let front : IsFront (Some tag) d (room - at) (drop at octets) = subst₂ (λ f x. IsFront f d (room - at) x) c.in-Some.is all c.in_ok-tag.ensures.value in
+    let place = c.in_ok-place.place in
+    let begun : IsBegunAt cs place tag = c.in_ok-place.ensures.value.0 in
+    let empty : IsEmptyAt slots place = subst (λ (l : List (Option Value)). IsEmptyAt l place) c.deref.ensures.value c.in_ok-place.ensures.value.1 in
+    let f = c.index-fields-place.result in
+    let view = field_view f in
+    let here = begun_at fields place f tag begun c.index-fields-place.is in
+    let good = component_all IsGoodComponent cs place view here c.requires.good in
+    let order = c.order_tag-order.result in
+    let ordered : IsOrderTagOf rule view.type tag order = subst (λ t. IsOrderTagOf rule t tag order) (sym (field_type f)) c.order_tag-order.ensures in
+    let used = c.in_ok-at.field-0 in
+    let on : c.comes_behind.result ≡ true = search rules in
+    let one = subst (λ x. IsPresentRead rule view (room - at) x c.read_present.new.slot used) all c.in_ok-at.ensures.value in
+    member_more c.args.rule cs slots last place view tag order c.comes_behind.result d room octets c.read_present.new.slot at used good.type c.requires.distinct front begun empty here ordered c.comes_behind.ensures on read one
+
+pub members::read_members-are_filled-requires : goal.members::read_members-are_filled-requires
+members::read_members-are_filled-requires t c =
+    let fields = c.args.fields.now in
+    let read = c.loop-tag.invariant in
+    ap length c.deref-2.ensures.value ∙ (come_length (rule_of c.args.rule) (map field_view fields) c.loop-tag.slots.items read.encodings read.each ∙ length-map fields field_view)
+
+pub members::read_members-returns-then-not-are_filled-clause-refused : goal.members::read_members-returns-then-not-are_filled-clause-refused
+members::read_members-returns-then-not-are_filled-clause-refused t c = λ more may h.
+    let octets = c.args.octets.now in
+    let rule = rule_of c.args.rule in
+    let fields = c.args.fields.now in
+    let cs = map field_view fields in
+    let d = c.args.inside.now.definite in
+    let room = c.args.inside.now.room in
+    let at = c.loop-tag.at in
+    let slots = c.loop-tag.slots.items in
+    let last = c.loop-tag.last in
+    let read = c.loop-tag.invariant in
+    let none : c.in_ok-tag.field-0 ≡ None = c.in_default.is in
+    let ends : EndsHere d (room - at) (drop at octets) = subst₂ (λ f x. IsFront f d (room - at) x) none (take_rest octets at) c.in_ok-tag.ensures.value in
+    let filled = members_filled rule cs slots last d (room - at) (drop at octets) more c.requires.good ends (read.forth more h) in
+    let yes : c.are_filled.result ≡ true = c.are_filled.ensures.1 (subst (λ (l : List (Option Value)). AreFilled cs l) (sym c.deref-2.ensures.value) filled) in
+    search (rules, yes)
+
+pub members::read_set-read_members-requires : goal.members::read_set-read_members-requires
+members::read_set-read_members-requires t c =
+    let fields = c.args.fields.now in
+    let within : c.in_ok-inside.inside.room ≤ MAX_ENCODING = omega (arith, c.in_ok-inside.ensures.value.fits, c.requires.room) in
+    (search (rules, node.the_lemmas), (good_members c.args.tag fields c.requires.good, (c.requires.good.tags.0.1, (within, c.in-Ok.ensures))))
+
+pub members::read_set-returns-in-Ok-read_members-clause-value : goal.members::read_set-returns-in-Ok-read_members-clause-value
+members::read_set-returns-in-Ok-read_members-clause-value t c =
+    let octets = c.args.octets.now in
+    let rule = rule_of c.args.rule in
+    let cs = map field_view c.args.fields.now in
+    let inside = c.in_ok-inside.inside in
+    let used = c.in-Ok-read_members.used in
+    let slots = c.read_members.new.slots in
+    let read = subst (λ x. AreFilled cs slots.items × ((last : Option Tag) × AreMembersRead rule cs slots.items last inside.definite inside.room x used) × EndsHere inside.definite (inside.room - used) (drop used x)) (take_rest octets inside.start) c.in-Ok-read_members.ensures.value in
+    set_read rule c.args.tag c.args.fields.now c.args.room octets inside slots read.1.0 used c.close.result c.in_ok-inside.ensures.value read.0 read.1.1 read.2 c.close.ensures
+
+pub members::read_set-returns-in-Err-clause-refused : goal.members::read_set-returns-in-Err-clause-refused
+members::read_set-returns-in-Err-clause-refused t c =
+    let octets = c.args.octets.now in
+    let rule = rule_of c.args.rule in
+    let components = map field_view c.args.fields.now in
+    let inside = c.in_ok-inside.inside in
+    let Q = HasPart rule (Shape.set c.args.tag (components_view c.args.fields.now)) c.args.room in
+    let P = HasMembers rule components (map (λ k. None) components) None inside.definite inside.room in
+    bars_inside c.in-Err.refusal c.named.result Q P octets inside.start c.named.ensures.follows (λ more h. members_inside c.args.rule c.args.tag components c.args.room octets more inside c.in_ok-inside.ensures.value h) c.in-Err.ensures.refused
+
+pub members::read_set-returns-in_err-inside-clause-cut : goal.members::read_set-returns-in_err-inside-clause-cut
+members::read_set-returns-in_err-inside-clause-cut t c =
+    cut_through c.from_residual.result _ _ c.from_residual.ensures.1 (λ same. begun_constructed c.args.rule (Shape.set c.args.tag (components_view c.args.fields.now)) c.args.tag c.args.room c.args.octets.now (refl, refl) tt (c.in_err-inside.ensures.cut same))
+
+pub members::read_set-returns-in-Err-clause-cut : goal.members::read_set-returns-in-Err-clause-cut
+members::read_set-returns-in-Err-clause-cut t c = λ same.
+    begun_around c.args.rule (Shape.set c.args.tag (components_view c.args.fields.now)) c.args.tag c.args.room c.args.octets.now c.in_ok-inside.inside (refl, refl) tt c.in_ok-inside.ensures.value (c.in-Err.ensures.cut (c.named.ensures.cut same))
+
+pub members::read_members-returns-in_err-tag-clause-cut : goal.members::read_members-returns-in_err-tag-clause-cut
+members::read_members-returns-in_err-tag-clause-cut t c = cut_behind c.from_residual.result _ c.args.inside.now c.loop-tag.at c.args.octets.now c.from_residual.ensures.1 c.loop-tag.invariant.within c.loop-tag.invariant.there c.in_err-tag.ensures.cut
+
+pub members::read_members-returns-in_err-place-clause-cut : goal.members::read_members-returns-in_err-place-clause-cut
+members::read_members-returns-in_err-place-clause-cut t c = cut_through c.from_residual-in_err-place.result _ _ c.from_residual-in_err-place.ensures.1 (never_cut _ _ c.in_err-place.ensures.lasting)
+
+pub members::read_members-returns-in_err-at-clause-cut : goal.members::read_members-returns-in_err-at-clause-cut
+members::read_members-returns-in_err-at-clause-cut t c =
+    let inside = c.args.inside.now in
+    let read = c.loop-tag.invariant in
+    cut_through c.from_residual-in_err-at.result _ _ c.from_residual-in_err-at.ensures.1 (λ same. less_behind inside.definite inside.room c.loop-tag.at c.args.octets.now read.within read.there (c.in_err-at.ensures.cut same))
+
+pub members::read_set-returns-in_err-inside-clause-refused : goal.members::read_set-returns-in_err-inside-clause-refused
+members::read_set-returns-in_err-inside-clause-refused t c =
+    let octets = c.args.octets.now in
+    let rule = rule_of c.args.rule in
+    let Q = HasPart rule (Shape.set c.args.tag (components_view c.args.fields.now)) c.args.room in
+    let P = HasConstructed rule c.args.tag c.args.room in
+    let there : (more : List ℕ) → Q (octets ++ more) → P (octets ++ more) = λ more h. record { contents = concat h.encoding.order; part = h.part; rest = h.rest; whole = h.encoding.whole; fits = h.fits; parts = h.parts } in
+    bars_through c.from_residual.result _ Q octets c.from_residual.ensures.1 (bars_by _ Q P octets octets there c.in_err-inside.ensures.refused)
