@@ -1,6 +1,7 @@
 -- Lemmas on constructed encodings whose length is put in its place at the end.
-use Rattle.std.proofs.Common.{◌≡◌, ◌∙◌, ◌+◌, ◌-◌, ◌<◌, ℕ, suc, OnOk, true, List, [], ◌∷◌, ◌++◌, length, take, drop, slice_set, refl, ap, ap₂, subst, arith, append_assoc, length-append, length-drop, length-take}
-use Rattle.std.proofs.lemmas.List.{set_split, take-append-le, drop-append-le}
+use Rattle.std.proofs.Common.{◌≡◌, ◌∙◌, ◌+◌, ◌-◌, ◌<◌, ℕ, suc, OnOk, inl, inr, true, List, [], ◌∷◌, ◌++◌, length, take, drop, get_or, slice_set, refl, sym, ap, ap₂, subst, arith, append_assoc, take-suc, length-append, length-drop, length-set, length-take}
+use Rattle.std.proofs.lemmas.List.{set_split, take_all, take-append-le, drop-append-le, get_or-append-add}
+use Rattle.std.specs.List.{swap_remove}
 use Rattle.std.specs.declared.result.Result.{Result}
 use Rattle.octets.specs.declared.tag.Tag.{Tag}
 use Rattle.octets.specs.Front.{Appends}
@@ -62,17 +63,50 @@ short_length_put place n old new count few is = record {
   is = is ∙ set_split old place n (omega (arith, count));
 }
 
-pub long_length_put : (place n : ℕ) (old one two new : List ℕ) → place + 1 + n ≡ length old → Appends (IsShortestLength n) old one → two ≡ take place one ++ drop (place + 1) one
-    → ((front inside moved : List ℕ) → length front ≡ place → length inside ≡ n → two ≡ front ++ (inside ++ moved) → new ≡ front ++ (moved ++ inside)) → IsLengthPut place old new
-long_length_put place n old one two new count put gone moved =
-    let next : place + 1 ≡ suc place = omega arith in
-    let before : take place one ≡ take place old = ap (take place) put.1 ∙ take-append-le place old put.0 (omega (arith, count)) in
-    let behind : drop (place + 1) one ≡ drop (suc place) old ++ put.0 = ap (λ k. drop k one) next ∙ ap (drop (suc place)) put.1 ∙ drop-append-le (suc place) old put.0 (omega (arith, count)) in
-    let left : length (drop (suc place) old) ≡ n = omega (arith, length-drop (suc place) old, count) in
+-- length octets are there
+lengths_there : (n : ℕ) (size : List ℕ) → IsShortestLength n size → 0 < length size
+lengths_there n size h = elim h.form [ inl short ↦ omega (arith, ap length short.spelt) | inr long ↦ omega (arith, ap length long.spelt) ]
+
+-- a list is what stands before its last element, and that
+last_of : (xs : List ℕ) (d : ℕ) → 0 < length xs → xs ≡ take (length xs - 1) xs ++ get_or xs (length xs - 1) d ∷ []
+last_of xs d there =
+    let next : length xs ≡ suc (length xs - 1) = omega arith in
+    sym (take_all (suc (length xs - 1)) xs (omega arith)) ∙ take-suc xs (length xs - 1) d (omega arith)
+
+-- the last of the length octets took the place of the octet there
+last_put : (place : ℕ) (old size one two : List ℕ) (d : ℕ) → place < length old → 0 < length size → one ≡ old ++ size → two ≡ swap_remove one place d
+    → two ≡ take place old ++ ((get_or size (length size - 1) d ∷ drop (suc place) old) ++ take (length size - 1) size)
+last_put place old size one two d within there put is =
+    let last = get_or size (length size - 1) d in
+    let others = take (length size - 1) size in
+    let behind = drop (suc place) old in
+    let before = take place old ++ ((last ∷ behind) ++ others) in
+    let count : length one ≡ length old + length size = omega (arith, ap length put, length-append old size) in
+    let at : length one - 1 ≡ length old + (length size - 1) = omega (arith, count) in
+    let same : get_or one (length one - 1) d ≡ last = ap₂ (λ l k. get_or l k d) put at ∙ get_or-append-add old size (length size - 1) d in
+    let front : take place one ≡ take place old = ap (take place) put ∙ take-append-le place old size (omega arith) in
+    let rest : drop (suc place) one ≡ behind ++ size = ap (drop (suc place)) put ∙ drop-append-le (suc place) old size (omega arith) in
+    let ended : behind ++ size ≡ (behind ++ others) ++ last ∷ [] = ap (λ s. behind ++ s) (last_of size d there) ∙ sym (append_assoc behind others (last ∷ [])) in
+    let whole : slice_set one place (get_or one (length one - 1) d) ≡ before ++ last ∷ [] =
+    set_split one place (get_or one (length one - 1) d) (omega (arith, count)) ∙ ap₂ (λ a b. take place one ++ a ∷ b) same (rest ∙ ended)
+    ∙ ap (λ f. f ++ (last ∷ ((behind ++ others) ++ last ∷ []))) front ∙ sym (append_assoc (take place old) (last ∷ (behind ++ others)) (last ∷ [])) in
+    let long : length one - 1 ≡ length before =
+    omega (arith, count, ap length whole, length-append before (last ∷ []), length-set one place (get_or one (length one - 1) d)) in
+    is ∙ ap (take (length one - 1)) whole ∙ take_front before (last ∷ []) (length one - 1) long
+
+pub long_length_put : (place n : ℕ) (old one two new : List ℕ) (d : ℕ) → place + 1 + n ≡ length old → Appends (IsShortestLength n) old one → two ≡ swap_remove one place d
+    → ((front inside moved : List ℕ) → length front ≡ place → length inside ≡ n + 1 → two ≡ front ++ (inside ++ moved) → new ≡ front ++ (moved ++ inside)) → IsLengthPut place old new
+long_length_put place n old one two new d count put gone moved =
+    let there = lengths_there n put.0 put.2 in
+    let last = get_or put.0 (length put.0 - 1) d in
+    let others = take (length put.0 - 1) put.0 in
+    let behind = drop (suc place) old in
+    let left : length (last ∷ behind) ≡ n + 1 = omega (arith, length-drop (suc place) old, count) in
     record {
       size = put.0;
       sized = subst (λ k. IsShortestLength k put.0) (omega (arith, count)) put.2;
-      is = moved (take place old) (drop (suc place) old) put.0 (omega (arith, length-take place old, count)) left (gone ∙ ap₂ (λ x y. x ++ y) before behind);
+      is = moved (take place old) (last ∷ behind) others (omega (arith, count, length-take place old)) left (last_put place old put.0 one two d (omega (arith, count)) there put.1 gone)
+          ∙ ap (λ s. take place old ++ s) (sym (append_assoc others (last ∷ []) behind) ∙ ap (λ s. s ++ behind) (sym (last_of put.0 d there)));
     }
 
 -- contents octets between an opening and what ends it

@@ -1,6 +1,6 @@
 //! What stands around contents octets (X.690 9.1 and 10.1).
 
-ghost use Rattle.std.specs.Prelude.{◌≡◌, ◌≤◌, ◌<◌, ◌+◌, ◌∷◌, [], ◌++◌, ℕ, List, length, reverse, IfOk, OnOk, OnErr};
+ghost use Rattle.std.specs.Prelude.{◌≡◌, ◌≤◌, ◌<◌, ◌+◌, ◌-◌, ◌∷◌, [], ◌++◌, ℕ, List, length, take, drop, reverse, IfOk, OnOk, OnErr};
 ghost use Rattle.octets.specs.declared.TheConstants.{MAX_TAG_NUMBER};
 ghost use Rattle.octets.specs.declared.tag.Tag.{Tag as TagOf};
 ghost use Rattle.octets.specs.Front.{Appends};
@@ -158,19 +158,32 @@ fn put_long_length(place: usize, contents: usize, out: &mut Vec<u8>) -> Result<(
     ensures put { OnOk result (IsLengthPut place out.old.items out.new.items) }
     ensures kept { OnErr result (Keeps out.old.items out.new.items) }
 {
+    // The last of the length octets comes to `place`, and the others then before it.
     put_shortest_length(out, contents)?;
-    out.remove(place);
-    bring_forward(place, contents, out);
+    out.swap_remove(place);
+    bring_forward(place, contents + 1, out);
     Ok(())
 }
 
-// Moves what stands behind the `count` octets at `place` before them.
+// Moves what stands behind the `count` octets at `place` before them: a few octets.
 fn bring_forward(place: usize, count: usize, out: &mut Vec<u8>)
     requires { place + count ≤ length out.old.items }
     ensures { (front inside moved : List ℕ) → length front ≡ place → length inside ≡ count →
         out.old.items ≡ front ++ (inside ++ moved) → out.new.items ≡ front ++ (moved ++ inside) }
 {
-    out[place..].rotate_left(count);
+    let few = out.len() - place - count;
+    last_to_front(few, &mut out[place..]);
+}
+
+// Moves the last octets before the others, as `rotate_right` does. One octet at a time costs less here: for more
+// than one std clears room on the stack.
+fn last_to_front(few: usize, octets: &mut [u8])
+    requires { few ≤ length octets.old }
+    ensures { octets.new ≡ drop (length octets.old - few) octets.old ++ take (length octets.old - few) octets.old }
+{
+    for done in 0..few {
+        octets.rotate_right(1);
+    }
 }
 
 // Appends what stands before so many contents octets of a constructed encoding.

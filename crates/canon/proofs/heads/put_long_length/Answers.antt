@@ -3,5 +3,5 @@ use Rattle.canon.proofs.heads.put_long_length.Goals as goal
 
 pub returns-clause-put : goal.returns-clause-put
 returns-clause-put c =
-    long_length_put c.args.place c.args.contents c.args.out.now.items c.put_shortest_length.new.out.items c.remove.new.self.items c.bring_forward.new.out.items c.requires
-    c.in_ok-put_shortest_length.ensures.appended c.remove.ensures.by_index.2 c.bring_forward.ensures
+    long_length_put c.args.place c.args.contents c.args.out.now.items c.put_shortest_length.new.out.items c.swap_remove.new.self.items c.bring_forward.new.out.items c.swap_remove.result c.requires
+    c.in_ok-put_shortest_length.ensures.appended c.swap_remove.ensures.items c.bring_forward.ensures
