@@ -7,6 +7,7 @@ pub mod LeafLemmas
 pub mod PartLemmas
 pub mod KeptLemmas
 pub mod SortLemmas
+pub mod KeyLemmas
 pub mod SimpleLemmas
 pub mod NodeLemmas
 pub mod NodeSizeLemmas

@@ -36,7 +36,7 @@ le_from_cmp (x ∷ xs) (y ∷ ys) h = le_step x y xs ys (nat_cmp y x) (slice_cmp
 
 -- what holds of each pair of a list, by its places
 module _ {X Y : Type 0} (f : X → Y) where
-  all_at : (P : Y → Type 0) (xs : List X) → ((j : ℕ) (d : X) → j < length xs → P (f (get_or xs j d))) → All P (map f xs)
+  pub all_at : (P : Y → Type 0) (xs : List X) → ((j : ℕ) (d : X) → j < length xs → P (f (get_or xs j d))) → All P (map f xs)
   all_at P [] h = All-nil P
   all_at P (x ∷ xs) h = All-cons P (f x) (map f xs) (h zero x (omega arith)) (all_at P xs (λ j d l. h (suc j) d (omega arith)))
 
@@ -81,6 +81,17 @@ pub ascends_from_sort_back : {X F : Type 0} {g : Mut F (Bor X × (Bor X × Unit 
     → ((a : Bor X × (Bor X × Unit {0})) (r : Ordering) (s' : F) → Called g s a r s' → (r ≡ slice_cmp nat_cmp (f a.1.0.now) (f a.0.now)) × (s' ≡ s)) → Ascends (reverse (map f xs))
 ascends_from_sort_back {g = g} {s = s} f xs up h =
     ascends_from_falls f xs (up (falls f) (falls_order f) (always_returns_same g (λ a r. is_lt r ≡ falls f a.0.now a.1.0.now) s (λ a r s' k. (ap is_lt (h a r s' k).0, (h a r s' k).1))))
+
+-- the same, where the order of what f gives is that of some octets
+pub ascends_from_sort_by : {X F : Type 0} {g : Mut F (Bor X × (Bor X × Unit {0})) Ordering} {s : F} (f octets : X → List ℕ) (Good : X → Type 0) (xs : List X)
+    → ((a b : X) → Good a → Good b → IsPaddedAtMost (f b) (f a) → IsPaddedAtMost (octets b) (octets a)) → All Good xs → ((lt : X → X → Bool) → IsStrictWeakOrder lt → ComparesAs g lt s → IsSortedBy lt xs)
+    → ((a : Bor X × (Bor X × Unit {0})) (r : Ordering) (s' : F) → Called g s a r s' → (r ≡ slice_cmp nat_cmp (f a.1.0.now) (f a.0.now)) × (s' ≡ s)) → Ascends (reverse (map octets xs))
+ascends_from_sort_by {g = g} {s = s} f octets Good xs decides good up h =
+    let sorted = up (falls f) (falls_order f) (always_returns_same g (λ a r. is_lt r ≡ falls f a.0.now a.1.0.now) s (λ a r s' k. (ap is_lt (h a r s' k).0, (h a r s' k).1))) in
+    pairs_turned IsPaddedAtMost (map octets xs)
+    (pairs_at octets (λ a b. IsPaddedAtMost b a) xs (λ i j d p q.
+    decides (get_or xs i d) (get_or xs j d) (good i d (omega arith)) (good j d q)
+    (le_from_cmp (f (get_or xs j d)) (f (get_or xs i d)) (sorted_far (falls f) (falls_order f) xs sorted i j d (omega arith) q))))
 
 module _ {X : Type 0} (f : X → List ℕ) where
   -- the test by which a sort puts the least first

@@ -5,6 +5,7 @@ pub mod Segments
 pub mod Leaf
 pub mod Node
 pub mod Span
+pub mod Keyed
 pub mod Opening
 pub mod Part
 pub mod Ordered

@@ -1,5 +1,5 @@
 -- Parts of a buffer: what spans mean, and how parts are put in order.
-use Rattle.std.specs.Prelude.{ℕ, ◌-◌, List, take, drop, reverse}
+use Rattle.std.specs.Prelude.{ℕ, zero, suc, ◌+◌, ◌-◌, ◌*◌, ◌^◌, List, [], ◌∷◌, take, drop, reverse}
 use Rattle.std.specs.List.{AllPairs}
 use Rattle.octets.specs.declared.tag.Tag.{Tag}
 use Rattle.octets.specs.Tag.{ComesBefore}
@@ -15,3 +15,9 @@ turned_part buffer span = reverse (part_of buffer span)
 -- no tag comes before a later one
 abbrev pub DescendsByTag : List Tag → Type 0
 DescendsByTag tags = AllPairs (λ a b. ¬ ComesBefore a b) tags
+
+-- the number that so many first octets spell, the most significant first, with zeros for those that are not there
+abbrev pub key_of : ℕ → List ℕ → ℕ
+key_of zero octets = 0
+key_of (suc count) [] = 0
+key_of (suc count) (octet ∷ octets) = octet * 256 ^ count + key_of count octets

@@ -14,7 +14,7 @@ ghost use Rattle.canon.specs.Rule.{rule_of};
 ghost use Rattle.canon.specs.Turned.{Turned};
 
 use crate::heads::{put_end, put_head};
-use crate::leaf::put_leaf;
+use crate::leaf::{put_forwards, put_leaf};
 use crate::leaves::{leaf_tag, put_leaves};
 use crate::parts::{chosen_in, items_in, slots_in};
 use crate::rule::CanonicalRule;
@@ -153,8 +153,8 @@ fn put_in_order(
         let span = put_span(alloc, rule, ty, &items[count - 1 - done], out)?;
         spans.push(span)?;
     }
-    sort_down(out, &mut spans);
-    arrange_turned(alloc, out, from, &spans)
+    let sorted = sort_down(alloc, out, &spans)?;
+    arrange_turned(alloc, out, from, &sorted)
 }
 
 // Appends the encoding of `value` and returns where it stands.
@@ -173,10 +173,34 @@ pub(crate) fn put_span(
     ensures kept { OnErr result (Keeps out.old.items out.new.items) }
 {
     let start = out.len();
-    put_back(alloc, rule, ty, value, out)?;
-    turn(out, start);
+    put_upright(alloc, rule, ty, value, out)?;
     let end = out.len();
     Ok(Span { start, end })
+}
+
+// Appends the encoding of `value`: one without parts is written so, and is not turned round twice.
+#[cycle(back)]
+#[inline(always)]
+fn put_upright(
+    alloc: Global,
+    rule: CanonicalRule,
+    ty: &Ty,
+    value: &Value,
+    out: &mut Vec<u8>,
+) -> Result<(), NoMemory>
+    requires nodes { HasGoodNodes (ty_view ty.now) }
+    requires conforms { Conforms (ty_view ty.now) (value_view value.now) }
+    ensures appended { OnOk result (Appends
+        (IsEncoding (rule_of rule) (ty_view ty.now) (value_view value.now)) out.old.items out.new.items) }
+    ensures kept { OnErr result (Keeps out.old.items out.new.items) }
+{
+    if let Some(tag) = leaf_tag(ty) {
+        return put_forwards(rule, tag, value, out);
+    }
+    let start = out.len();
+    put_back(alloc, rule, ty, value, out)?;
+    turn(out, start);
+    Ok(())
 }
 
 // Appends the encodings of components, the last first, each turned round.

@@ -1,12 +1,13 @@
 //! Parts of one buffer, put in order.
 
-ghost use Rattle.std.specs.Prelude.{◌≡◌, ◌≤◌, ◌++◌, length, take, drop, map, reverse, IfOk, OnOk, OnErr, IsPermutation};
+ghost use Rattle.std.specs.Prelude.{◌≡◌, ◌≤◌, ◌++◌, length, take, drop, map, reverse, All, IfOk, OnOk, OnErr, IsPermutation};
 ghost use Rattle.std.specs.List.{concat};
 ghost use Rattle.std.specs.Ordering.{nat_cmp};
 ghost use Rattle.std.specs.Cmp.Lexicographic.{slice_cmp};
 ghost use Rattle.types.specs.Order.{Ascends};
 ghost use Rattle.canon.specs.Part.{Keeps};
-ghost use Rattle.canon.specs.Span.{part_of, turned_part, DescendsByTag};
+ghost use Rattle.canon.specs.Span.{part_of, turned_part, key_of, DescendsByTag};
+ghost use Rattle.canon.specs.Keyed.{with_key, HasKey, compared};
 
 use octets::{NoMemory, Tag};
 use std::alloc::Global;
@@ -30,6 +31,15 @@ pub(crate) struct Tagged {
     pub span: Span,
 }
 
+/// A part of a buffer, with the number by which it is sorted first.
+#[derive(Clone, Copy)]
+pub(crate) struct Keyed {
+    /// The first 16 octets, the most significant first, with zeros for those that are not there.
+    pub key: u128,
+    /// The part.
+    pub span: Span,
+}
+
 // Turns round what stands from `start` on.
 pub(crate) fn turn(out: &mut Vec<u8>, start: usize)
     requires { start ≤ length out.old.items }
@@ -47,16 +57,85 @@ pub(crate) fn part(buffer: &[u8], span: Span) -> &[u8]
     &buffer[start..end]
 }
 
-// Puts spans in descending order of the octets that they mean.
-pub(crate) fn sort_down(buffer: &[u8], spans: &mut Vec<Span>)
-    ensures permutation { IsPermutation spans.old.items spans.new.items }
-    ensures ascends { Ascends (reverse (map (part_of buffer.now) spans.new.items)) }
+// The spans in descending order of the octets that they mean.
+pub(crate) fn sort_down(alloc: Global, buffer: &[u8], spans: &[Span]) -> Result<Vec<Span>, NoMemory>
+    ensures permutation { IfOk result (λ sorted. IsPermutation spans.now sorted.items) }
+    ensures ascends { IfOk result (λ sorted. Ascends (reverse (map (part_of buffer.now) sorted.items))) }
 {
-    spans.sort_unstable_by(
+    let mut keyed = keys_of(alloc, buffer, spans)?;
+    sort_by_keys(buffer, &mut keyed);
+    spans_behind(alloc, &keyed)
+}
+
+// The spans without their keys.
+fn spans_behind(alloc: Global, keyed: &[Keyed]) -> Result<Vec<Span>, NoMemory>
+    ensures { IfOk result (λ spans. spans.items ≡ map (λ one. one.span) keyed.now) }
+{
+    Ok(keyed.iter().map(|one| one.span).collect(alloc)?)
+}
+
+// Each span with its key.
+fn keys_of(alloc: Global, buffer: &[u8], spans: &[Span]) -> Result<Vec<Keyed>, NoMemory>
+    ensures { IfOk result (λ keyed. keyed.items ≡ map (with_key buffer.now) spans.now) }
+{
+    Ok(
+        spans
+            .iter()
+            .map(
+                |span| -> Keyed
+                    ensures { result ≡ with_key buffer.entry.now span.now }
+                {
+                    Keyed {
+                        key: key(part(buffer, *span)),
+                        span: *span,
+                    }
+                },
+            )
+            .collect(alloc)?,
+    )
+}
+
+// The first 16 octets as a number, with zeros for those that are not there.
+fn key(octets: &[u8]) -> u128
+    ensures { result ≡ key_of 16 octets.now }
+{
+    let mut number = 0u128;
+    for i in 0..16 {
+        let octet = if i < octets.len() { octets[i] } else { 0 };
+        number = number * 256 + u128::from(octet);
+    }
+    number
+}
+
+// Puts spans in descending order of the octets that they mean. Keys decide mostly: octets are read again only
+// where those are equal.
+fn sort_by_keys(buffer: &[u8], keyed: &mut Vec<Keyed>)
+    requires keys { All (HasKey buffer.now) keyed.old.items }
+    ensures permutation { IsPermutation keyed.old.items keyed.new.items }
+    ensures ascends { Ascends (reverse (map (λ one. part_of buffer.now one.span) keyed.new.items)) }
+{
+    keyed.sort_unstable_by(
         |a, b| -> Ordering
-            ensures { result ≡ slice_cmp nat_cmp (part_of buffer.entry.now b.now) (part_of buffer.entry.now a.now) }
-        { part(buffer, *b).cmp(&part(buffer, *a)) },
+            ensures { result ≡ slice_cmp nat_cmp (compared buffer.entry.now b.now) (compared buffer.entry.now a.now) }
+        { compare(buffer, *b, *a) },
     );
+}
+
+// Compares keys, and then what is behind them.
+fn compare(buffer: &[u8], a: Keyed, b: Keyed) -> Ordering
+    ensures { result ≡ slice_cmp nat_cmp (compared buffer.now a) (compared buffer.now b) }
+{
+    if a.key != b.key {
+        return a.key.cmp(&b.key);
+    }
+    behind(part(buffer, a.span)).cmp(&behind(part(buffer, b.span)))
+}
+
+// The octets behind the first 16.
+fn behind(octets: &[u8]) -> &[u8]
+    ensures { result.now ≡ drop 16 octets.now }
+{
+    &octets[octets.len().min(16)..]
 }
 
 // Puts parts in descending order of their tags.

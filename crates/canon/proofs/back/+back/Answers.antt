@@ -1,5 +1,5 @@
 use Rattle.std.specs.List.{concat}
-use Rattle.std.proofs.Common.{◌≡◌, ◌∙◌, ◌+◌, ◌-◌, ◌<◌, ◌++◌, ℕ, List, OnOk, Option, Some, None, Vec, Global, length, take, drop, get_or, map, inl, inr, sym, ap, subst, arith, rules}
+use Rattle.std.proofs.Common.{◌≡◌, ◌∙◌, ◌+◌, ◌-◌, ◌<◌, ◌++◌, ℕ, List, OnOk, Option, Some, None, Vec, Global, length, take, drop, get_or, map, inl, inr, sym, ap, subst, arith, rules, IsPermutation}
 use Rattle.std.specs.Prelude.{reverse}
 use Rattle.std.specs.declared.result.Result.{Result}
 use Rattle.octets.specs.declared.tag.Tag.{Tag}
@@ -26,7 +26,7 @@ use Rattle.canon.specs.Rule.{rule_of}
 use Rattle.canon.specs.Turned.{Turned, end_octets}
 use Rattle.canon.proofs.AlikeLemmas.{appended_by, alike-chain}
 use Rattle.canon.proofs.KeptLemmas.{kept, always_kept, keeps_more, keeps_chain, keeps_taken}
-use Rattle.canon.proofs.LeafLemmas.{leaf_alike}
+use Rattle.canon.proofs.LeafLemmas.{leaf_alike, leaf_conforms}
 use Rattle.canon.proofs.LeavesLemmas.{leaves_conform, leaves_alike}
 use Rattle.canon.proofs.NodeLemmas.{choice_parts, choice_alike, has_items, has_slots, explicit_alike, sequence_alike, set_alike, sequence_of_alike, set_of_alike}
 use Rattle.canon.proofs.PutLemmas.{PutFrom, item_put, no_components_put, present_put, absent_put, laid_more, order_made}
@@ -230,10 +230,13 @@ put_in_order-returns-clause-appended t c =
     let mid = c.loop-done.out.items in
     let none_left : length items - c.loop-done.done ≡ 0 = omega arith in
     let laid = subst (λ k. AreLaid IsItem (map value_view (drop k items)) c.loop-done.spans.items old mid) none_left c.loop-done.invariant in
-    let up = subst (λ (b : List ℕ). Ascends (reverse (map (part_of b) c.sort_down.new.spans.items))) c.deref.ensures.value c.sort_down.ensures.ascends in
+    let spans = c.loop-done.spans.items in
+    let sorted = c.in_ok-sorted.sorted.items in
+    let up = subst (λ (b : List ℕ). Ascends (reverse (map (part_of b) sorted))) c.deref.ensures.value c.in_ok-sorted.ensures.ascends in
+    let all = subst (λ (ss : List Span). IsPermutation ss sorted) c.deref-2.ensures.value c.in_ok-sorted.ensures.permutation in
     OnOk-map c.arrange_turned.result _ _
-    (λ moved. order_made IsItem (map value_view items) c.loop-done.spans.items c.sort_down.new.spans.items old mid c.arrange_turned.new.out.items c.len-from.result (omega (arith, c.len-from.ensures)) laid c.sort_down.ensures.permutation up
-    (moved ∙ ap (λ (ss : List Span). take c.len-from.result mid ++ concat (map (turned_part mid) ss)) c.deref-2.ensures.value))
+    (λ moved. order_made IsItem (map value_view items) spans sorted old mid c.arrange_turned.new.out.items c.len-from.result (omega (arith, c.len-from.ensures)) laid all up
+    (moved ∙ ap (λ (ss : List Span). take c.len-from.result mid ++ concat (map (turned_part mid) ss)) c.deref-3.ensures.value))
     c.arrange_turned.ensures.arranged
 
 pub put_components-loop-done-init : goal.put_components-loop-done-init
@@ -394,6 +397,10 @@ put_in_order-returns-in_err-push-clause-kept t c =
     always_kept c.from_residual-in_err-push.result (Keeps c.args.out.now.items c.put_span.new.out.items)
     (keeps_more c.args.out.now.items c.loop-done.out.items c.put_span.new.out.items put.octets (_, c.loop-done.invariant.is, tt) put.is)
 
+pub put_in_order-returns-in_err-sorted-clause-kept : goal.put_in_order-returns-in_err-sorted-clause-kept
+put_in_order-returns-in_err-sorted-clause-kept t c =
+    always_kept c.from_residual-in_err-sorted.result (Keeps c.args.out.now.items c.loop-done.out.items) (_, c.loop-done.invariant.is, tt)
+
 pub put_in_order-returns-clause-kept : goal.put_in_order-returns-clause-kept
 put_in_order-returns-clause-kept t c =
     let old = c.args.out.now.items in
@@ -422,3 +429,15 @@ put_by_tag-returns-clause-kept t c =
     let mid = c.loop-done.out.items in
     let new = c.arrange_turned.new.out.items in
     kept c.arrange_turned.result (Keeps (take c.len-from.result mid) new) (Keeps old new) (keeps_taken old _ mid new c.len-from.result (omega (arith, c.len-from.ensures)) c.loop-done.invariant.is) c.arrange_turned.ensures.kept
+
+pub put_upright-put_forwards-requires-clause-leaf : goal.put_upright-put_forwards-requires-clause-leaf
+put_upright-put_forwards-requires-clause-leaf t c = leaf_conforms c.in-Some.tag (ty_view c.args.ty.now) (value_view c.args.value.now) c.in-Some.ensures c.requires.conforms
+
+pub put_upright-returns-in-Some-clause-appended : goal.put_upright-returns-in-Some-clause-appended
+put_upright-returns-in-Some-clause-appended t c =
+    let rule = rule_of c.args.rule in
+    let tag = c.in-Some.tag in
+    let shape = ty_view c.args.ty.now in
+    let v = value_view c.args.value.now in
+    let alike = leaf_alike rule (rule_is_canonical c.args.rule) tag shape v c.in-Some.ensures c.requires.conforms in
+    appended_by c.put_forwards.result (IsLeafEncoding rule tag v) (IsEncoding rule shape v) c.args.out.now.items c.put_forwards.new.out.items alike.to c.put_forwards.ensures.appended

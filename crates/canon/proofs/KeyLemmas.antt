@@ -1,0 +1,145 @@
+-- Lemmas on octets that are compared by the number of the first ones.
+use Rattle.std.proofs.Common.{◌≡◌, ◌∙◌, inl, inr, ◌+◌, ◌-◌, ◌*◌, ◌^◌, ◌<◌, ◌≤◌, ℕ, zero, suc, List, [], ◌∷◌, length, drop, get_or, map, refl, sym, ap, subst, arith, All, drop-cons}
+use Rattle.std.specs.Ordering.{nat_cmp, MatchOrdering}
+use Rattle.std.specs.Cmp.{ranked}
+use Rattle.std.specs.declared.cmp.Ordering.{Ordering}
+use Rattle.std.specs.declared.cmp.Ordering.TheVariants.{Less, Equal, Greater}
+use Rattle.std.proofs.Math.Nat.{add-mul, mul_assoc, one-le-pow, pow-zero, pow-suc}
+use Rattle.std.proofs.Math.Seq.{drop-nil}
+use Rattle.std.proofs.lemmas.List.{drop_all}
+use Rattle.std.proofs.lemmas.Nat.{mul-add-lt}
+use Rattle.octets.proofs.DigitLemmas.{All-tail, mul-above}
+use Rattle.types.specs.Order.{IsPaddedAtMost}
+use Rattle.canon.specs.Span.{part_of, key_of}
+use Rattle.canon.specs.Keyed.{with_key, HasKey, compared}
+use Rattle.canon.proofs.SortLemmas.{all_at}
+use Rattle.canon.specs.declared.spans.Span.{Span}
+use Rattle.canon.specs.declared.spans.Keyed.{Keyed}
+use Rattle.std.proofs.lemmas.List.Elements.{All-take, All-drop}
+
+pub key_of-nil : (k : ℕ) → key_of k [] ≡ 0
+key_of-nil zero = refl
+key_of-nil (suc k) = refl
+
+pub key_of-below : (k : ℕ) (xs : List ℕ) → All (λ d. d < 256) xs → key_of k xs < 256 ^ k
+key_of-below zero xs h = let none = pow-zero 256 in omega (arith, none)
+key_of-below (suc k) [] h = let some = one-le-pow (suc k) 256 (omega arith) in omega (arith, some)
+key_of-below (suc k) (x ∷ xs) h =
+    let first : x < 256 = h 0 0 (omega arith) in
+    let rest = key_of-below k xs (All-tail (λ d. d < 256) x xs h) in
+    let all = mul-add-lt x (256 ^ k) (key_of k xs) 256 first rest in
+    let power : 256 ^ suc k ≡ 256 ^ k * 256 = pow-suc 256 k in
+    omega (arith, all, power)
+
+-- the digits on the left decide before those on the right
+more_on_left : (x y P f g : ℕ) → y < x → g < P → x * P + f ≤ y * P + g → ⊥
+more_on_left x y P f g more small less =
+    let next : (y + 1) * P ≡ y * P + 1 * P = add-mul y 1 P in
+    let rest : (y + 1 + (x - (y + 1))) * P ≡ (y + 1) * P + (x - (y + 1)) * P = add-mul (y + 1) (x - (y + 1)) P in
+    let all : x * P ≡ (y + 1 + (x - (y + 1))) * P = ap (λ k. k * P) (omega arith) in
+    omega (arith, next, rest, all, less, small)
+
+less_step : (P x y f g : ℕ) (xs ys : List ℕ) (o : Ordering) → MatchOrdering o (x < y) (x ≡ y) (y < x) → g < P → x * P + f < y * P + g → (f < g → IsPaddedAtMost xs ys) → IsPaddedAtMost (x ∷ xs) (y ∷ ys)
+less_step P x y f g xs ys Less m small less rest = inl m
+less_step P x y f g xs ys Equal m small less rest = inr (m, rest (omega (arith, ap (λ k. k * P) m, less)))
+less_step P x y f g xs ys Greater m small less rest = absurd (more_on_left x y P f g m small (omega (arith, less)))
+
+-- octets whose key is the smaller number come first
+pub key_of-less : (k : ℕ) (xs ys : List ℕ) → All (λ d. d < 256) ys → key_of k xs < key_of k ys → IsPaddedAtMost xs ys
+key_of-less zero xs ys h less = absurd (omega arith)
+key_of-less (suc k) [] ys h less = tt
+key_of-less (suc k) (x ∷ xs) [] h less = absurd (omega arith)
+key_of-less (suc k) (x ∷ xs) (y ∷ ys) h less =
+    let tail = All-tail (λ d. d < 256) y ys h in
+    less_step (256 ^ k) x y (key_of k xs) (key_of k ys) xs ys (nat_cmp x y) (ranked x y (nat_cmp x y) refl) (key_of-below k ys tail) less (key_of-less k xs ys tail)
+
+same_step : (P x y f g : ℕ) (xs ys : List ℕ) (o : Ordering) → MatchOrdering o (x < y) (x ≡ y) (y < x) → f < P → g < P → x * P + f ≡ y * P + g → (f ≡ g → IsPaddedAtMost xs ys) → IsPaddedAtMost (x ∷ xs) (y ∷ ys)
+same_step P x y f g xs ys Less m low high same rest = inl m
+same_step P x y f g xs ys Equal m low high same rest = inr (m, rest (omega (arith, ap (λ k. k * P) m, same)))
+same_step P x y f g xs ys Greater m low high same rest = absurd (more_on_left x y P f g m high (omega (arith, same)))
+
+-- where keys are the same number, the octets behind them decide
+pub key_of-same : (k : ℕ) (xs ys : List ℕ) → All (λ d. d < 256) xs → All (λ d. d < 256) ys → key_of k xs ≡ key_of k ys → IsPaddedAtMost (drop k xs) (drop k ys) → IsPaddedAtMost xs ys
+key_of-same zero xs ys h g same rest = rest
+key_of-same (suc k) [] ys h g same rest = tt
+key_of-same (suc k) (x ∷ xs) [] h g same rest =
+    let some = one-le-pow k 256 (omega arith) in
+    let above = mul-above x (256 ^ k) (omega (arith, some)) in
+    (omega (arith, above, same), key_of-same k xs [] (All-tail (λ d. d < 256) x xs h) (λ j d below. absurd (omega arith)) (omega (arith, same, key_of-nil k)) (subst (IsPaddedAtMost (drop k xs)) (sym (drop-nil k)) rest))
+key_of-same (suc k) (x ∷ xs) (y ∷ ys) h g same rest =
+    let left = All-tail (λ d. d < 256) x xs h in
+    let right = All-tail (λ d. d < 256) y ys g in
+    same_step (256 ^ k) x y (key_of k xs) (key_of k ys) xs ys (nat_cmp x y) (ranked x y (nat_cmp x y) refl) (key_of-below k xs left) (key_of-below k ys right) same (λ e. key_of-same k xs ys left right e rest)
+
+-- so many octets were read as a number
+abbrev pub IsRead : List ℕ → ℕ → ℕ → Type 0
+IsRead xs i number = number * 256 ^ (16 - i) + key_of (16 - i) (drop i xs) ≡ key_of 16 xs
+
+-- the octet there, or a zero
+abbrev pub IsOctet : List ℕ → ℕ → ℕ → Type 0
+IsOctet xs i d = (d < 256) × ((left : ℕ) → key_of (suc left) (drop i xs) ≡ d * 256 ^ left + key_of left (drop (suc i) xs))
+
+pub octet_there : (xs : List ℕ) (i d : ℕ) → i < length xs → d ≡ get_or xs i 0 → d < 256 → IsOctet xs i d
+octet_there xs i d there at small = (small, λ left. ap (key_of (suc left)) (drop-cons xs i 0 there) ∙ ap (λ k. k * 256 ^ left + key_of left (drop (suc i) xs)) (sym at))
+
+pub octet_absent : (xs : List ℕ) (i d : ℕ) → length xs ≤ i → d ≡ 0 → IsOctet xs i d
+octet_absent xs i d none zero_is = (
+  omega (arith, zero_is),
+  λ left.
+      let was : key_of (suc left) (drop i xs) ≡ 0 = ap (key_of (suc left)) (drop_all i xs none) in
+      let is : key_of left (drop (suc i) xs) ≡ 0 = ap (key_of left) (drop_all (suc i) xs (omega (arith, none))) ∙ key_of-nil left in
+      let nothing : d * 256 ^ left ≡ 0 * 256 ^ left = ap (λ k. k * 256 ^ left) zero_is in
+      omega (arith, was, is, nothing),
+)
+
+read_step : (number d P : ℕ) → (number * 256 + d) * P ≡ number * (P * 256) + d * P
+read_step number d P =
+    let spread : (number * 256 + d) * P ≡ number * 256 * P + d * P = add-mul (number * 256) d P in
+    let regroup : number * 256 * P ≡ number * (256 * P) = mul_assoc number 256 P in
+    let turned : number * (256 * P) ≡ number * (P * 256) = ap (λ k. number * k) (omega arith) in
+    omega (arith, spread, regroup, turned)
+
+read_one : (xs : List ℕ) (i number d left : ℕ) → 16 - i ≡ suc left → IsRead xs i number → IsOctet xs i d → (number * 256 + d) * 256 ^ left + key_of left (drop (suc i) xs) ≡ key_of 16 xs
+read_one xs i number d left next h one =
+    let here : number * 256 ^ suc left + key_of (suc left) (drop i xs) ≡ key_of 16 xs = subst (λ k. number * 256 ^ k + key_of k (drop i xs) ≡ key_of 16 xs) next h in
+    let power : number * 256 ^ suc left ≡ number * (256 ^ left * 256) = ap (λ k. number * k) (pow-suc 256 left) in
+    omega (arith, here, power, one.1 left, read_step number d (256 ^ left))
+
+pub read_more : (xs : List ℕ) (i number d : ℕ) → i < 16 → IsRead xs i number → IsOctet xs i d → IsRead xs (i + 1) (number * 256 + d)
+read_more xs i number d below h one =
+    let next : 16 - (i + 1) ≡ 15 - i = omega arith in
+    let after : i + 1 ≡ suc i = omega arith in
+    subst (λ k. (number * 256 + d) * 256 ^ k + key_of k (drop (i + 1) xs) ≡ key_of 16 xs) (sym next)
+    (subst (λ k. (number * 256 + d) * 256 ^ (15 - i) + key_of (15 - i) (drop k xs) ≡ key_of 16 xs) (sym after) (read_one xs i number d (15 - i) (omega arith) h one))
+
+-- the number fits 128 bits
+pub read_fits : (xs : List ℕ) (i number d : ℕ) → i < 16 → All (λ o. o < 256) xs → IsRead xs i number → IsOctet xs i d → number * 256 + d < 2 ^ 128
+read_fits xs i number d below octets h one =
+    let whole = read_one xs i number d (15 - i) (omega arith) h one in
+    let some = one-le-pow (15 - i) 256 (omega arith) in
+    let above = mul-above (number * 256 + d) (256 ^ (15 - i)) (omega (arith, some)) in
+    let most : key_of 16 xs < 2 ^ 128 = key_of-below 16 xs octets in
+    omega (arith, whole, above, most)
+
+-- what parts are compared by decides their order
+pub compared_decides : (buffer : List ℕ) → All (λ d. d < 256) buffer → (a b : Keyed) → HasKey buffer a → HasKey buffer b → IsPaddedAtMost (compared buffer b) (compared buffer a) → IsPaddedAtMost (part_of buffer b.span) (part_of buffer a.span)
+compared_decides buffer octets a b is of h =
+    let within : (span : Span) → All (λ d. d < 256) (part_of buffer span) = λ span. All-take (λ d. d < 256) (span.end - span.start) (drop span.start buffer) (All-drop (λ d. d < 256) span.start buffer octets) in
+    let x = part_of buffer b.span in
+    let y = part_of buffer a.span in
+    elim h [
+      | inl less ↦ key_of-less 16 x y (within a.span) (omega (arith, less, is, of))
+      | inr same ↦ key_of-same 16 x y (within b.span) (within a.span) (sym of ∙ same.0 ∙ is) same.1
+    ]
+
+-- spans with their keys, and without them again
+pub keys_are : (buffer : List ℕ) (spans : List Span) → All (HasKey buffer) (map (with_key buffer) spans)
+keys_are buffer spans = all_at (with_key buffer) (HasKey buffer) spans (λ j d below. refl)
+
+pub spans_again : (buffer : List ℕ) (spans : List Span) → map (λ (one : Keyed). one.span) (map (with_key buffer) spans) ≡ spans
+spans_again buffer [] = refl
+spans_again buffer (s ∷ spans) = ap (λ r. s ∷ r) (spans_again buffer spans)
+
+pub parts_again : (buffer : List ℕ) (fs : List Keyed) → map (part_of buffer) (map (λ (one : Keyed). one.span) fs) ≡ map (λ (one : Keyed). part_of buffer one.span) fs
+parts_again buffer [] = refl
+parts_again buffer (f ∷ fs) = ap (λ r. part_of buffer f.span ∷ r) (parts_again buffer fs)
