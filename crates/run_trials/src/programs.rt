@@ -14,6 +14,7 @@ mod hexadecimal;
 mod modules;
 mod runs;
 mod streams;
+mod values;
 
 /// A text of this many spaces.
 pub fn spaces(alloc: Global, count: usize) -> Result<Vec<u8>, AllocError> {

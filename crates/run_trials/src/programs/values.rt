@@ -1,0 +1,144 @@
+//! The values of a source, one by one, from a slice and from a reader of one octet a call.
+
+ghost use Rattle.std.specs.Prelude.{◌≡◌};
+
+use super::dripping::{Dripping, type_of};
+use convert::{
+    FromReader, FromSlice, NoMemory, Rule, Source, Values, WellTyped, conforms, show, unhex,
+};
+use std::alloc::Global;
+use std::test::Fail;
+
+// The rule by its first letter, the type by its letter, octets, the values' texts, the number of the refusal or 0, how
+// many values were returned, and how many octets they have.
+const ROWS: &str = "
+b b |                                  |                  | 0  | 0 | 0
+b b | 01 01 2a 01 01 00                | TRUE;FALSE;      | 0  | 2 | 6
+b b | 01 01 00 01 81 01 00 01          | FALSE;FALSE;     | 1  | 2 | 7
+b b | 01 01 00 01 02 00 00 01 01 00    | FALSE;           | 6  | 1 | 3
+b b | 02 01 00                         |                  | 2  | 0 | 0
+d b | 01 01 ff 01 01 2a                | TRUE;            | 12 | 1 | 3
+c b | 01 01 00 01 01 ff                | FALSE;TRUE;      | 0  | 2 | 6
+b o | 24 80 04 01 41 00 00 04 00       | '41'H;''H;       | 0  | 2 | 9
+d o | 04 00 24 80 04 01 41 00 00       | ''H;             | 12 | 1 | 2
+c o | 04 01 41 04 81 01 42             | '41'H;           | 12 | 1 | 3
+b s | 30 80 04 01 41 04 00 00 00 30 00 | { '41'H, ''H };{ }; | 0 | 2 | 11
+d s | 30 03 04 01 41 30 02 04          | { '41'H };       | 1  | 1 | 5
+c s | 30 80 04 00 00 00 30 00          | { ''H };         | 12 | 1 | 6
+";
+
+// A row of the table.
+#[derive(Drop)]
+struct Row<'a> {
+    rule: Rule,
+    ty: WellTyped,
+    octets: Vec<u8>,
+    texts: &'a str,
+    ending: (u8, u64, u64),
+}
+
+fn row_of<'a>(alloc: Global, line: &'a str) -> Result<Row<'a>, Fail> {
+    let mut columns = line.split('|');
+    let letters = columns.next().unwrap_or("").as_bytes();
+    let octets = unhex(alloc, columns.next().unwrap_or("").as_bytes())?;
+    let texts = columns.next().unwrap_or("").trim();
+    let number = columns.next().unwrap_or("").trim().parse::<u8>()?;
+    let done = columns.next().unwrap_or("").trim().parse::<u64>()?;
+    let offset = columns.next().unwrap_or("").trim().parse::<u64>()?;
+    Ok(Row {
+        rule: match letters.first() {
+            Some(b'c') => Rule::Cer,
+            Some(b'd') => Rule::Der,
+            _ => Rule::Ber,
+        },
+        ty: type_of(alloc, letters.get(2).copied().unwrap_or(b'b'))?,
+        octets,
+        texts,
+        ending: (number, done, offset),
+    })
+}
+
+// The number that stops the values, or 0 at the end. Their texts are put behind `out`, a semicolon behind each.
+fn take_all<S: Source>(
+    alloc: Global,
+    ty: &WellTyped,
+    values: &mut Values<'_, S>,
+    out: &mut Vec<u8>,
+) -> Result<u8, NoMemory> {
+    for _ in 0..4 {
+        let next = values.next();
+        match next {
+            Ok(Some(value)) => {
+                if !conforms(ty.as_type(), &value) {
+                    return Ok(u8::MAX);
+                }
+                let text = show(alloc, ty, &value)?;
+                out.extend_from_slice(text.as_bytes())?;
+                out.push(b';')?;
+            }
+            Ok(None) => return Ok(0),
+            Err(stopped) => return Ok(stopped.refusal.number()),
+        }
+    }
+    Ok(u8::MAX)
+}
+
+// Whether the values of a source are those of a row, and the call after the last one says the same again.
+fn is_as_said<S: Source + Drop>(alloc: Global, row: &Row, source: S) -> Result<bool, NoMemory>
+    requires { S.failures source ≡ 0 }
+{
+    let mut values = Values::new(alloc, &row.ty, row.rule, source);
+    let mut texts = Vec::new(alloc);
+    let number = take_all(alloc, &row.ty, &mut values, &mut texts)?;
+    let again = take_all(alloc, &row.ty, &mut values, &mut texts)?;
+    let ending = (number, values.done(), values.offset());
+    Ok(ending == row.ending && again == number && texts.as_slice() == row.texts.as_bytes())
+}
+
+// Whether the values of a row's octets are as it says, from a slice and from a reader.
+fn is_right(alloc: Global, line: &str) -> Result<bool, Fail> {
+    let row = row_of(alloc, line)?;
+    let octets = row.octets.as_slice();
+    let dripping = Dripping::new(octets, octets.len() + 1);
+    Ok(
+        is_as_said(alloc, &row, FromSlice::new(octets))?
+            && is_as_said(alloc, &row, FromReader::new(dripping))?,
+    )
+}
+
+// Whether the values of 01 01 01 and 01 01 00 end so, from a reader that fails once so many calls went well.
+fn ends_so(alloc: Global, good_calls: usize, ending: (u8, u64, u64)) -> Result<bool, Fail> {
+    let ty = type_of(alloc, b'b')?;
+    let source = FromReader::new(Dripping::new(&[1, 1, 1, 1, 1, 0], good_calls));
+    let mut values = Values::new(alloc, &ty, Rule::Ber, source);
+    let mut texts = Vec::new(alloc);
+    let number = take_all(alloc, &ty, &mut values, &mut texts)?;
+    let is_so = ending == (number, values.done(), values.offset());
+    Ok(is_so && values.into_source().failed() == (number == 15))
+}
+
+#[test]
+fn of_slices_and_of_readers(rt: HostRuntime) -> Result<(), Fail> {
+    for line in ROWS.lines().skip(1) {
+        assert!(rt; is_right(rt.alloc(), line)?, "{line}");
+    }
+    Ok(())
+}
+
+#[test]
+fn of_a_reader_that_fails(rt: HostRuntime) -> Result<(), Fail> {
+    // (how many calls go well, the refusal's number, how many values came, and how many octets they have)
+    let cases = [
+        (0, 15, 0, 0),
+        (2, 15, 0, 0),
+        (3, 15, 1, 3),
+        (5, 15, 1, 3),
+        (6, 15, 2, 6),
+        (7, 0, 2, 6),
+    ];
+    for (good_calls, number, done, offset) in cases {
+        let is_so = ends_so(rt.alloc(), good_calls, (number, done, offset))?;
+        assert!(rt; is_so, "after {good_calls} calls");
+    }
+    Ok(())
+}
