@@ -1,38 +1,46 @@
 #!/bin/sh
-# Proves programs and each library that they stand on, the lowest first, and builds them as crates/NAME/out/NAME, a
-# static library as crates/NAME/out/libNAME.a.
+# Proves programs and each library that they stand on, the lowest first and several side by side, and builds them as
+# crates/NAME/out/NAME, a static library as crates/NAME/out/libNAME.a.
 #
 #     install/proved.sh NAME..
 #
-# It needs rt. A line is printed for each crate: how many there are, what it took, and about how long the rest will
-# take, by the times so far and the minutes of processor time in docs/CONTRIBUTING.md, with a minute for each program.
+# It needs rt and make. A line is printed where the proof of a crate begins, and one where it has ended: how many have,
+# what it took, and about how long the rest will take, by the times so far and the minutes of processor time in
+# docs/CONTRIBUTING.md, with a minute for each program.
 # What an earlier check or install on this machine proved of the same files is used again, and takes a second or two. So
 # are programs that `rt ci` proved.
 # Nothing is built where a proof fails.
 set -eu
 
 [ $# -gt 0 ] || { echo 'usage: install/proved.sh NAME..' >&2; exit 2; }
-programs=" $* "
 
 cd "$(dirname "$0")/.."
 command -v rt >/dev/null || { echo "proved: rt is missing: put the kit's bin folder on the path" >&2; exit 2; }
-said=$(mktemp)
-trap 'rm -f "$said"' EXIT
 
-# The minutes of processor time that the proof of a crate takes, where that was timed.
-minutes_of() {
-    awk -F '|' -v name="\`$1\`" '{ gsub(" ", "") } $2 == name { print $3 + 0 }' docs/CONTRIBUTING.md
+# Crates and the libraries that they stand on, as crates.txt lists them, the lowest first.
+with_libraries() {
+    tac crates.txt | awk -F ':' -v wanted=" $* " '
+        { sub(" staticlib", "", $1) }
+        index(wanted, " " $1 " ") || needed[$1] { split($2, names, " "); for (i in names) needed[names[i]] = 1; print $1 }' |
+        tac
 }
 
-# The libraries that the programs stand on, as crates.txt lists them, and the programs, each with its minutes.
-crates() {
-    tac crates.txt | awk -F ':' -v programs="$programs" '
-        { sub(" staticlib", "", $1) }
-        index(programs, " " $1 " ") || needed[$1] { split($2, names, " "); for (i in names) needed[names[i]] = 1; print $1 }' |
-        tac |
-        while read -r crate; do
-            echo "$crate $(minutes_of "$crate")"
-        done | awk '{ print $1, ($2 > 0 ? $2 : 1) }'
+# Makes a repository at $1 of a crate, $2, and the libraries that it stands on: by links to their files, or as a copy
+# without edits and without what was proved.
+make_repository() {
+    mkdir -p "$1/crates"
+    cp HANDLES "$1"
+    with_libraries "$2" | while read -r crate; do
+        grep -E "^$crate( staticlib)?:" crates.txt
+        mkdir "$1/crates/$crate"
+        for it in "crates/$crate"/*; do
+            case $3$it in
+            links*) cp -al "$it" "$1/crates/$crate" ;;
+            */must-fail | */out) ;;
+            *) cp -r "$it" "$1/crates/$crate" ;;
+            esac
+        done
+    done >"$1/crates.txt"
 }
 
 # Seconds as words.
@@ -40,47 +48,91 @@ words() {
     if [ "$1" -lt 100 ]; then echo "$1 s"; else echo "$((($1 + 30) / 60)) min"; fi
 }
 
-# Proves a crate; a program is built by a run.
+# Proves a crate, in a repository of its own, since a run of rt waits for any other that works on one of its crates.
 prove() {
-    cd "crates/$1"
-    if [ -f src/main.rt ]; then rt run -- --help >/dev/null; else rt lib >&2; fi
+    make_repository "$work/$1" "$1" links &&
+        (
+            cd "$work/$1/crates/$1" &&
+                if [ -f src/main.rt ]; then rt run --jobs "$jobs" -- --help >/dev/null; else rt lib --jobs "$jobs" >&2; fi
+        ) &&
+        rm -rf "crates/$1/out" &&
+        mv "$work/$1/crates/$1/out" "crates/$1" &&
+        rm -rf "${work:?}/$1"
 }
 
-# Builds programs of what `rt ci` kept on this machine, in a copy without edits, where it has kept all of it. That takes
-# some seconds; whatever takes longer is left to a proof in place. It keeps no static library.
-build_from_kept() {
-    copy=$(mktemp -d)
-    trap 'rm -rf "$copy" "$said"' EXIT
-    mkdir "$copy/crates"
-    cp HANDLES "$copy"
-    for crate in $(echo "$list" | cut -d ' ' -f 1); do
-        grep -q "^$crate staticlib" crates.txt && return 1
-        grep "^$crate:" crates.txt >>"$copy/crates.txt"
-        cp -r "crates/$crate" "$copy/crates"
-        rm -rf "$copy/crates/$crate/must-fail" "$copy/crates/$crate/out"
-    done
-    (cd "$copy" && timeout 60 rt ci) >"$said" 2>&1 || return 1
-    for program in $programs; do
-        mkdir -p "crates/$program/out"
-        cp "$copy/crates/$program/out/$program" "crates/$program/out"
-    done
-}
-
-list=$(crates)
-count=$(echo "$list" | wc -l)
-if build_from_kept; then
-    echo "built${programs}of $count crates, which the gate has proved on this machine"
+# Proves a crate, once those that it stands on are proved, and says so. `work` has what is known of all. What took a few
+# seconds was proved before, and tells nothing of what the rest will take.
+if [ "$1" = --one ]; then
+    since=$(date +%s)
+    printf '          %-16s begins\n' "$2"
+    prove "$2" 2>"$work/said-$2" || { printf '          %-16s NOT PROVED\n' "$2"; cat "$work/said-$2" >&2; exit 1; }
+    now=$(date +%s)
+    echo "$2 $((now - since))" >>"$work/proved"
+    awk -v crate="$2" -v took=$((now - $(cat "$work/begun"))) '
+        NR == FNR { minutes[$1] = $2; left += $2; count++; next }
+        { left -= minutes[$1] } $2 > 15 { timed += minutes[$1] }
+        $1 == crate { print FNR, count, timed ? int(took * left / timed) : -1; exit }' \
+        "$work/crates" "$work/proved" | {
+        read -r number count left
+        printf '%2d of %d  %-16s proved  %6s' "$number" "$count" "$2" "$(words $((now - since)))"
+        if [ "$left" -gt 0 ]; then echo "  about $(words "$left") left"; else echo; fi
+    }
     exit
 fi
-echo "proving $count crates: minutes from nothing, and seconds for each library that was proved here before"
-begun=$(date +%s) number=0
-echo "$list" | while read -r crate _; do
-    number=$((number + 1)) since=$(date +%s)
-    printf '%2d of %d  %-16s' "$number" "$count" "$crate"
-    (prove "$crate") 2>"$said" || { echo ' NOT PROVED'; cat "$said" >&2; exit 1; }
-    now=$(date +%s)
-    left=$(echo "$list" | awk -v at="$number" -v took=$((now - begun)) '
-        { if (NR <= at) done += $2; else left += $2 } END { printf "%d", took * left / done }')
-    printf ' proved  %6s' "$(words $((now - since)))"
-    [ "$number" = "$count" ] && echo || echo "  about $(words "$left") left"
+
+work=$(mktemp -d "$PWD/.install.XXXXXX") copies=$(mktemp -d)
+trap 'rm -rf "$work" "$copies"' EXIT
+trap 'exit 130' INT TERM
+
+# The minutes of processor time that the proof of a crate takes, where that was timed.
+minutes_of() {
+    awk -F '|' -v name="\`$1\`" '{ gsub(" ", "") } $2 == name { print $3 + 0 }' docs/CONTRIBUTING.md
+}
+
+# A rule for each crate: it is proved behind those of its own line.
+rules() {
+    awk -F ':' 'NR == FNR { split($0, words, " "); here[words[1]] = 1; next }
+        { sub(" staticlib", "", $1) }
+        here[$1] {
+            printf "%s:", $1
+            count = split($2, names, " ")
+            for (i = 1; i <= count; i++) if (here[names[i]]) printf " %s", names[i]
+            printf "\n\t@install/proved.sh --one %s\n.PHONY: %s\n", $1, $1
+        }' "$work/crates" crates.txt
+}
+
+# Builds a program of what `rt ci` kept on this machine, in a copy, where it has kept all of it. That takes some seconds;
+# whatever takes longer is left to a proof in place. It keeps no static library.
+build_from_kept() {
+    ! grep -q "^$1 staticlib" crates.txt || return 1
+    make_repository "$copies/$1" "$1" copy
+    (cd "$copies/$1" && timeout 60 rt ci "$1") >"$copies/said" 2>&1 || return 1
+    mkdir -p "crates/$1/out"
+    mv "$copies/$1/crates/$1/out/$1" "crates/$1/out"
+}
+
+left=
+for program; do
+    if build_from_kept "$program"; then
+        echo "built $program, which the gate has proved on this machine"
+    else
+        left="$left $program"
+    fi
 done
+[ -n "$left" ] || exit 0
+
+for crate in $(with_libraries $left); do
+    echo "$crate $(minutes_of "$crate")"
+done | awk '{ print $1, ($2 > 0 ? $2 : 1) }' >"$work/crates"
+
+# A proof takes up to 5 GiB. Where few can go on, each has a second processor.
+processors=$(nproc)
+jobs=$((processors < 4 ? 1 : 2))
+lanes=$(awk -v lanes="$processors" '
+    /MemAvailable/ { room = int($2 / 1048576 / 5) } END { print room < 1 ? 1 : room < lanes ? room : lanes }' /proc/meminfo)
+export work jobs
+
+echo "proving $(wc -l <"$work/crates") crates, $lanes side by side: minutes from nothing, and seconds for each library that was proved here before"
+date +%s >"$work/begun"
+rules >"$work/rules"
+env -u MAKEFLAGS -u MFLAGS -u MAKELEVEL make --no-print-directory -s -j "$lanes" -f "$work/rules" $left
