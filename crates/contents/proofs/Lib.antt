@@ -1,6 +1,7 @@
 pub mod TrimLemmas
 pub mod LeafLemmas
 pub mod ContentsLengthLemmas
+pub mod FillLemmas
 pub mod HeadLemmas
 pub mod DepthLemmas
 pub mod CompletingLemmas
@@ -14,6 +15,7 @@ pub mod ReadingLemmas
 pub mod ChoiceLemmas
 pub mod EndLemmas
 pub mod SeatLemmas
+pub mod SlotLemmas
 pub mod HoldingLemmas
 pub mod PartsPutLemmas
 pub mod PartsValueLemmas

@@ -1,6 +1,6 @@
 //! Values of contents octets, put where they belong: a value is large to hand on.
 
-ghost use Rattle.std.specs.Prelude.{IsTrue};
+ghost use Rattle.std.specs.Prelude.{◌≡◌, IsTrue};
 ghost use Rattle.octets.specs.Rule.{ber};
 ghost use Rattle.types.specs.Leaf.{IsLeaf};
 ghost use Rattle.types.specs.Shape.{Shape, SimpleType, StringType};
@@ -16,7 +16,7 @@ use types::{Ty, Value, conforms};
 
 /// Puts the value of a type without parts that the contents octets of a primitive encoding are into the slot, and says
 /// whether it has. Where they are those of none, or memory runs out, it says no more. The types that are met most have
-/// ways of their own.
+/// ways of their own. Octets go into the room of those that the slot holds.
 #[inline(always)]
 pub fn fill(alloc: Global, ty: &Ty, contents: &[u8], slot: &mut Option<Value>) -> bool
     requires { IsLeaf (ty_view ty.now) }
@@ -63,6 +63,9 @@ fn fill_wide_integer(alloc: Global, tag: Tag, contents: &[u8], slot: &mut Option
     if !is_wide_integer(contents) {
         return false;
     }
+    if let Some(Value::WideInteger(octets)) = slot {
+        return refill(octets, contents);
+    }
     match Vec::from_slice(alloc, contents) {
         Ok(octets) => {
             *slot = Some(Value::WideInteger(octets));
@@ -77,6 +80,9 @@ fn fill_wide_integer(alloc: Global, tag: Tag, contents: &[u8], slot: &mut Option
 fn fill_octets(alloc: Global, tag: Tag, contents: &[u8], slot: &mut Option<Value>) -> bool
     ensures { IsTrue result → IsFilled ber (Shape.string tag StringType.octet_string) contents.now slot.new }
 {
+    if let Some(Value::Octets(octets)) = slot {
+        return refill(octets, contents);
+    }
     match Vec::from_slice(alloc, contents) {
         Ok(octets) => {
             *slot = Some(Value::Octets(octets));
@@ -99,6 +105,9 @@ fn fill_text(
 {
     if !allowed(kind, contents) {
         return false;
+    }
+    if let Some(Value::Text(octets)) = slot {
+        return refill(octets, contents);
     }
     match Vec::from_slice(alloc, contents) {
         Ok(octets) => {
@@ -123,6 +132,9 @@ fn fill_time(
     if !is_time(kind, contents) {
         return false;
     }
+    if let Some(Value::Text(octets)) = slot {
+        return refill(octets, contents);
+    }
     match Vec::from_slice(alloc, contents) {
         Ok(octets) => {
             *slot = Some(Value::Text(octets));
@@ -130,6 +142,14 @@ fn fill_time(
         }
         Err(_) => false,
     }
+}
+
+// Puts the octets into the vector in place of those in it, and says whether it has.
+fn refill(octets: &mut Vec<u8>, contents: &[u8]) -> bool
+    ensures { IsTrue result → octets.new.items ≡ contents.now }
+{
+    octets.clear();
+    octets.extend_from_slice(contents).is_ok()
 }
 
 // The same of an OBJECT IDENTIFIER.

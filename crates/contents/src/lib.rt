@@ -19,6 +19,7 @@ mod lengths;
 mod parts;
 mod seats;
 mod segments;
+mod slots;
 
 pub use choices::{begins, by_tag, is_node, node_of, node_within, wrap};
 pub use contents::read_contents;
@@ -32,3 +33,4 @@ pub use lengths::can_have_length;
 pub use parts::read_opening;
 pub use seats::{Seat, Seats, is_default, not_due, seats_of};
 pub use segments::{Segments, read_end};
+pub use slots::{clear, empty_slots, put_chosen, take_chosen, take_list, take_slots};

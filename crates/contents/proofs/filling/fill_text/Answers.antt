@@ -1,23 +1,18 @@
-use Rattle.std.proofs.Common.{◌≡◌, ◌<◌, ℕ, List, All, vec_items, refl, sym, ap, subst, arith}
+use Rattle.std.proofs.Common.{◌<◌, ℕ, All, arith}
 use Rattle.std.proofs.lemmas.List.Elements.{All-from_get_or}
-use Rattle.strings.specs.Alphabet.{IsText}
-use Rattle.octets.specs.Rule.{ber}
-use Rattle.types.specs.Conforms.{Conforms}
-use Rattle.types.specs.Shape.{StringType, StringValue, Shape, Val}
-use Rattle.types.proofs.ViewLemmas.{value-Text}
-use Rattle.contents.specs.Contents.{HoldsContents}
+use Rattle.types.specs.declared.value.Value as held
+use Rattle.contents.proofs.FillLemmas.{text_filled}
 use Rattle.contents.proofs.filling.fill_text.Goals as goal
+
+pub returns-in-Some-Text : goal.returns-in-Some-Text
+unfolding held.out-Value denote.Hole.Carrier.out
+returns-in-Some-Text c = λ filled.
+    let contents = c.args.contents.now in
+    let fits : All (λ octet. octet < 256) contents = All-from_get_or {X = ℕ} (λ octet. octet < 256) contents 0 (λ i below. omega (arith, c.type_inv.contents i)) in
+    rw c.in-Some-Text.field-0-is (text_filled c.args.tag c.args.kind c.refill.new.octets contents (c.refill.ensures filled) fits (c.allowed.ensures.0 c.if-not-allowed.false))
 
 pub returns-in-Ok : goal.returns-in-Ok
 returns-in-Ok c = λ filled.
     let contents = c.args.contents.now in
-    let kind = c.args.kind in
-    let octets = vec_items c.in-Ok.octets in
-    let same : octets ≡ contents = c.in-Ok.ensures.items in
     let fits : All (λ octet. octet < 256) contents = All-from_get_or {X = ℕ} (λ octet. octet < 256) contents 0 (λ i below. omega (arith, c.type_inv.contents i)) in
-    let text : IsText kind contents = c.allowed.ensures.0 c.if-not-allowed.false in
-    let shape = Shape.string c.args.tag (StringType.text kind) in
-    subst (λ (v : Val). Conforms shape v × HoldsContents ber shape v contents) (sym (value-Text c.in-Ok.octets)) (
-      subst (λ (xs : List ℕ). All (λ octet. octet < 256) xs × IsText kind xs) (sym same) (fits, text),
-      record { value = StringValue.text octets; is = refl; spelt = ap StringValue.text same },
-    )
+    text_filled c.args.tag c.args.kind c.in-Ok.octets contents c.in-Ok.ensures.items fits (c.allowed.ensures.0 c.if-not-allowed.false)
