@@ -1,8 +1,8 @@
 -- Lemmas on values that are read at once.
 use Rattle.std.specs.List.{AllByRecursion, concat}
-use Rattle.std.proofs.Common.{◌≡◌, ◌≢◌, ◌+◌, ◌-◌, ◌<◌, ◌≤◌, ℕ, zero, suc, false, List, [], ◌∷◌, ◌++◌, Option, Some, None, Vec, Global, Box, IfSome, MatchOption, refl, sym, ap, ◌∙◌, subst, arith, take, drop, set, map, option_map, length, get_or, append-nil, append_assoc}
+use Rattle.std.proofs.Common.{◌≡◌, ◌≢◌, ◌+◌, ◌-◌, ◌<◌, ◌≤◌, ℕ, zero, suc, false, List, [], ◌∷◌, ◌++◌, Option, Some, None, Vec, Global, IfSome, MatchOption, refl, sym, ap, ◌∙◌, subst, subst₂, arith, take, drop, map, option_map, length, get_or, append-nil, append_assoc}
 use Rattle.std.proofs.Math.Seq.{take-add}
-use Rattle.std.proofs.lemmas.List.{map_push, map_more, length-drop, take_rest}
+use Rattle.std.proofs.lemmas.List.{map_push, map_more, length-drop, take_all, take_rest}
 use Rattle.octets.specs.declared.tag.Tag.{Tag}
 use Rattle.octets.specs.Rule.{ber}
 use Rattle.types.specs.declared.value.Value.{Value}
@@ -15,7 +15,7 @@ use Rattle.types.specs.FirstTags.{IsUsable}
 use Rattle.types.specs.Form.{IsConstructed}
 use Rattle.types.specs.Encoding.{IsEncoding, standing}
 use Rattle.types.proofs.NestingLemmas.{nested_above}
-use Rattle.types.proofs.ViewLemmas.{value-Fields, value-Items, value-Chosen, field_is}
+use Rattle.types.proofs.ViewLemmas.{value-Fields, value-Items, field_is}
 use Rattle.contents.specs.declared.seats.Seat as seat
 use Rattle.contents.specs.Holding.{seat_view}
 use Rattle.contents.specs.Parts.{Parts, Seat, IsVacant, IsDue, IsValueOf, IsPartOf, IsCome, IsSlotOf, Holds, IsGoodType, IsGoodComponent}
@@ -23,7 +23,7 @@ use Rattle.contents.proofs.ChoiceLemmas.{alternative_encodes, alternative_nodes}
 use Rattle.contents.proofs.PartsOpenLemmas.{none_holds, components_good, parts_good}
 use Rattle.contents.proofs.PartsPutLemmas.{standing_append, concat_more, items_more, slot_come, come_append, put_holds, put_parts_of}
 use Rattle.contents.proofs.PartsValueLemmas.{explicit_encodes, sequence_encodes, sequence_of_encodes, set_of_encodes, value_encodes}
-use Rattle.whole.specs.Reading.{IsRead, IsComponentRead, AreComponentsRead, AreItemsRead, AreSeatsOf, AreMembersRead, IsMemberRead}
+use Rattle.whole.specs.Reading.{IsRead, IsComponentRead, AreComponentsRead, AreItemsRead, AreMoreItemsRead, IsItemRead, AreSeatsOf, AreMembersRead, IsMemberRead}
 
 -- two facts of one answer
 pub both_of : (P Q R : ℕ → Type 0) (answer : Option ℕ) → IfSome answer P → IfSome answer Q → ((n : ℕ) → P n → Q n → R n) → IfSome answer R
@@ -33,10 +33,6 @@ both_of P Q R (Some n) p q f = f n p q
 one_more : (levels : ℕ) → levels ≢ 0 → suc (levels - 1) ≡ levels
 one_more zero some = absurd (some refl)
 one_more (suc n) some = omega arith
-
--- what was read behind some octets
-pub read_behind : (levels : ℕ) (type : Shape) (octets : List ℕ) (at used : ℕ) (slot : Option Value) → IsRead levels type (take (length octets - at) (drop at octets)) slot used → IsRead levels type (drop at octets) slot used
-read_behind levels type octets at used slot h = subst (λ o. IsRead levels type o slot used) (take_rest octets at) h
 
 -- an encoding is not empty
 pub read_some : (levels : ℕ) (type : Shape) (octets : List ℕ) (slot : Option Value) (used : ℕ) → IsRead levels type octets slot used → 0 < used
@@ -80,11 +76,11 @@ set_of_read levels tag type octets inside items used whole usable some h there c
     (there, subst (λ n. IsPartOf n (Shape.set_of tag type) (value_view (value.Items items)) (take whole octets)) (one_more levels some) viewed)
 
 -- no item yet
-pub no_items : (levels : ℕ) (type : Shape) (octets : List ℕ) (items : List Value) → items ≡ [] → AreItemsRead levels type octets items 0
+no_items : (levels : ℕ) (type : Shape) (octets : List ℕ) (items : List Value) → items ≡ [] → AreItemsRead levels type octets items 0
 no_items levels type octets items none = rw none record { there = omega arith; come = record { encodings = []; each = tt; joined = refl } }
 
 -- one item more
-pub item_read : (levels : ℕ) (type : Shape) (octets : List ℕ) (items : List Value) (v : Value) (at used : ℕ) → AreItemsRead levels type octets items at → IsRead levels type (drop at octets) (Some v) used → AreItemsRead levels type octets (items ++ (v ∷ [])) (at + used)
+item_read : (levels : ℕ) (type : Shape) (octets : List ℕ) (items : List Value) (v : Value) (at used : ℕ) → AreItemsRead levels type octets items at → IsRead levels type (drop at octets) (Some v) used → AreItemsRead levels type octets (items ++ (v ∷ [])) (at + used)
 item_read levels type octets items v at used h is =
     let part = take used (drop at octets) in
     let all = items_more levels type (map value_view items) h.come.encodings (value_view v) part h.come.each is.1 in
@@ -94,14 +90,27 @@ item_read levels type octets items v at used h is =
       come = rw (map_push value_view items v) record { encodings = h.come.encodings ++ (part ∷ []); each = all; joined = take-add at used octets ∙ ap (λ z. z ++ part) h.come.joined ∙ sym (concat_more h.come.encodings part) };
     }
 
+-- the items behind those that had come
+pub no_more_items : (levels : ℕ) (type : Shape) (octets : List ℕ) (old : List Value) → AreMoreItemsRead levels type octets old old 0
+no_more_items levels type octets old = record { more = []; joined = sym (append-nil old); read = no_items levels type octets [] refl }
+
+pub item_behind : (levels : ℕ) (type : Shape) (octets : List ℕ) (at used : ℕ) (old new : List Value) → IsItemRead levels type (take (length octets - at) (drop at octets)) old new used → IsItemRead levels type (drop at octets) old new used
+item_behind levels type octets at used old new h = subst (λ o. IsItemRead levels type o old new used) (take_rest octets at) h
+
+pub one_item_more : (levels : ℕ) (type : Shape) (octets : List ℕ) (old items new : List Value) (at used : ℕ) → AreMoreItemsRead levels type octets old items at → IsItemRead levels type (drop at octets) items new used → AreMoreItemsRead levels type octets old new (at + used)
+one_item_more levels type octets old items new at used h one =
+    let last = one.value ∷ [] in record {
+      more = h.more ++ last;
+      joined = one.joined ∙ (ap (λ l. l ++ last) h.joined ∙ append_assoc old h.more last);
+      read = item_read levels type octets h.more one.value at used h.read one.read;
+    }
+
+pub all_items : (levels : ℕ) (type : Shape) (octets : List ℕ) (old new : List Value) (used : ℕ) → old ≡ [] → AreMoreItemsRead levels type octets old new used → AreItemsRead levels type octets new used
+all_items levels type octets old new used none h = subst (λ l. AreItemsRead levels type octets l used) (sym (h.joined ∙ ap (λ l. l ++ h.more) none)) h.read
+
 -- no component yet
 pub no_components : (levels : ℕ) (octets : List ℕ) (slots : List (Option Value)) → slots ≡ [] → AreComponentsRead levels [] octets slots 0
 no_components levels octets slots none = rw none record { there = omega arith; come = record { encodings = []; each = tt; joined = refl } }
-
--- the last of a list, set anew
-pub set_last : (xs : List (Option Value)) (x y : Option Value) → set (xs ++ (x ∷ [])) (length xs) y ≡ xs ++ (y ∷ [])
-set_last [] x y = refl
-set_last (z ∷ xs) x y = ap (λ l. z ∷ l) (set_last xs x y)
 
 -- one component more
 pub component_read : (levels : ℕ) (fields : List Field) (i : ℕ) (f : Field) (octets : List ℕ) (slots : List (Option Value)) (slot : Option Value) (at used : ℕ) → i < length fields → f ≡ get_or fields i f
@@ -134,6 +143,12 @@ component_stands levels f octets (Some v) slot used h is =
     let come : IsCome levels c (option_map value_view slot) (Some part) = subst (λ (d : ComponentView). IsCome levels d (option_map value_view slot) (Some part)) (sym same) (slot_come levels f.name (ty_view f.ty) (requirement_view f.presence) (value_view v) (option_map value_view slot) part is h.1) in
     record { there = h.0; encoding = Some part; come = come; joined = sym (append-nil part) }
 
+-- all of the components
+pub all_components : (levels : ℕ) (fields : List Field) (i : ℕ) (octets : List ℕ) (slots : List (Option Value)) (at : ℕ) → length fields ≤ i → length slots ≡ length fields
+    → AreComponentsRead levels (map field_view (take i fields)) octets (take i slots) at → AreComponentsRead levels (map field_view fields) octets slots at
+all_components levels fields i octets slots at past many read =
+    subst₂ (λ xs ys. AreComponentsRead levels (map field_view xs) octets ys at) (take_all i fields past) (take_all i slots (omega (arith, past, many))) read
+
 -- the components of a good SEQUENCE
 pub good_components : (tag : Tag) (fields : List Field) → IsGoodType (Shape.sequence tag (components_view fields)) → AllByRecursion IsGoodComponent (map field_view fields)
 good_components tag fields good = (parts_good (Shape.sequence tag (components_view fields)) (Parts.sequence [] [] (map field_view fields)) good refl (refl, refl)).0
@@ -150,12 +165,13 @@ good_alternative xs which a below is good =
     record { within = nodes.2; tags = nodes.0; defaults = nodes.1 }
 
 -- an alternative is a value of the CHOICE
-pub chosen_read : (levels : ℕ) (xs : List Alternative) (which : ℕ) (a : Alternative) (octets : List ℕ) (v : Value) (inner : Box Value Global) (used : ℕ) → which < length xs → a ≡ get_or xs which a → inner.value ≡ v
-    → IsRead levels (ty_view a.ty) octets (Some v) used → IsRead levels (Shape.choice (alternatives_view xs)) octets (Some (value.Chosen which inner)) used
-chosen_read levels xs which a octets v inner used below is boxed h =
-    let viewed : value_view (value.Chosen which inner) ≡ Val.chosen which (value_view v) = value-Chosen which inner ∙ ap (λ (w : Value). Val.chosen which (value_view w)) boxed in
+pub chosen_read : (levels : ℕ) (xs : List Alternative) (which : ℕ) (a : Alternative) (octets : List ℕ) (v : Value) (slot : Option Value) (used : ℕ) → which < length xs → a ≡ get_or xs which a
+    → option_map value_view slot ≡ Some (Val.chosen which (value_view v)) → IsRead levels (ty_view a.ty) octets (Some v) used → IsRead levels (Shape.choice (alternatives_view xs)) octets slot used
+chosen_read levels xs which a octets v None used below is put h = absurd (cc put)
+chosen_read levels xs which a octets v (Some w) used below is put h =
+    let viewed : value_view w ≡ Val.chosen which (value_view v) = cc put in
     let encodes : IsEncoding ber (Shape.choice (alternatives_view xs)) (Val.chosen which (value_view v)) (take used octets) = record { which = which; value = value_view v; is = refl; chosen = alternative_encodes xs which a (value_view v) (take used octets) below is h.1.encoding } in
-    (h.0, record { encoding = subst (λ w. IsEncoding ber (Shape.choice (alternatives_view xs)) w (take used octets)) (sym viewed) encodes; depth = h.1.depth })
+    (h.0, record { encoding = subst (λ x. IsEncoding ber (Shape.choice (alternatives_view xs)) x (take used octets)) (sym viewed) encodes; depth = h.1.depth })
 
 -- no component of a SET yet
 pub no_members : (levels : ℕ) (tag : Tag) (fields : List Field) (octets : List ℕ) (seats : List seat.Seat) → map (λ (s : Seat). s.component) (map seat_view seats) ≡ map field_view fields → AllByRecursion (λ (s : Seat). (s.slot ≡ None) × (s.came ≡ false)) (map seat_view seats)

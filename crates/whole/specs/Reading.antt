@@ -1,5 +1,5 @@
 -- Values that have been read at the front of some octets.
-use Rattle.std.specs.Prelude.{◌≡◌, ◌≤◌, ℕ, List, [], ◌∷◌, Option, length, take, map, option_map, MatchOption}
+use Rattle.std.specs.Prelude.{◌≡◌, ◌≤◌, ℕ, List, [], ◌∷◌, ◌++◌, Option, Some, length, take, map, option_map, MatchOption}
 use Rattle.std.specs.List.{concat}
 use Rattle.octets.specs.declared.tag.Tag.{Tag}
 use Rattle.types.specs.declared.value.Value.{Value}
@@ -28,6 +28,18 @@ pub record AreComponentsRead (levels : ℕ) (components : List ComponentView) (o
 pub record AreItemsRead (levels : ℕ) (type : Shape) (octets : List ℕ) (items : List Value) (used : ℕ) : Type 0 where
   pub there : used ≤ length octets
   pub come : Holds levels (Parts.items type (map value_view items)) (take used octets)
+
+-- so many are encodings of the items behind those that had come
+pub record AreMoreItemsRead (levels : ℕ) (type : Shape) (octets : List ℕ) (old new : List Value) (used : ℕ) : Type 0 where
+  pub more : List Value
+  pub joined : new ≡ old ++ more
+  pub read : AreItemsRead levels type octets more used
+
+-- so many are an encoding of the one item behind them
+pub record IsItemRead (levels : ℕ) (type : Shape) (octets : List ℕ) (old new : List Value) (used : ℕ) : Type 0 where
+  pub value : Value
+  pub joined : new ≡ old ++ (value ∷ [])
+  pub read : IsRead levels type octets (Some value) used
 
 -- the parts of a SET with these components
 abbrev pub AreSeatsOf : List ComponentView → Parts → Type 0

@@ -1,6 +1,6 @@
 //! Components of a SEQUENCE, in order of declaration (X.690 8.9).
 
-ghost use Rattle.std.specs.Prelude.{◌≡◌, None, [], map, option_map, IfSome, MatchOption};
+ghost use Rattle.std.specs.Prelude.{◌≡◌, None, length, map, option_map, IfSome, MatchOption};
 ghost use Rattle.std.specs.List.{AllByRecursion};
 ghost use Rattle.types.specs.Shape.{Shape};
 ghost use Rattle.types.specs.View.{value_view, field_view, requirement_view, components_view};
@@ -8,8 +8,8 @@ ghost use Rattle.contents.specs.Parts.{IsGoodType, IsGoodComponent, IsSlotOf};
 ghost use Rattle.whole.specs.Reading.{IsRead, IsComponentRead, AreComponentsRead};
 
 use crate::heads::opened;
-use crate::reading::{clear, fill, read_one};
-use contents::is_default;
+use crate::reading::{fill, read_one};
+use contents::{clear, is_default, take_slots};
 use octets::Tag;
 use std::alloc::Global;
 use types::{Field, Presence, Value, may_be_absent};
@@ -32,10 +32,10 @@ pub fn read_sequence(
     if levels == 0 {
         return None;
     }
-    let mut slots = Vec::new(alloc);
-    if slots.reserve_exact(fields.len()).is_err() {
+    let Ok(taken) = take_slots(alloc, fields, slot) else {
         return None;
-    }
+    };
+    let mut slots = taken;
     let used = read_components(alloc, fields, levels - 1, inside.octets, &mut slots)?;
     fill(slot, Value::Fields(slots));
     inside.close(octets, used)
@@ -51,16 +51,11 @@ fn read_components(
     slots: &mut Vec<Option<Value>>,
 ) -> Option<usize>
     requires good { AllByRecursion IsGoodComponent (map field_view fields.now) }
-    requires none { slots.old.items ≡ [] }
+    requires slots { length slots.old.items ≡ length fields.now }
     ensures { IfSome result (λ used. AreComponentsRead levels (map field_view fields.now) octets.now slots.new.items used) }
 {
     let mut at = 0;
-    for field in fields {
-        let place = slots.len();
-        if slots.reserve(1).is_err() {
-            return None;
-        }
-        slots.push_reserved(None);
+    for (place, field) in fields.iter().enumerate() {
         at += read_component(alloc, field, levels, &octets[at..], &mut slots[place])?;
     }
     Some(at)

@@ -145,11 +145,7 @@ impl<'a> Inside<'a> {
     pub fn ends(&self, used: usize) -> bool
         requires { used ≤ length self.now.octets.now }
     {
-        if self.definite {
-            used == self.octets.len()
-        } else {
-            starts_with_end(&self.octets[used..])
-        }
+        ends_at(&self.octets[used..], self.definite)
     }
 
     // How many octets the encoding at the front has, of which this was read, if so many are its contents octets.
@@ -170,6 +166,16 @@ impl<'a> Inside<'a> {
             return None;
         }
         Some(self.start + used + 2)
+    }
+}
+
+// Whether contents octets end in front of these, which of the definite form are all that are left of them.
+#[inline(always)]
+pub fn ends_at(octets: &[u8], definite: bool) -> bool {
+    if definite {
+        octets.is_empty()
+    } else {
+        starts_with_end(octets)
     }
 }
 

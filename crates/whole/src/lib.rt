@@ -10,8 +10,10 @@ mod heads;
 mod items;
 mod leaf;
 mod members;
+mod places;
 mod reading;
 
+pub use items::read_items;
 pub use reading::read_whole;
 
 /// How many constructed encodings may nest.

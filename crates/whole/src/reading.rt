@@ -1,6 +1,6 @@
 //! Values and their parts, each by a call that nests in that of what holds it.
 
-ghost use Rattle.std.specs.Prelude.{◌≡◌, ◌↔◌, ◌≤◌, Some, None, length, take, IfSome, IsSome};
+ghost use Rattle.std.specs.Prelude.{◌≡◌, ◌↔◌, ◌<◌, ◌≤◌, Some, None, length, take, IfSome, IsSome};
 ghost use Rattle.octets.specs.Rule.{ber};
 ghost use Rattle.types.specs.Encoding.{IsAccepted};
 ghost use Rattle.types.specs.Shape.{Shape};
@@ -14,7 +14,7 @@ use crate::heads::opened;
 use crate::items::read_list;
 use crate::leaf::read_leaf;
 use crate::members::read_set;
-use contents::by_tag;
+use contents::{by_tag, clear, put_chosen, take_chosen};
 use octets::{Head, MAX_ENCODING, Tag, read_identifier};
 use std::alloc::Global;
 use types::{Alternative, Ty, Value};
@@ -23,10 +23,10 @@ use types::{Alternative, Ty, Value};
 /// returns how many octets it has. None of anything else, of which that says nothing: whoever asks then reads part
 /// by part, and refuses what there is to refuse. So it is with a constructed string.
 ///
-/// Takes memory as the value does; None where there is too little.
+/// Takes memory as the value does, beside the room of the value that `whole` holds, into which goes what has room
+/// there; None where there is too little.
 pub fn read_whole(alloc: Global, ty: &Ty, octets: &[u8], whole: &mut Option<Value>) -> Option<usize>
     requires good { IsGoodType (ty_view ty.now) }
-    requires whole { whole.old ≡ None }
     ensures there { IfSome result (λ used. used ≤ length octets.now) }
     ensures value { IfSome result (λ used. IfSome whole.new (λ value.
         IsAccepted ber (ty_view ty.now) (value_view value) (take used octets.now))) }
@@ -115,14 +115,33 @@ fn read_chosen(
     let Head::Done { tag, .. } = read_identifier(octets) else {
         return None;
     };
-    let (which, alternative) = by_tag(alternatives, tag)?;
-    let mut chosen = None;
+    let (which, _) = by_tag(alternatives, tag)?;
+    read_alternative(alloc, alternatives, which, levels, octets, slot)
+}
+
+// Reads an encoding of the alternative at this place at the front into the slot.
+#[cycle(reading)]
+#[inline(always)]
+pub fn read_alternative(
+    alloc: Global,
+    alternatives: &[Alternative],
+    which: usize,
+    levels: usize,
+    octets: &[u8],
+    slot: &mut Option<Value>,
+) -> Option<usize>
+    requires there { which < length alternatives.now }
+    requires good { IsGoodType (Shape.choice (alternatives_view alternatives.now)) }
+    ensures { IfSome result (λ used. IsRead levels (Shape.choice (alternatives_view alternatives.now)) octets.now slot.new used) }
+{
+    let alternative = &alternatives[which];
+    let mut chosen = take_chosen(slot);
     let used = read_one(alloc, &alternative.ty, levels, octets, &mut chosen)?;
-    let Ok(boxed) = Box::new(alloc, chosen?) else {
-        return None;
-    };
-    fill(slot, Value::Chosen(which, boxed));
-    Some(used)
+    if put_chosen(alloc, which, chosen?, slot) {
+        Some(used)
+    } else {
+        None
+    }
 }
 
 // Puts the value into the slot.
@@ -131,11 +150,4 @@ pub fn fill(slot: &mut Option<Value>, value: Value)
     ensures { slot.new ≡ Some value }
 {
     *slot = Some(value);
-}
-
-// Empties the slot.
-pub fn clear(slot: &mut Option<Value>)
-    ensures { slot.new ≡ None }
-{
-    *slot = None;
 }

@@ -1,6 +1,6 @@
-use Rattle.std.proofs.Common.{rules, ◌≡◌, ◌+◌, ◌-◌, ◌<◌, ◌≤◌, [], ◌∷◌, ◌++◌, Some, None, set, sym, ap, ◌∙◌, subst, arith, take, drop, map, length}
+use Rattle.std.proofs.Common.{rules, ◌≡◌, ◌+◌, ◌-◌, ◌<◌, ◌≤◌, [], ◌∷◌, ◌++◌, Some, set, refl, sym, ap, ◌∙◌, subst, arith, take, drop, map, length}
 use Rattle.std.proofs.lemmas.Bool.{ltb-true}
-use Rattle.std.proofs.lemmas.List.{take_all, take_rest, length-drop}
+use Rattle.std.proofs.lemmas.List.{take_rest, take_more_set, length-set, length-drop}
 use Rattle.octets.specs.declared.tag.Tag.{Tag}
 use Rattle.octets.specs.Rule.{ber}
 use Rattle.types.specs.declared.ty.Ty as node
@@ -8,73 +8,72 @@ use Rattle.types.specs.declared.ty.Alternative as alternative
 use Rattle.types.specs.declared.ty.Field as field
 use Rattle.types.specs.Form.{IsConstructed}
 use Rattle.types.specs.Shape.{Shape}
-use Rattle.types.specs.View.{ty_view, value_view, field_view, components_view, alternatives_view}
+use Rattle.types.specs.View.{ty_view, value_view, field_view, components_view}
 use Rattle.contents.specs.Parts.{IsDue, IsGoodType}
 use Rattle.contents.specs.Holding.{parts_view}
 use Rattle.whole.specs.Heads.{IsOpened}
-use Rattle.whole.specs.Reading.{IsRead, IsComponentRead, AreComponentsRead, AreItemsRead}
-use Rattle.whole.proofs.ReadingLemmas.{both_of, read_behind, read_some, explicit_read, sequence_read, sequence_of_read, set_of_read, no_items, item_read, no_components, set_last, component_read, component_stands, good_components, good_component, good_alternative, chosen_read, no_members, member_behind, member_read, member_some, field_type, due_field, set_read, good_members}
+use Rattle.whole.specs.Reading.{IsRead, IsComponentRead, AreComponentsRead, AreMoreItemsRead}
+use Rattle.whole.proofs.ReadingLemmas.{both_of, read_some, explicit_read, sequence_read, sequence_of_read, set_of_read, no_more_items, one_item_more, item_behind, all_items, no_components, component_read, all_components, component_stands, good_components, good_component, good_alternative, chosen_read, no_members, member_behind, member_read, member_some, field_type, due_field, set_read, good_members}
 use Rattle.whole.proofs.+reading.Goals as goal
 
-pub reading::read_chosen-read_one-requires : goal.reading::read_chosen-read_one-requires
-reading::read_chosen-read_one-requires t c =
+pub reading::read_alternative-read_one-requires : goal.reading::read_alternative-read_one-requires
+reading::read_alternative-read_one-requires t c =
     let xs = c.args.alternatives.now in
-    let a = c.in_ok-which.alternative.now in
-    let bound = c.in_ok-which.ensures.0 in
-    let at = c.in_ok-which.ensures.1 in
-    (search (rules, node.the_lemmas, alternative.the_lemmas, bound, at), good_alternative xs c.in_ok-which.which a bound at c.requires)
+    let a = c.index-alternatives-which.result in
+    let bound = c.requires.there in
+    let at = c.index-alternatives-which.is in
+    (search (rules, node.the_lemmas, alternative.the_lemmas, bound, at), good_alternative xs c.args.which a bound at c.requires.good)
 
-pub reading::read_chosen-returns : goal.reading::read_chosen-returns
-reading::read_chosen-returns t c =
+pub reading::read_alternative-returns-then-put_chosen : goal.reading::read_alternative-returns-then-put_chosen
+reading::read_alternative-returns-then-put_chosen t c =
     let xs = c.args.alternatives.now in
-    let a = c.in_ok-which.alternative.now in
+    let a = c.index-alternatives-which.result in
     let v = c.in_ok-chosen.field-0 in
-    let read : IsRead c.args.levels (ty_view a.ty) c.args.octets.now (Some v) c.in_ok-used.used = subst (λ slot. IsRead c.args.levels (ty_view a.ty) c.args.octets.now slot c.in_ok-used.used) c.in_ok-chosen.was c.in_ok-used.ensures in
-    let whole = chosen_read c.args.levels xs c.in_ok-which.which a c.args.octets.now v c.in-Ok.boxed c.in_ok-used.used c.in_ok-which.ensures.0 c.in_ok-which.ensures.1 c.in-Ok.ensures.ok read in
-    subst (λ slot. IsRead c.args.levels (Shape.choice (alternatives_view xs)) c.args.octets.now slot c.in_ok-used.used) (sym c.fill.ensures) whole
+    let used = c.in_ok-used.used in
+    let read : IsRead c.args.levels (ty_view a.ty) c.args.octets.now (Some v) used = subst (λ slot. IsRead c.args.levels (ty_view a.ty) c.args.octets.now slot used) c.in_ok-chosen.was c.in_ok-used.ensures in
+    chosen_read c.args.levels xs c.args.which a c.args.octets.now v c.put_chosen.new.slot used c.requires.there c.index-alternatives-which.is (c.put_chosen.ensures c.if-put_chosen.true) read
 
 pub components::read_component-returns-in-Some : goal.components::read_component-returns-in-Some
 components::read_component-returns-in-Some t c =
     component_stands c.args.levels c.args.field.now c.args.octets.now c.read_one.new.slot c.drop_default.new.slot c.in-Some.used c.in-Some.ensures c.drop_default.ensures
 
-pub components::read_components-loop-field-init : goal.components::read_components-loop-field-init
-components::read_components-loop-field-init t c = no_components c.args.levels c.args.octets.now c.args.slots.now.items c.requires.none
+pub components::read_components-loop-place-init : goal.components::read_components-loop-place-init
+components::read_components-loop-place-init t c = (no_components c.args.levels c.args.octets.now [] refl, c.requires.slots)
 
 pub components::read_components-slice_bounds-read_component-count :
     goal.components::read_components-slice_bounds-read_component-count
-components::read_components-slice_bounds-read_component-count t c = c.loop-field.invariant.there
+components::read_components-slice_bounds-read_component-count t c = c.loop-place.invariant.0.there
 
 pub components::read_components-slice_bounds-read_component-start :
     goal.components::read_components-slice_bounds-read_component-start
-components::read_components-slice_bounds-read_component-start t c = c.loop-field.invariant.there
+components::read_components-slice_bounds-read_component-start t c = c.loop-place.invariant.0.there
 
 pub components::read_components-read_component-requires : goal.components::read_components-read_component-requires
 components::read_components-read_component-requires t c =
     let fields = c.args.fields.now in
-    let bound : c.loop-field.field-index < length fields = omega arith in
-    let at = c.field-item.is in
-    (search (rules, node.the_lemmas, field.the_lemmas, bound, at), good_component fields c.loop-field.field-index c.field-item.result bound at c.requires.good)
+    let bound : c.loop-place.place < length fields = c.loop-place-test.true in
+    let is = c.index-fields-place.is in
+    (search (rules, node.the_lemmas, field.the_lemmas, bound, is), good_component fields c.loop-place.place c.index-fields-place.result bound is c.requires.good)
 
-pub components::read_components-loop-field-preserved : goal.components::read_components-loop-field-preserved
-components::read_components-loop-field-preserved t c =
+pub components::read_components-loop-place-preserved : goal.components::read_components-loop-place-preserved
+components::read_components-loop-place-preserved t c =
     let fields = c.args.fields.now in
     let octets = c.args.octets.now in
-    let at = c.loop-field.at in
-    let f = c.field-item.result in
+    let i = c.loop-place.place in
+    let f = c.index-fields-place.result in
+    let bound : i < length fields = c.loop-place-test.true in
+    let at = c.loop-place.at in
+    let used = c.in_ok-at.field-0 in
+    let slots = c.loop-place.slots.items in
     let slot = c.read_component.new.slot in
-    let one : IsComponentRead c.args.levels (field_view f) (drop at octets) slot c.in_ok-at.field-0 = subst (λ o. IsComponentRead c.args.levels (field_view f) o slot c.in_ok-at.field-0) (take_rest octets at) c.in_ok-at.ensures in
-    let more = component_read c.args.levels fields c.loop-field.field-index f octets c.loop-field.slots.items slot at c.in_ok-at.field-0 (omega arith) c.field-item.is c.loop-field.invariant one in
-    let items = c.loop-field.slots.items in
-    let place : c.len-place.result ≡ length items = search rules in
-    let grown : c.push_reserved.new.self.items ≡ items ++ (None ∷ []) = c.push_reserved.ensures.items ∙ ap (λ l. l ++ (None ∷ [])) c.reserve.ensures.items in
-    let filled : set c.push_reserved.new.self.items c.len-place.result slot ≡ items ++ (slot ∷ []) = ap (λ l. set l c.len-place.result slot) grown ∙ ap (λ n. set (items ++ (None ∷ [])) n slot) place ∙ set_last items None slot in
-    subst (λ l. AreComponentsRead c.args.levels (map field_view (take (c.loop-field.field-index + 1) fields)) octets l (at + c.in_ok-at.field-0)) (sym filled) more
+    let one : IsComponentRead c.args.levels (field_view f) (drop at octets) slot used = subst (λ o. IsComponentRead c.args.levels (field_view f) o slot used) (take_rest octets at) c.in_ok-at.ensures in
+    let more = component_read c.args.levels fields i f octets (take i slots) slot at used bound c.index-fields-place.is c.loop-place.invariant.0 one in
+    let filled : take (i + 1) (set slots i slot) ≡ take i slots ++ (slot ∷ []) = take_more_set slots i slot (omega (arith, bound, c.loop-place.invariant.1)) in
+    (subst (λ l. AreComponentsRead c.args.levels (map field_view (take (i + 1) fields)) octets l (at + used)) (sym filled) more, length-set slots i slot ∙ c.loop-place.invariant.1)
 
 pub components::read_components-returns : goal.components::read_components-returns
 components::read_components-returns t c =
-    let fields = c.args.fields.now in
-    let all : take c.loop-field.field-index fields ≡ fields = take_all c.loop-field.field-index fields (omega arith) in
-    subst (λ l. AreComponentsRead c.args.levels (map field_view l) c.args.octets.now c.loop-field.slots.items c.loop-field.at) all c.loop-field.invariant
+    all_components c.args.levels c.args.fields.now c.loop-place.place c.args.octets.now c.loop-place.slots.items c.loop-place.at c.loop-place-test.false c.loop-place.invariant.1 c.loop-place.invariant.0
 
 pub reading::read_explicit-returns : goal.reading::read_explicit-returns
 reading::read_explicit-returns t c =
@@ -85,65 +84,87 @@ reading::read_explicit-returns t c =
     c.close.result c.close.ensures.there c.close.ensures.value
     (λ n there whole. explicit_read c.args.levels c.args.tag type octets inside.octets.now c.read_one.new.slot c.in_ok-used.used n c.requires (search rules) c.in_ok-used.ensures there (whole c.args.tag c.in_ok-inside.ensures))
 
+pub items::read_item-nonzero_div-octets : goal.items::read_item-nonzero_div-octets
+items::read_item-nonzero_div-octets t c = read_some c.args.levels (ty_view c.args.inner.now) c.args.octets.now c.read_among.new.slot c.in_ok-used.used c.in_ok-used.ensures
+
+pub items::read_item-returns-clause-some : goal.items::read_item-returns-clause-some
+items::read_item-returns-clause-some t c =
+    let type = ty_view c.args.inner.now in
+    let octets = c.args.octets.now in
+    let used = c.in_ok-used.used in
+    let v = c.in_ok-value.value in
+    record {
+      value = v;
+      joined = c.push_reserved.ensures.items ∙ ap (λ l. l ++ (v ∷ [])) c.grow.ensures.items;
+      read = subst (λ slot. IsRead c.args.levels type octets slot used) c.in_ok-value.was c.in_ok-used.ensures;
+    }
+
 pub items::read_items-loop-alloc-init : goal.items::read_items-loop-alloc-init
-items::read_items-loop-alloc-init t c = no_items c.args.levels (ty_view c.args.inner.now) c.args.inside.now.octets.now c.args.items.now.items c.requires.none
+items::read_items-loop-alloc-init t c = no_more_items c.args.levels (ty_view c.args.inner.now) c.args.octets.now c.args.items.now.items
 
-pub items::read_items-ends-requires : goal.items::read_items-ends-requires
-items::read_items-ends-requires t c = c.loop-alloc.invariant.there
+pub items::read_items-slice_bounds-ends_at-count : goal.items::read_items-slice_bounds-ends_at-count
+items::read_items-slice_bounds-ends_at-count t c = c.loop-alloc.invariant.read.there
 
-pub items::read_items-slice_bounds-read_one-count : goal.items::read_items-slice_bounds-read_one-count
-items::read_items-slice_bounds-read_one-count t c = c.loop-alloc.invariant.there
-
-pub items::read_items-slice_bounds-read_one-start : goal.items::read_items-slice_bounds-read_one-start
-items::read_items-slice_bounds-read_one-start t c = c.loop-alloc.invariant.there
+pub items::read_items-slice_bounds-ends_at-start : goal.items::read_items-slice_bounds-ends_at-start
+items::read_items-slice_bounds-ends_at-start t c = c.loop-alloc.invariant.read.there
 
 pub items::read_items-loop-alloc-smaller : goal.items::read_items-loop-alloc-smaller
 items::read_items-loop-alloc-smaller t c =
-    let octets = c.args.inside.now.octets.now in
+    let octets = c.args.octets.now in
     let at = c.loop-alloc.at in
-    let read = read_behind c.args.levels (ty_view c.args.inner.now) octets at c.in_ok-used.used c.read_one.new.slot c.in_ok-used.ensures in
-    let some = read_some c.args.levels (ty_view c.args.inner.now) (drop at octets) c.read_one.new.slot c.in_ok-used.used read in
+    let type = ty_view c.args.inner.now in
+    let one = item_behind c.args.levels type octets at c.in-Some.used c.loop-alloc.items.items c.read_item.new.items.items c.in-Some.ensures.some in
+    let some = read_some c.args.levels type (drop at octets) (Some one.value) c.in-Some.used one.read in
     let rest = length-drop at octets in
-    omega (arith, some, read.0, rest, c.loop-alloc.invariant.there)
+    omega (arith, some, one.read.0, rest, c.loop-alloc.invariant.read.there)
 
 pub items::read_items-loop-alloc-preserved : goal.items::read_items-loop-alloc-preserved
 items::read_items-loop-alloc-preserved t c =
-    let type = ty_view c.args.inner.now in
-    let octets = c.args.inside.now.octets.now in
+    let octets = c.args.octets.now in
     let at = c.loop-alloc.at in
-    let v = c.in_ok-value.value in
-    let read = read_behind c.args.levels type octets at c.in_ok-used.used c.read_one.new.slot c.in_ok-used.ensures in
-    let one : IsRead c.args.levels type (drop at octets) (Some v) c.in_ok-used.used = subst (λ slot. IsRead c.args.levels type (drop at octets) slot c.in_ok-used.used) c.in_ok-value.was read in
-    let more = item_read c.args.levels type octets c.loop-alloc.items.items v at c.in_ok-used.used c.loop-alloc.invariant one in
-    subst (λ l. AreItemsRead c.args.levels type octets l (at + c.in_ok-used.used)) (sym (c.push_reserved.ensures.items ∙ ap (λ l. l ++ (v ∷ [])) c.reserve.ensures.items)) more
+    let type = ty_view c.args.inner.now in
+    let items = c.loop-alloc.items.items in
+    let new = c.read_item.new.items.items in
+    one_item_more c.args.levels type octets c.args.items.now.items items new at c.in-Some.used c.loop-alloc.invariant (item_behind c.args.levels type octets at c.in-Some.used items new c.in-Some.ensures.some)
+
+pub items::read_items-returns-in-None : goal.items::read_items-returns-in-None
+items::read_items-returns-in-None t c =
+    subst (λ l. AreMoreItemsRead c.args.levels (ty_view c.args.inner.now) c.args.octets.now c.args.items.now.items l c.loop-alloc.at) (sym (c.in-None.ensures.none refl)) c.loop-alloc.invariant
 
 pub items::read_items-returns : goal.items::read_items-returns
 items::read_items-returns t c = c.loop-alloc.invariant
+
+pub items::read_list-close-requires-clause-there : goal.items::read_list-close-requires-clause-there
+items::read_list-close-requires-clause-there t c = c.read_items-used.ensures.read.there
 
 pub items::read_list-returns-clause-sequence : goal.items::read_list-returns-clause-sequence
 items::read_list-returns-clause-sequence t c =
     let octets = c.args.octets.now in
     let type = ty_view c.args.inner.now in
     let inside = c.in_ok-inside.inside in
-    let items = c.read_items.new.items in
-    both_of (λ n. n ≤ length octets) (λ n. (tag : Tag) → IsOpened tag octets inside → IsConstructed ber tag (take c.in_ok-used.used inside.octets.now) (take n octets)) (λ n. IsRead c.args.levels (Shape.sequence_of c.args.tag type) octets c.fill.new.slot n)
+    let items = c.read_items-used.new.items in
+    let used = c.read_items-used.result in
+    let read = all_items (c.args.levels - 1) type inside.octets.now c.take_list-items.result.items items.items used c.take_list-items.ensures c.read_items-used.ensures in
+    both_of (λ n. n ≤ length octets) (λ n. (tag : Tag) → IsOpened tag octets inside → IsConstructed ber tag (take used inside.octets.now) (take n octets)) (λ n. IsRead c.args.levels (Shape.sequence_of c.args.tag type) octets c.fill.new.slot n)
     c.close.result c.close.ensures.there c.close.ensures.value
     (λ n there whole. subst (λ slot. IsRead c.args.levels (Shape.sequence_of c.args.tag type) octets slot n) (sym c.fill.ensures)
-    (sequence_of_read c.args.levels c.args.tag type octets inside.octets.now items c.in_ok-used.used n c.requires.usable (search rules) c.in_ok-used.ensures there (whole c.args.tag c.in_ok-inside.ensures)))
+    (sequence_of_read c.args.levels c.args.tag type octets inside.octets.now items used n c.requires.usable (search rules) read there (whole c.args.tag c.in_ok-inside.ensures)))
 
 pub items::read_list-returns-clause-set : goal.items::read_list-returns-clause-set
 items::read_list-returns-clause-set t c =
     let octets = c.args.octets.now in
     let type = ty_view c.args.inner.now in
     let inside = c.in_ok-inside.inside in
-    let items = c.read_items.new.items in
-    both_of (λ n. n ≤ length octets) (λ n. (tag : Tag) → IsOpened tag octets inside → IsConstructed ber tag (take c.in_ok-used.used inside.octets.now) (take n octets)) (λ n. IsRead c.args.levels (Shape.set_of c.args.tag type) octets c.fill.new.slot n)
+    let items = c.read_items-used.new.items in
+    let used = c.read_items-used.result in
+    let read = all_items (c.args.levels - 1) type inside.octets.now c.take_list-items.result.items items.items used c.take_list-items.ensures c.read_items-used.ensures in
+    both_of (λ n. n ≤ length octets) (λ n. (tag : Tag) → IsOpened tag octets inside → IsConstructed ber tag (take used inside.octets.now) (take n octets)) (λ n. IsRead c.args.levels (Shape.set_of c.args.tag type) octets c.fill.new.slot n)
     c.close.result c.close.ensures.there c.close.ensures.value
     (λ n there whole. subst (λ slot. IsRead c.args.levels (Shape.set_of c.args.tag type) octets slot n) (sym c.fill.ensures)
-    (set_of_read c.args.levels c.args.tag type octets inside.octets.now items c.in_ok-used.used n c.requires.usable (search rules) c.in_ok-used.ensures there (whole c.args.tag c.in_ok-inside.ensures)))
+    (set_of_read c.args.levels c.args.tag type octets inside.octets.now items used n c.requires.usable (search rules) read there (whole c.args.tag c.in_ok-inside.ensures)))
 
 pub components::read_sequence-read_components-requires : goal.components::read_sequence-read_components-requires
-components::read_sequence-read_components-requires t c = (search rules, (good_components c.args.tag c.args.fields.now c.requires, c.reserve_exact.ensures.items ∙ c.new-slots.ensures.items))
+components::read_sequence-read_components-requires t c = (search rules, (good_components c.args.tag c.args.fields.now c.requires, c.in-Ok.ensures))
 
 pub components::read_sequence-returns : goal.components::read_sequence-returns
 components::read_sequence-returns t c =
