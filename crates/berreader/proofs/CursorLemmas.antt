@@ -12,10 +12,11 @@ use Rattle.contents.specs.declared.frame.Frame.{Frame}
 use Rattle.berreader.specs.declared.nest.Nest.{Nest}
 use Rattle.berreader.specs.declared.nest.OpenString.{OpenString}
 use Rattle.contents.specs.Completing.{Opens}
+use Rattle.berreader.specs.Items as items
 use Rattle.berreader.specs.Nest as nests
 use Rattle.contents.specs.Segments as segments
 use Rattle.berreader.specs.Stack.{layers_of}
-use Rattle.berreader.specs.Cursor.{ends_in, octets_in, taken_by, taken_of, with_string, CanFinish, HasPassed, HasTaken, IsSoundCursor, IsSoundIn, IsStep, IsTaken, IsWhole}
+use Rattle.berreader.specs.Cursor.{ends_in, octets_in, taken_by, taken_of, with_string, AreTaken, CanFinish, HasPassed, HasTaken, IsSoundCursor, IsSoundIn, IsStep, IsTaken, IsWhole}
 use Rattle.berreader.specs.Strings.{IsClosed, IsFound, IsOpenedString, IsSoundString, IsString}
 use Rattle.berreader.proofs.StringLemmas.{passed_on, cannot_finish}
 
@@ -59,6 +60,16 @@ taken_nest old new octets used before after h = record {
   forth = λ more f. finishes new (drop used octets ++ more) after (h.forth more (finishes_nest old (octets ++ more) before f));
   back = λ passed t. taken_of_nest new (passed ++ take used octets) after (h.back passed (taken_by_nest old passed before t));
   smaller = omega (arith, h.smaller, no_ends old.string before, no_ends new.string after);
+}
+
+-- and so are items that the nest takes
+pub items_nest : (old new : Cursor) (octets : List ℕ) (used : ℕ) → old.string ≡ None → new.string ≡ None → items.AreTaken old.nest new.nest octets used → AreTaken old new octets used
+items_nest old new octets used before after h = record {
+  there = h.there;
+  type = h.type;
+  forth = λ more f. finishes new (drop used octets ++ more) after (h.forth more (finishes_nest old (octets ++ more) before f));
+  back = λ passed t. taken_of_nest new (passed ++ take used octets) after (h.back passed (taken_by_nest old passed before t));
+  ends = omega (arith, h.ends, no_ends old.string before, no_ends new.string after);
 }
 
 whole_nest : (old new : Cursor) (octets : List ℕ) (value : Val) (used : ℕ) → old.string ≡ None → new.string ≡ None → nests.IsWhole old.nest new.nest octets value used → IsWhole old new octets value used

@@ -1,5 +1,5 @@
 -- Octets that may be kept of a BOOLEAN of which nothing else has come, and octets that may not.
-use Rattle.std.proofs.Common.{◌≡◌, inl, inr, ◌+◌, ◌<◌, ◌≤◌, ℕ, zero, suc, Bool, true, false, List, [], ◌∷◌, ◌++◌, length, take, refl, sym, ap, ◌∙◌, subst, arith}
+use Rattle.std.proofs.Common.{◌≡◌, inl, inr, ◌+◌, ◌<◌, ◌≤◌, ℕ, zero, suc, Bool, true, false, List, [], ◌∷◌, length, take, refl, sym, ap, ◌∙◌, subst, arith}
 use Rattle.octets.specs.declared.TheConstants.{MAX_ENCODING}
 use Rattle.octets.specs.declared.tag.Class.TheVariants.{Universal}
 use Rattle.octets.specs.declared.tag.Tag.{Tag}
@@ -9,8 +9,7 @@ use Rattle.octets.proofs.FrontLemmas.{HasFront-from_parts}
 use Rattle.octets.proofs.IdentifierLemmas.{identifier_unique}
 use Rattle.octets.proofs.LengthLemmas.{length_unique}
 use Rattle.types.specs.Shape.{Shape, SimpleType}
-use Rattle.contents.specs.Cut.{IsCutBehind, IsPartCut}
-use Rattle.contents.specs.Lengths.{CanHaveLength}
+use Rattle.contents.specs.Cut.{IsCutBehind}
 use Rattle.contents.specs.Parts.{IsNodeFor}
 use Rattle.berreader.specs.Cut.{IsCutNext}
 

@@ -1,5 +1,5 @@
 -- Lemmas on octets that end inside what may come next.
-use Rattle.std.proofs.Common.{◌≡◌, inl, inr, ◌+◌, ◌-◌, ◌<◌, ◌≤◌, ℕ, zero, suc, Bool, true, false, List, [], ◌∷◌, ◌++◌, Option, Some, None, length, take, drop, refl, sym, ap, ◌∙◌, subst, arith, append-nil, length-append}
+use Rattle.std.proofs.Common.{◌≡◌, inl, inr, ◌+◌, ◌<◌, ◌≤◌, ℕ, zero, suc, Bool, true, false, List, [], ◌∷◌, ◌++◌, Option, Some, None, length, take, drop, refl, sym, ap, ◌∙◌, subst, arith, append-nil, length-append}
 use Rattle.octets.specs.declared.TheConstants.{MAX_ENCODING}
 use Rattle.octets.specs.declared.tag.Class.TheVariants.{Universal}
 use Rattle.octets.specs.declared.tag.Tag.{Tag}
@@ -16,7 +16,7 @@ use Rattle.berreader.specs.declared.nest.Next.{Next}
 use Rattle.berreader.specs.declared.nest.OpenString.{OpenString}
 use Rattle.berreader.specs.Cursor.{IsSoundCursor, IsSoundIn, taken_by, taken_of}
 use Rattle.berreader.specs.Cut.{IsCut, IsCutIn, IsCutNext, IsEndCutInside, IsNestCut}
-use Rattle.berreader.specs.Nest.{AreInside, AreSound, IsReadNext, IsSoundNest, end_inside, levels_left}
+use Rattle.berreader.specs.Nest.{AreInside, AreSound, IsReadNext, end_inside, levels_left}
 use Rattle.berreader.specs.Stack.{Layer, layers_of}
 use Rattle.berreader.specs.declared.pieces.Pieces.{Pieces}
 use Rattle.berreader.specs.Feeding.{HasBeenFed, IsMore, shape_of}

@@ -11,24 +11,26 @@ use Rattle.types.specs.declared.value.Value.{Value}
 use Rattle.types.specs.declared.refusal.Refusal.{Refusal}
 use Rattle.types.specs.declared.refusal.Refusal.TheVariants.{Truncated}
 use Rattle.types.specs.Refusal.{IsFinal, IsOfReading}
-use Rattle.berreader.specs.declared.reader.Step as answer
 use Rattle.berreader.specs.Stack.{layers_of, IsCounted}
 use Rattle.berreader.specs.declared.cursor.Cursor.{Cursor}
 use Rattle.berreader.specs.declared.nest.Nest.{Nest}
 use Rattle.types.specs.WellFormed.{IsWellFormed}
 use Rattle.berreader.specs.declared.pieces.Pieces.{Pieces}
-use Rattle.berreader.specs.Cursor.{open_in, taken_of, CanFinish, IsStep, IsTaken, IsWhole, IsSoundCursor}
+use Rattle.berreader.specs.Cursor.{open_in, taken_of, AreTaken, CanFinish, IsStep, IsTaken, IsWhole, IsSoundCursor}
 use Rattle.berreader.specs.Cut.{IsCut}
 use Rattle.berreader.specs.Nest.{AreSound, AreInside, IsSoundNest}
 use Rattle.berreader.proofs.CursorLemmas.{count_taken, sound_nest}
-use Rattle.berreader.specs.Feeding.{HasValue, GoesOn, HasBeenFed, IsDone, IsDoneBefore, IsDoneBehind, IsFed, IsFedStep, IsFresh, IsMore, IsTakenCut, IsTakenWhole, IsGoingOn, IsOfFeeding, IsSoundPieces, IsSoundReader, shape_of}
+use Rattle.berreader.specs.Feeding.{HasValue, GoesOn, HasBeenFed, IsDone, IsDoneBefore, IsDoneBehind, IsFed, IsFresh, IsMore, IsTakenCut, IsTakenWhole, IsGoingOn, IsOfFeeding, IsSoundPieces, IsSoundReader, shape_of}
 
 -- the octets of a front and those behind it
 pub front_and_rest : (n : ℕ) (before octets : List ℕ) → (before ++ take n octets) ++ drop n octets ≡ before ++ octets
 front_and_rest n before octets = append_assoc before (take n octets) (drop n octets) ∙ ap (λ o. before ++ o) (take-append-drop n octets)
 
--- a step was taken
-pub goes_on_step : (old new : Cursor) (before octets : List ℕ) (used : ℕ) → GoesOn old before octets → IsTaken old new octets used → GoesOn new (before ++ take used octets) (drop used octets)
+-- some octets were taken by a step
+pub taken_some : (old new : Cursor) (octets : List ℕ) (used : ℕ) → IsTaken old new octets used → AreTaken old new octets used
+taken_some old new octets used step = record { there = step.there; type = step.type; forth = step.forth; back = step.back; ends = omega (arith, step.smaller) }
+
+pub goes_on_step : (old new : Cursor) (before octets : List ℕ) (used : ℕ) → GoesOn old before octets → AreTaken old new octets used → GoesOn new (before ++ take used octets) (drop used octets)
 goes_on_step old new before octets used on step = record {
   taken = step.back before on.taken;
   forth = λ more h.
@@ -73,8 +75,8 @@ take_more_octets at used octets = sym (take-add at used octets)
 drop_more_octets : (at used : ℕ) (octets : List ℕ) → drop used (drop at octets) ≡ drop (at + used) octets
 drop_more_octets at used octets = drop-drop used at octets
 
--- a step goes on
-pub on_the_way_step : (initial now new : Pieces) (octets : List ℕ) (at used : ℕ) → IsOnTheWay initial now octets at → IsTaken now.cursor new.cursor (drop at octets) used → IsSoundCursor new.cursor → new.refused ≡ now.refused → new.pending.items ≡ now.pending.items → IsOnTheWay initial new octets (at + used)
+-- a step goes on, and so do items that are taken at once
+pub on_the_way_step : (initial now new : Pieces) (octets : List ℕ) (at used : ℕ) → IsOnTheWay initial now octets at → AreTaken now.cursor new.cursor (drop at octets) used → IsSoundCursor new.cursor → new.refused ≡ now.refused → new.pending.items ≡ now.pending.items → IsOnTheWay initial new octets (at + used)
 on_the_way_step initial now new octets at used way step sound accepts kept =
     let there : used ≤ length octets - at = subst (λ n. used ≤ n) (length-drop at octets) step.there in record {
       within = omega (arith, there, way.within);
@@ -132,6 +134,12 @@ none_on_the_way initial now octets before more at way never on h =
 pub slice_behind : (octets : List ℕ) (at : ℕ) → take (length octets - at) (drop at octets) ≡ drop at octets
 slice_behind octets at = take_all (length octets - at) (drop at octets) (omega (arith, length-drop at octets))
 
+-- items were taken
+pub items_on_the_way : (initial now new : Pieces) (octets : List ℕ) (at used : ℕ) → IsOnTheWay initial now octets at → AreTaken now.cursor new.cursor (take (length octets - at) (drop at octets)) used → IsSoundCursor new.cursor → new.refused ≡ now.refused → new.pending.items ≡ now.pending.items
+    → IsOnTheWay initial new octets (at + used)
+items_on_the_way initial now new octets at used way taken sound accepts kept =
+    on_the_way_step initial now new octets at used way (subst (λ o. AreTaken now.cursor new.cursor o used) (slice_behind octets at) taken) sound accepts kept
+
 pub taken_behind : (old new : Cursor) (octets : List ℕ) (at used : ℕ) (whole : Option Value) → whole ≡ None → IsStep old new (take (length octets - at) (drop at octets)) whole used → IsTaken old new (drop at octets) used
 taken_behind old new octets at used whole is h = subst (λ o. IsTaken old new o used) (slice_behind octets at) (subst (λ w. IsStep old new (take (length octets - at) (drop at octets)) w used) is h)
 
@@ -180,7 +188,7 @@ never_at now octets more at never h =
 
 -- a step over those that are kept
 pub step_at : (now new : Pieces) (octets : List ℕ) (used : ℕ) (at : IsAt now octets) → IsTaken now.cursor new.cursor now.pending.items used → GoesOn new.cursor (at.before ++ take used now.pending.items) (drop used now.pending.items)
-step_at now new octets used at step = goes_on_step now.cursor new.cursor at.before now.pending.items used at.goes_on step
+step_at now new octets used at step = goes_on_step now.cursor new.cursor at.before now.pending.items used at.goes_on (taken_some now.cursor new.cursor now.pending.items used step)
 
 pub joined_at : (now : Pieces) (octets : List ℕ) (used : ℕ) (at : IsAt now octets) → (at.before ++ take used now.pending.items) ++ drop used now.pending.items ≡ octets
 joined_at now octets used at = front_and_rest used at.before now.pending.items ∙ sym at.joined
@@ -386,19 +394,6 @@ pub never_rest : (initial now : Pieces) (octets piece rest more : List ℕ) (at 
 never_rest initial now octets piece rest more at far is fed never h =
     let whole : (octets ++ take at piece) ++ rest ≡ octets ++ piece = ap (λ o. (octets ++ take at piece) ++ o) is ∙ front_and_rest at octets piece in
     never (octets ++ take at piece) more (far.fed octets fed) (subst (λ s. HasValue s (((octets ++ take at piece) ++ rest) ++ more)) (sym far.going_on.shape) (subst (λ o. HasValue (shape_of initial) (o ++ more)) (sym whole) h))
-
--- what is answered is what a piece has come to
-pub more_answered : (old new : Pieces) (piece : List ℕ) (whole : Option Value) (used : ℕ) (r : Result answer.Step Refusal) → whole ≡ None → r ≡ Ok answer.TheVariants.More → ((octets : List ℕ) → HasBeenFed old octets → IsFed old new octets piece whole used)
-    → IfOk r (λ step. (octets : List ℕ) → HasBeenFed old octets → IsFedStep old new octets piece step)
-more_answered old new piece whole used r none is h =
-    subst (λ (x : Result answer.Step Refusal). IfOk x (λ step. (octets : List ℕ) → HasBeenFed old octets → IsFedStep old new octets piece step)) (sym is)
-    (λ octets fed. subst (λ w. IsFed old new octets piece w used) none (h octets fed))
-
-pub done_answered : (old new : Pieces) (piece : List ℕ) (whole : Option Value) (used : ℕ) (value : Value) (r : Result answer.Step Refusal) → whole ≡ Some value → r ≡ Ok (answer.TheVariants.Done value used) → ((octets : List ℕ) → HasBeenFed old octets → IsFed old new octets piece whole used)
-    → IfOk r (λ step. (octets : List ℕ) → HasBeenFed old octets → IsFedStep old new octets piece step)
-done_answered old new piece whole used value r some is h =
-    subst (λ (x : Result answer.Step Refusal). IfOk x (λ step. (octets : List ℕ) → HasBeenFed old octets → IsFedStep old new octets piece step)) (sym is)
-    (λ octets fed. subst (λ w. IsFed old new octets piece w used) some (h octets fed))
 
 -- nothing is open
 pub fresh_nest : (nest : Nest) → IsWellFormed (ty_view nest.ty.now) → layers_of nest.layers ≡ [] → IsCounted nest.layers → nest.taken ≡ 0 → IsSoundNest nest

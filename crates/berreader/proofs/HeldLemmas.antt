@@ -1,10 +1,10 @@
 -- Lemmas on how much a reader holds.
-use Rattle.std.proofs.Common.{◌≡◌, ◌+◌, ◌*◌, ◌≤◌, ℕ, true, List, [], ◌∷◌, ◌++◌, Result, Ok, Err, IfOk, length, take, ap, ◌∙◌, arith, length-append}
+use Rattle.std.proofs.Common.{◌≡◌, ◌+◌, ◌*◌, ◌≤◌, ℕ, true, List, [], ◌∷◌, ◌++◌, Option, Some, None, IfSome, length, take, ap, ◌∙◌, arith, length-append}
 use Rattle.std.proofs.Math.Nat.{mul-add}
 use Rattle.std.proofs.lemmas.List.{length-take-le}
 use Rattle.octets.specs.declared.tag.Tag.{Tag}
 use Rattle.octets.specs.Rule.{ber}
-use Rattle.types.specs.declared.refusal.Refusal.{Refusal}
+use Rattle.types.specs.declared.value.Value.{Value}
 use Rattle.types.specs.Encoding.{IsAccepted}
 use Rattle.types.specs.Shape.{Shape, Val}
 use Rattle.types.specs.View.{value_view}
@@ -12,12 +12,11 @@ use Rattle.types.specs.Weight.{weight_of}
 use Rattle.types.specs.WellFormed.{nodes_of}
 use Rattle.contents.specs.declared.frame.Frame.{Frame}
 use Rattle.berreader.specs.declared.pieces.Pieces.{Pieces}
-use Rattle.berreader.specs.declared.reader.Step as answer
 use Rattle.contents.specs.Completing.{IsOpening}
-use Rattle.berreader.specs.Feeding.{HasBeenFed, IsFedStep, shape_of}
+use Rattle.berreader.specs.Feeding.{HasBeenFed, IsDone, IsFed, shape_of}
 use Rattle.berreader.specs.Nest.{IsDueInside, StandsAt, levels_inside}
 use Rattle.berreader.specs.Stack.{Layer, layers_of}
-use Rattle.berreader.specs.Weight.{IsLight, most_weight, weight_held, weight_of_layers, weight_of_parts}
+use Rattle.berreader.specs.Weight.{most_weight, weight_held, weight_of_layers, weight_of_parts}
 use Rattle.berreader.proofs.CursorLemmas.{octets_few, some_size}
 use Rattle.berreader.proofs.WeightLemmas.{at_least_once, light, more_of, some_identifier, some_nodes}
 use Rattle.berreader.proofs.PartsWeightLemmas.{due_nodes, node_nodes, parts_light}
@@ -68,12 +67,12 @@ value_light shape value octets used size h =
     let more : n * length octets ≤ n * (used + 1) = more_of n (length octets) (used + 1) (omega (arith, size)) in
     omega (arith, light shape value octets n (omega arith) h.encoding, more)
 
-step_light : (old new : Pieces) (octets piece : List ℕ) (step : answer.Step) → IsFedStep old new octets piece step → IsLight (shape_of old) octets step
-step_light old new octets piece (answer.TheVariants.Done value used) h =
+done_light : (shape : Shape) (octets piece : List ℕ) (value : Val) (used : ℕ) → IsDone shape octets piece value used → weight_of value ≤ most_weight shape (length octets + used)
+done_light shape octets piece value used h =
     let size : length (octets ++ take used piece) ≡ length octets + length (take used piece) = length-append octets (take used piece) in
-    value_light (shape_of old) (value_view value) (octets ++ take used piece) (length octets + used) (omega (arith, size, length-take-le used piece h.0.there)) h.0.accepted
-step_light old new octets piece answer.TheVariants.More h = tt
+    value_light shape value (octets ++ take used piece) (length octets + used) (omega (arith, size, length-take-le used piece h.there)) h.accepted
 
-pub fed_light : (old new : Pieces) (piece : List ℕ) (r : Result answer.Step Refusal) → IfOk r (λ step. (octets : List ℕ) → HasBeenFed old octets → IsFedStep old new octets piece step) → IfOk r (λ step. (octets : List ℕ) → HasBeenFed old octets → IsLight (shape_of old) octets step)
-fed_light old new piece (Ok step) h = λ octets fed. step_light old new octets piece step (h octets fed)
-fed_light old new piece (Err e) h = tt
+pub slot_light : (old new : Pieces) (piece : List ℕ) (slot : Option Value) (used : ℕ) → ((octets : List ℕ) → HasBeenFed old octets → IsFed old new octets piece slot used)
+    → IfSome slot (λ value. (octets : List ℕ) → HasBeenFed old octets → weight_of (value_view value) ≤ most_weight (shape_of old) (length octets + used))
+slot_light old new piece None used h = tt
+slot_light old new piece (Some value) used h = λ octets fed. done_light (shape_of old) octets piece (value_view value) used (h octets fed).0

@@ -10,6 +10,7 @@ pub mod WeightLemmas
 pub mod PartsWeightLemmas
 pub mod HeldLemmas
 pub mod NestStepLemmas
+pub mod ItemsLemmas
 pub mod StringLemmas
 pub mod CursorLemmas
 pub mod CutLemmas

@@ -83,6 +83,14 @@ pub record IsTaken (old new : Cursor) (octets : List ℕ) (used : ℕ) : Type 0 
   pub back : (before : List ℕ) → HasTaken old before → HasTaken new (before ++ take used octets)
   pub smaller : ends_of new < ends_of old + (used + used)
 
+-- so many were taken, or none
+pub record AreTaken (old new : Cursor) (octets : List ℕ) (used : ℕ) : Type 0 where
+  pub there : used ≤ length octets
+  pub type : ty_view new.nest.ty.now ≡ ty_view old.nest.ty.now
+  pub forth : (more : List ℕ) → CanFinish old (octets ++ more) → CanFinish new (drop used octets ++ more)
+  pub back : (before : List ℕ) → HasTaken old before → HasTaken new (before ++ take used octets)
+  pub ends : ends_of new ≤ ends_of old + (used + used)
+
 -- the value is whole with so many of the octets, and nothing is open
 pub record IsWhole (old new : Cursor) (octets : List ℕ) (value : Val) (used : ℕ) : Type 0 where
   pub there : used ≤ length octets

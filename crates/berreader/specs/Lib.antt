@@ -1,5 +1,6 @@
 pub mod Stack
 pub mod Nest
+pub mod Items
 pub mod Strings
 pub mod Cursor
 pub mod Cut

@@ -10,7 +10,7 @@ ghost use Rattle.berreader.specs.Nest.{IsSoundNest};
 ghost use Rattle.berreader.specs.Strings.{IsSoundString};
 ghost use Rattle.contents.specs.Cut.{IsStringCut};
 ghost use Rattle.berreader.specs.Cut.{IsCut};
-ghost use Rattle.berreader.specs.Cursor.{taken_of, with_string, CanFinish, IsSoundCursor, IsStep, IsTaken};
+ghost use Rattle.berreader.specs.Cursor.{taken_of, with_string, CanFinish, AreTaken, IsSoundCursor, IsStep, IsTaken};
 
 use crate::nest::{Nest, OpenString};
 use std::alloc::Global;
@@ -64,6 +64,18 @@ impl<'a> Cursor<'a> {
             self.begin(alloc, octets, whole)
         } else {
             self.go_on(alloc, octets, whole)
+        }
+    }
+
+    // Takes items of a list that are whole in the octets, where no string has begun.
+    pub fn take_items(&mut self, alloc: Global, octets: &[u8], stepped: &mut usize) -> usize
+        requires { IsSoundCursor self.old }
+        ensures taken { AreTaken self.old self.new octets.now result }
+        ensures sound { IsSoundCursor self.new }
+    {
+        match &self.string {
+            None => self.nest.take_items(alloc, octets, stepped),
+            Some(_) => 0,
         }
     }
 

@@ -2,12 +2,14 @@
 //!
 //! An encoding may have either form, and lengths any spelling; the limits on depth and size are this
 //! project's own (`docs/PROFILE.md`). A value that is whole at the front of a piece is read by `whole`, whose
-//! calls nest as encodings do, and any other step by step: its open encodings are held on a stack, and the
-//! segments of a constructed string, at whatever depth, are appended to one vector.
+//! calls nest as encodings do, and so are the items of a list that goes on; anything else step by step: open
+//! encodings are held on a stack, and the segments of a constructed string, at whatever depth, are appended to
+//! one vector.
 #![tactic(auto)]
 
 mod beginning;
 mod cursor;
+mod items;
 mod keeping;
 mod nest;
 mod pieces;

@@ -5,7 +5,7 @@ ghost use Rattle.octets.specs.declared.TheConstants.{MAX_ENCODING};
 ghost use Rattle.types.specs.Refusal.{IsFinal, IsOfReading};
 ghost use Rattle.types.specs.View.{ty_view};
 ghost use Rattle.berreader.specs.Stack.{layers_of, IsCounted};
-ghost use Rattle.berreader.specs.Cursor.{taken_of, CanFinish, IsSoundCursor, IsStep};
+ghost use Rattle.berreader.specs.Cursor.{taken_of, AreTaken, CanFinish, IsSoundCursor, IsStep};
 ghost use Rattle.berreader.specs.Cut.{IsCut};
 ghost use Rattle.berreader.specs.Feeding.{GoesOn, HasBeenFed, HasValue, IsFed, IsFinished, IsFresh, IsGoingOn, IsOfFeeding, IsSoundPieces, IsSoundReader, IsTakenWhole, shape_of};
 
@@ -13,7 +13,7 @@ use crate::cursor::Cursor;
 use octets::MAX_ENCODING;
 use std::alloc::Global;
 use types::{Refusal, Ty, Value};
-use whole::read_whole;
+use whole::{MAX_NESTED, read_whole};
 
 /// A value whose octets come in pieces.
 #[derive(Debug, Drop)]
@@ -43,10 +43,9 @@ impl<'a> Pieces<'a> {
     }
 
     // Takes a piece, and returns how many octets of it were taken: all of them, unless a value is whole, which
-    // is put into `whole`.
+    // is put into `whole`, in the room of what that held. Nothing is said of `whole` where it is refused.
     pub fn feed(&mut self, piece: &[u8], whole: &mut Option<Value>) -> Result<usize, Refusal>
         requires sound { IsSoundReader self.old }
-        requires whole { whole.old ≡ None }
         ensures sound { IsSoundReader self.new }
         ensures shape { OnOk result (shape_of self.new ≡ shape_of self.old) }
         ensures there { IfOk result (λ used. used ≤ length piece.now) }
@@ -62,6 +61,7 @@ impl<'a> Pieces<'a> {
             return Err(refusal);
         }
         if piece.is_empty() {
+            *whole = None;
             return Ok(0);
         }
         match self.take(piece, whole) {
@@ -105,7 +105,6 @@ impl<'a> Pieces<'a> {
     fn take(&mut self, piece: &[u8], whole: &mut Option<Value>) -> Result<usize, Refusal>
         requires accepts { self.old.refused ≡ None }
         requires sound { IsSoundPieces self.old }
-        requires whole { whole.old ≡ None }
         ensures going_on { OnOk result (IsGoingOn self.old self.new) }
         ensures there { IfOk result (λ used. used ≤ length piece.now) }
         ensures value { IfOk result (λ used. (octets : List ℕ) → HasBeenFed self.old octets → IsFed self.old self.new octets piece.now whole.new used) }
@@ -114,6 +113,7 @@ impl<'a> Pieces<'a> {
         ensures numbers { IfErr result IsOfFeeding }
     {
         if !self.keeps_none() {
+            *whole = None;
             return self.take_on(piece, whole);
         }
         if self.cursor.is_fresh() {
@@ -121,6 +121,7 @@ impl<'a> Pieces<'a> {
                 return Ok(used);
             }
         }
+        *whole = None;
         self.take_rest(piece, whole)
     }
 
@@ -151,8 +152,8 @@ impl<'a> Pieces<'a> {
         }
     }
 
-    // Takes the whole steps at the front, up to a value that is whole, and returns how many octets were taken.
-    // Where no value is whole, it keeps the rest.
+    // Takes the whole steps at the front, up to a value that is whole, and returns how many octets were taken. Of a list
+    // it takes many items at once. Where no value is whole, it keeps the rest.
     pub fn take_whole(&mut self, octets: &[u8], whole: &mut Option<Value>) -> Result<usize, Refusal>
         requires accepts { self.old.refused ≡ None }
         requires sound { IsSoundPieces self.old }
@@ -167,7 +168,9 @@ impl<'a> Pieces<'a> {
         ensures numbers { IfErr result IsOfFeeding }
     {
         let mut at = 0;
+        let mut stepped = MAX_NESTED;
         loop {
+            at += self.take_items(&octets[at..], &mut stepped);
             let rest = &octets[at..];
             match self.step(rest, whole) {
                 Ok(used) => match whole {
@@ -184,6 +187,17 @@ impl<'a> Pieces<'a> {
                 }
             }
         }
+    }
+
+    // Takes items of a list at once, beside the octets that are kept.
+    fn take_items(&mut self, octets: &[u8], stepped: &mut usize) -> usize
+        requires sound { IsSoundCursor self.old.cursor }
+        ensures taken { AreTaken self.old.cursor self.new.cursor octets.now result }
+        ensures sound { IsSoundCursor self.new.cursor }
+        ensures kept { self.new.pending.items ≡ self.old.pending.items }
+        ensures refused { self.new.refused ≡ self.old.refused }
+    {
+        self.cursor.take_items(self.alloc, octets, stepped)
     }
 
     // Takes a step over octets beside those that are kept. Nothing is said of `whole` where it is refused.

@@ -1,6 +1,7 @@
 //! Reads values from octets that come in pieces.
 
 use crate::pieces::Pieces;
+use contents::clear;
 use std::alloc::Global;
 use std::marker::Model;
 use types::{Refusal, Value, WellTyped};
@@ -42,13 +43,14 @@ impl<'a> Model for Reader<'a> {
 }
 
 impl<'a> Reader<'a> {
-    ghost use Rattle.std.specs.Prelude.{◌≡◌, ◌≤◌, ◌↔◌, ◌⊎◌, ◌++◌, ℕ, List, [], None, length, Some, IsOk, IfOk, IfErr, OnOk};
+    ghost use Rattle.std.specs.Prelude.{◌≡◌, ◌≤◌, ◌↔◌, ◌⊎◌, ◌++◌, ℕ, List, [], None, length, Some, IsOk, IfOk, IfErr, IfSome, OnErr, OnOk, ◌+◌};
     ghost use Rattle.types.specs.Refusal.{IsFinal};
-    ghost use Rattle.types.specs.View.{ty_view};
+    ghost use Rattle.types.specs.View.{ty_view, value_view};
+    ghost use Rattle.types.specs.Weight.{weight_of};
     ghost use Rattle.types.specs.WellFormed.{IsWellFormed};
     ghost use Rattle.types.specs.Encoding.{most_nested};
     ghost use Rattle.berreader.specs.Weight.{IsLight, most_weight, open_encodings, weight_held};
-    ghost use Rattle.berreader.specs.Feeding.{EndsStepWithin, HasBeenFed, HasValue, IsFedStep, IsFinished, IsFresh, IsOfFeeding, shape_of};
+    ghost use Rattle.berreader.specs.Feeding.{EndsStepWithin, HasBeenFed, HasValue, IsFed, IsFedStep, IsFinished, IsFresh, IsOfFeeding, shape_of};
 
     /// A reader of values of the type, to which no octet has come. It keeps `alloc`, and takes no memory now.
     pub fn new(alloc: Global, ty: &'a WellTyped) -> Reader<'a>
@@ -86,12 +88,45 @@ impl<'a> Reader<'a> {
         ensures again { (refusal : Refusal) → self.old.refused ≡ Some refusal → result ≡ Err refusal }
         ensures numbers { IfErr result IsOfFeeding }
     {
-        let mut whole = None;
-        let used = self.pieces.feed(piece, &mut whole)?;
-        match whole {
-            None => Ok(Step::More),
-            Some(value) => Ok(Step::Done { value, used }),
-        }
+        let mut slot = None;
+        let used = match self.feed_into(piece, &mut slot) {
+            Ok(used) => used,
+            Err(refusal) => return Err(refusal),
+        };
+        let Some(value) = slot else {
+            return Ok(Step::More);
+        };
+        Ok(Step::Done { value, used })
+    }
+
+    /// Takes a piece as `feed` does, which answers `Done` where the slot then holds the value, of which so many octets
+    /// of the piece are the last, and `More` where it is empty. The value goes into the room of the one that the slot
+    /// held, as far as it has room there.
+    ///
+    /// Refused as `feed` refuses. The slot is then empty.
+    pub fn feed_into(&mut self, piece: &[u8], slot: &mut Option<Value>) -> Result<usize, Refusal>
+        ensures shape { OnOk result (shape_of self.new ≡ shape_of self.old) }
+        ensures used { IfOk result (λ used. used ≤ length piece.now) }
+        ensures open { open_encodings self.new ≤ most_nested }
+        ensures held { (octets : List ℕ) → HasBeenFed self.new octets → weight_held self.new ≤ most_weight (shape_of self.new) (length octets) }
+        ensures light { IfOk result (λ used. IfSome slot.new (λ value. (octets : List ℕ) → HasBeenFed self.old octets → weight_of (value_view value) ≤ most_weight (shape_of self.old) (length octets + used))) }
+        ensures value { IfOk result (λ used. (octets : List ℕ) → HasBeenFed self.old octets → IsFed self.old self.new octets piece.now slot.new used) }
+        ensures empty { piece.now ≡ [] → self.old.refused ≡ None → (result ≡ Ok 0) × (slot.new ≡ None) × (self.new ≡ self.old) }
+        ensures never { self.old.refused ≡ None → IfErr result (λ refusal. IsFinal refusal → (octets more : List ℕ) →
+            HasBeenFed self.old octets → ¬ HasValue (shape_of self.old) ((octets ++ piece.now) ++ more)) }
+        ensures refused { IfErr result (λ refusal. self.new.refused ≡ Some refusal) }
+        ensures none { OnErr result (slot.new ≡ None) }
+        ensures again { (refusal : Refusal) → self.old.refused ≡ Some refusal → result ≡ Err refusal }
+        ensures numbers { IfErr result IsOfFeeding }
+    {
+        let used = match self.pieces.feed(piece, slot) {
+            Ok(used) => used,
+            Err(refusal) => {
+                clear(slot);
+                return Err(refusal);
+            }
+        };
+        Ok(used)
     }
 
     /// Whether no value is begun; else `Truncated`, or what an earlier piece was refused with. Takes no memory.

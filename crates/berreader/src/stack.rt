@@ -1,9 +1,11 @@
 //! The stack of open constructed encodings, each with its parts.
 
-ghost use Rattle.std.specs.Prelude.{◌≡◌, ◌∷◌, [], List, None, length, OnOk, MatchOption};
+ghost use Rattle.std.specs.Prelude.{◌≡◌, ◌≤◌, ◌∷◌, [], List, None, length, OnOk, MatchOption};
 ghost use Rattle.types.specs.Shape.{Shape};
 ghost use Rattle.types.specs.View.{value_view};
-ghost use Rattle.contents.specs.Parts.{Parts, IsDue, IsPut};
+ghost use Rattle.contents.specs.Parts.{Parts, AreGood, IsDue, IsPut};
+ghost use Rattle.berreader.specs.Items.{AreItemsInside};
+ghost use Rattle.berreader.specs.Nest.{AreSound};
 ghost use Rattle.berreader.specs.Stack.{Layer, layer_view, layers_of, with_parts, with_which, IsCounted, IsOpenDue, IsPutInside};
 
 use contents::{Frame, Holding, INLINE};
@@ -11,6 +13,7 @@ use octets::{NoMemory, Tag};
 use smallvec::SmallVec;
 use std::alloc::Global;
 use types::{Ty, Value};
+use whole::read_items;
 
 /// An open constructed encoding.
 #[derive(Debug, Drop)]
@@ -102,6 +105,28 @@ impl<'a> Stack<'a> {
         }
     }
 
+    // Whether the innermost one is a list.
+    pub fn is_list(&self) -> bool {
+        match &self.top {
+            Some(top) => matches!(top.holding, Holding::Items(_, _)),
+            None => false,
+        }
+    }
+
+    // Takes the items at the front that are read at once, behind so many octets of the value, if the innermost one is a
+    // list, and answers how many octets they have.
+    pub fn take_items(&mut self, alloc: Global, levels: usize, taken: usize, octets: &[u8]) -> usize
+        requires { AreSound (layers_of self.old) }
+        ensures there { result ≤ length octets.now }
+        ensures items { AreItemsInside levels (layers_of self.old) (layers_of self.new) taken octets.now result }
+        ensures counted { IsCounted self.old → IsCounted self.new }
+    {
+        match &mut self.top {
+            Some(top) => top.take_items(alloc, levels, taken, octets),
+            None => 0,
+        }
+    }
+
     // Puts the value of the part that has come into the innermost one; into `whole` where none is open.
     pub fn put(&mut self, value: Value, whole: &mut Option<Value>) -> Result<(), NoMemory>
         requires due { IsOpenDue (layers_of self.old) }
@@ -122,6 +147,25 @@ impl<'a> Stack<'a> {
 }
 
 impl<'a> Open<'a> {
+    // Takes the items at the front that are read at once and end within it.
+    fn take_items(&mut self, alloc: Global, levels: usize, taken: usize, octets: &[u8]) -> usize
+        requires { AreGood (layer_view self.old).parts }
+        ensures there { result ≤ length octets.now }
+        ensures items { (others : List Layer) →
+            AreItemsInside levels (layer_view self.old ∷ others) (layer_view self.new ∷ others) taken octets.now result }
+    {
+        if taken > self.frame.end {
+            return 0;
+        }
+        let inside = &octets[..octets.len().min(self.frame.end - taken)];
+        match &mut self.holding {
+            Holding::Items(inner, items) => {
+                read_items(alloc, inner, levels, inside, self.frame.definite, items)
+            }
+            Holding::Explicit(_, _) | Holding::Sequence(_, _) | Holding::Set(_) => 0,
+        }
+    }
+
     // Puts the value of the part that has come.
     fn put(&mut self, value: Value) -> Result<(), NoMemory>
         requires { (type : Shape) × IsDue (layer_view self.old).parts (layer_view self.old).which type }

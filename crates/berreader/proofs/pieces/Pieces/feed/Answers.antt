@@ -1,5 +1,4 @@
-use Rattle.std.proofs.Common.{◌≡◌, [], length, sym, subst, rules}
-use Rattle.berreader.specs.Feeding.{IsFed}
+use Rattle.std.proofs.Common.{◌≡◌, [], length, rules}
 use Rattle.berreader.proofs.CursorLemmas.{no_octets}
 use Rattle.berreader.proofs.CutLemmas.{none_is_more}
 use Rattle.berreader.proofs.pieces.Pieces.feed.Goals as goal
@@ -10,4 +9,4 @@ returns-then-is_empty-clause-value c = λ octets fed.
     let piece = c.args.piece.now in
     let size : length piece ≡ 0 = first_of (search rules, cc) in
     let none : piece ≡ [] = no_octets piece size in
-    subst (λ w. IsFed now now octets piece w 0) (sym c.requires.whole) (none_is_more now octets piece (c.requires.sound.sound fed.accepts).cursor none fed)
+    none_is_more now octets piece (c.requires.sound.sound fed.accepts).cursor none fed
