@@ -97,9 +97,6 @@ begun_once (c ∷ cs) (suc i) zero tag distinct h g = absurd (distinct_apart (fi
 begun_once (c ∷ cs) (suc i) (suc j) tag distinct h g = ap suc (begun_once cs i j tag (distinct_right (first_tags c.type) (tags_of_components (components_of cs)) distinct) h g)
 
 -- slots
-abbrev pub none_of : Option Value
-none_of = None
-
 pub empty_at : (slots : List (Option Value)) (i : ℕ) (slot : Option Value) → i < length slots → slot ≡ get_or slots i slot → slot ≡ None → IsEmptyAt slots i
 empty_at [] i slot below is none = absurd (omega (arith, below))
 empty_at (x ∷ slots) zero slot below is none = sym is ∙ none
@@ -109,12 +106,6 @@ pub taken_at : (slots : List (Option Value)) (i : ℕ) (slot : Option Value) (v 
 taken_at [] i slot v is some h = absurd h
 taken_at (x ∷ slots) zero slot v is some h = let no : Some v ≡ None = sym some ∙ (is ∙ h) in cc
 taken_at (x ∷ slots) (suc i) slot v is some h = taken_at slots i slot v is some h
-
--- one empty slot more
-pub empty_more : (fields : List Field) (i : ℕ) → i < length fields → map (λ (c : ComponentView). none_of) (map field_view (take (i + 1) fields)) ≡ map (λ (c : ComponentView). none_of) (map field_view (take i fields)) ++ (none_of ∷ [])
-empty_more [] i below = absurd (omega (arith, below))
-empty_more (f ∷ fields) zero below = refl
-empty_more (f ∷ fields) (suc i) below = let next : suc i + 1 ≡ suc (i + 1) = omega arith in ap (λ n. map (λ (c : ComponentView). none_of) (map field_view (take n (f ∷ fields)))) next ∙ ap (λ l. none_of ∷ l) (empty_more fields i (omega (arith, below)))
 
 -- whether the components that are left may be absent
 abbrev pub IsFilled : Field → Option Value → Type 0
@@ -127,6 +118,3 @@ AreFieldsFilled fields slots = AreFilled (map field_view fields) slots
 pub filled_first : (f : Field) (fields : List Field) (slot : Option Value) (slots : List (Option Value)) → AreFieldsFilled (f ∷ fields) (slot ∷ slots) ↔ (IsFilled f slot × AreFieldsFilled fields slots)
 filled_first f fields None slots = (λ h. (subst MayBeAbsent (field_requirement f) h.0, h.1), λ h. (subst MayBeAbsent (sym (field_requirement f)) h.0, h.1))
 filled_first f fields (Some value) slots = (λ h. (tt, h), λ h. h.1)
-
-pub empty_length : (fields : List Field) (slots : List (Option Value)) → slots ≡ map (λ (c : ComponentView). none_of) (map field_view fields) → length slots ≡ length fields
-empty_length fields slots is = ap length is ∙ (length-map (map field_view fields) (λ (c : ComponentView). none_of) ∙ length-map fields field_view)

@@ -19,7 +19,7 @@ use crate::canonical::Canonical;
 use crate::fronts::{front_tag, is_left_out, is_next, is_spelt_out, left_over, not_next};
 use crate::head::{Inside, named, opened};
 use crate::parts::read_one;
-use crate::slots::{clear, empty_slots};
+use contents::{clear, take_slots};
 use octets::{MAX_ENCODING, Tag};
 use std::alloc::Global;
 use types::{Field, Refusal, Value, may_be_absent};
@@ -45,10 +45,10 @@ pub fn read_sequence(
 {
     let inside = opened(rule, tag, room, octets)?;
     let behind = &octets[inside.start..];
-    let Ok(empty) = empty_slots(alloc, fields) else {
+    let Ok(taken) = take_slots(alloc, fields, slot) else {
         return Err(Refusal::NoMemory);
     };
-    let mut slots = empty;
+    let mut slots = taken;
     match read_components(alloc, rule, fields, &inside, behind, &mut slots) {
         Ok(used) => {
             *slot = Some(Value::Fields(slots));

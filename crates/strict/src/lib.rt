@@ -19,9 +19,8 @@ mod places;
 mod reading;
 mod segments;
 mod short;
-mod slots;
 mod tags;
 mod values;
 
 pub use canonical::Canonical;
-pub use reading::{read_canonical, read_cer, read_der};
+pub use reading::{read_canonical, read_cer, read_der, read_into};

@@ -20,7 +20,7 @@ use crate::head::{Inside, named, opened};
 use crate::items::{read_list, read_set_of};
 use crate::leaf::read_leaf;
 use crate::members::read_set;
-use contents::{by_tag, not_due, read_head_tag};
+use contents::{by_tag, not_due, put_chosen, read_head_tag, take_chosen};
 use octets::{MAX_ENCODING, Tag};
 use std::alloc::Global;
 use types::{Alternative, Refusal, Ty, Value};
@@ -110,14 +110,14 @@ fn read_chosen(
     let Some((which, alternative)) = by_tag(alternatives, tag) else {
         return Err(not_due(tag));
     };
-    let mut chosen = None;
+    let mut chosen = take_chosen(slot);
     let used = read_one(alloc, rule, &alternative.ty, room, octets, &mut chosen)?;
     let Some(value) = chosen else { unreachable!() };
-    let Ok(boxed) = Box::new(alloc, value) else {
-        return Err(Refusal::NoMemory);
-    };
-    *slot = Some(Value::Chosen(which, boxed));
-    Ok(used)
+    if put_chosen(alloc, which, value, slot) {
+        Ok(used)
+    } else {
+        Err(Refusal::NoMemory)
+    }
 }
 
 // Reads an encoding under an explicit tag into the slot: inside is the value's own.

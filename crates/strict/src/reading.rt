@@ -1,6 +1,6 @@
 //! Reads the canonical encoding at the front of some octets.
 
-ghost use Rattle.std.specs.Prelude.{◌≡◌, ◌≤◌, ◌++◌, ℕ, List, length, take, IfOk, IfErr};
+ghost use Rattle.std.specs.Prelude.{◌≡◌, ◌≤◌, ◌++◌, ℕ, List, length, take, IfOk, IfErr, IfSome, MatchOption};
 ghost use Rattle.octets.specs.Front.{HasFront};
 ghost use Rattle.octets.specs.Rule.{cer, der};
 ghost use Rattle.types.specs.Encoding.{IsAccepted, IsSomeAccepted};
@@ -84,12 +84,42 @@ pub fn read_canonical(
     ensures numbers { IfErr result IsOfStrictReading }
     ensures well_formed { IsWellFormed (ty_view ty.now) }
 {
-    let node = ty.as_type();
     let mut slot = None;
-    let used = match read_one(alloc, rule, node, MAX_ENCODING, octets, &mut slot) {
+    let used = match read_into(alloc, rule, ty, octets, &mut slot) {
         Ok(used) => used,
         Err(refusal) => return Err(refusal),
     };
     let Some(value) = slot else { unreachable!() };
     Ok((value, used))
+}
+
+/// Reads the one encoding at the front of `octets` under the rule into the slot, as `read_canonical` returns it, and
+/// returns how many octets the encoding has. What the slot holds gives the value room. Where the octets are refused, the
+/// slot may hold anything.
+pub fn read_into(
+    alloc: Global,
+    rule: Canonical,
+    ty: &WellTyped,
+    octets: &[u8],
+    slot: &mut Option<Value>,
+) -> Result<usize, Refusal>
+    ensures value { IfOk result (λ used. (used ≤ length octets.now) × MatchOption slot.new ⊥ (λ value.
+        IsAccepted (rule_of rule) (ty_view ty.now) (value_view value) (take used octets.now))) }
+    ensures only { IfOk result (λ used. IfSome slot.new (λ value. (v : Val) (n : ℕ) → n ≤ length octets.now →
+        IsAccepted (rule_of rule) (ty_view ty.now) v (take n octets.now) →
+        (n ≡ used) × IsSame (ty_view ty.now) (value_view value) v)) }
+    ensures truncated { result ≡ Err Refusal.Truncated →
+        ¬ HasFront (IsSomeAccepted (rule_of rule) (ty_view ty.now)) octets.now }
+    ensures begun { result ≡ Err Refusal.Truncated →
+        IsBegun rule (ty_view ty.now) MAX_ENCODING octets.now }
+    ensures never { IfErr result (λ refusal. IsFinal refusal → (more : List ℕ) →
+        ¬ HasFront (IsSomeAccepted (rule_of rule) (ty_view ty.now)) (octets.now ++ more)) }
+    ensures numbers { IfErr result IsOfStrictReading }
+    ensures well_formed { IsWellFormed (ty_view ty.now) }
+{
+    let node = ty.as_type();
+    match read_one(alloc, rule, node, MAX_ENCODING, octets, slot) {
+        Ok(used) => Ok(used),
+        Err(refusal) => Err(refusal),
+    }
 }

@@ -30,7 +30,6 @@ use Rattle.strict.proofs.ListLemmas.{item_or_end, item_stands, item_read, items_
 use Rattle.strict.proofs.OrderedLemmas.{ordered_or_end, ordered_stands, none_ordered, ordered_read, none_out_of_order, set_of_read, ordered_inside}
 use Rattle.strict.proofs.ChosenLemmas.{tag_of_part, choice_of_part, this_at, none_there, good_at, chosen_read}
 use Rattle.strict.proofs.AloneLemmas.{alone_inside, ends_alone, explicit_read, part_alone}
-use Rattle.strict.proofs.BegunLemmas.{empty_length}
 use Rattle.strict.proofs.EndingLemmas.{cut_through, never_cut, begun_short, begun_constructed, begun_around, begun_chosen, cut_behind, item_behind}
 use Rattle.strict.proofs.+reading.Goals as goal
 use Rattle.strict.proofs.+reading.Answers.Members as set
@@ -249,8 +248,8 @@ parts::read_chosen-returns-in_err-used-clause-refused t c =
     let there : (more : List ℕ) → Q (octets ++ more) → P (octets ++ more) = λ more h. this_at rule xs c.in-Some.which a room octets more c.in_ok-tag.tag c.in_ok-tag.field-0-1 c.in_ok-tag.field-0-2 found.0 found.1 c.requires.good.tags.0 c.in_ok-tag.ensures.value found.2 (choice_of_part rule (map alternative_view xs) room (octets ++ more) h) in
     bars_through c.from_residual-in_err-used.result _ Q octets c.from_residual-in_err-used.ensures.1 (bars_by _ Q P octets octets there c.in_err-used.ensures.refused)
 
-pub parts::read_chosen-returns-clause-value : goal.parts::read_chosen-returns-clause-value
-parts::read_chosen-returns-clause-value t c =
+pub parts::read_chosen-returns-then-put_chosen-clause-value : goal.parts::read_chosen-returns-then-put_chosen-clause-value
+parts::read_chosen-returns-then-put_chosen-clause-value t c =
     let octets = c.args.octets.now in
     let rule = rule_of c.args.rule in
     let xs = c.args.alternatives.now in
@@ -258,7 +257,7 @@ parts::read_chosen-returns-clause-value t c =
     let a = c.in-Some.alternative.now in
     let v = c.in-Some-chosen.value in
     let one = subst (λ s. IsRead rule (ty_view a.ty) room octets s c.in_ok-used.used) c.in-Some-chosen.is c.in_ok-used.ensures.value in
-    chosen_read rule xs c.in-Some.which a room octets v c.in-Ok.boxed c.in_ok-used.used c.in-Some.ensures.0 c.in-Some.ensures.1 c.in-Ok.ensures.ok one
+    chosen_read rule xs c.in-Some.which a room octets v c.put_chosen.new.slot c.in_ok-used.used c.in-Some.ensures.0 c.in-Some.ensures.1 (c.put_chosen.ensures c.if-put_chosen.true) one
 
 pub parts::read_alone-returns-in_err-front_tag-clause-refused : goal.parts::read_alone-returns-in_err-front_tag-clause-refused
 parts::read_alone-returns-in_err-front_tag-clause-refused t c =
@@ -309,7 +308,7 @@ pub components::read_sequence-read_components-requires : goal.components::read_s
 components::read_sequence-read_components-requires t c =
     let fields = c.args.fields.now in
     let within : c.in_ok-inside.inside.room ≤ MAX_ENCODING = omega (arith, c.in_ok-inside.ensures.value.fits, c.requires.room) in
-    (search (rules, node.the_lemmas), (good_components c.args.tag fields c.requires.good, (c.requires.good.tags.0.1, (within, empty_length fields c.in-Ok.empty.items c.in-Ok.ensures))))
+    (search (rules, node.the_lemmas), (good_components c.args.tag fields c.requires.good, (c.requires.good.tags.0.1, (within, c.in-Ok.ensures))))
 
 pub components::read_sequence-returns-in-Ok-read_components-clause-value : goal.components::read_sequence-returns-in-Ok-read_components-clause-value
 components::read_sequence-returns-in-Ok-read_components-clause-value t c =
