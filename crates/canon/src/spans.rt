@@ -153,7 +153,8 @@ pub(crate) fn spans_of(alloc: Global, parts: &[Tagged]) -> Result<Vec<Span>, NoM
     Ok(parts.iter().map(|part| part.span).collect(alloc)?)
 }
 
-// Puts the parts that the spans mean, each turned round, in the place of what stands from `from` on.
+// Puts the parts that the spans mean, each turned round, in the place of what stands from `from` on. They come the
+// last first, and all are turned at once.
 pub(crate) fn arrange_turned(
     alloc: Global,
     out: &mut Vec<u8>,
@@ -167,12 +168,12 @@ pub(crate) fn arrange_turned(
 {
     let mut moved = Vec::new(alloc);
     moved.reserve(out.len() - from)?;
-    for span in spans {
-        let start = moved.len();
-        moved.extend_from_slice(part(out, *span))?;
-        turn(&mut moved, start);
+    let count = spans.len();
+    for done in 0..count {
+        moved.extend_from_slice(part(out, spans[count - 1 - done]))?;
     }
     out.truncate(from);
     out.extend_from_slice(&moved)?;
+    turn(out, from);
     Ok(())
 }
