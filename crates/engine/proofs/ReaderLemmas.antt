@@ -1,16 +1,15 @@
 -- What a BER reader over pieces has been fed, and what it led to.
-use Rattle.std.proofs.Common.{◌≡◌, ℕ, inl, inr, ◌⊎◌, List, [], ◌++◌, take, None, Some, Result, Ok, Err, OnOk, IsOk, IfOk, IfErr, refl, sym, ◌∙◌, subst}
+use Rattle.std.proofs.Common.{◌≡◌, ℕ, inl, inr, ◌⊎◌, List, [], ◌++◌, take, Option, None, Some, Result, Ok, Err, OnOk, IsOk, IfOk, IfErr, refl, sym, ◌∙◌, subst}
 use Rattle.std.specs.Prelude.{◌↔◌}
 use Rattle.octets.specs.Rule.{ber}
 use Rattle.types.specs.declared.refusal.Refusal.{Refusal}
 use Rattle.types.specs.declared.refusal.Refusal.TheVariants.{Truncated, Identifier, Form, Length, EndOfContents, Contents, Alphabet, Missing, Repeated, TooDeep, TooLong, NotCanonical, StreamTooLong, OutputTooLong, SourceFault, SinkFault, NoMemory}
+use Rattle.types.specs.declared.value.Value.{Value}
 use Rattle.types.specs.Encoding.{IsAccepted}
 use Rattle.types.specs.Refusal.{IsFinal}
 use Rattle.types.specs.Shape.{Shape}
 use Rattle.types.specs.View.{value_view}
 use Rattle.berreader.specs.declared.pieces.Pieces.{Pieces}
-use Rattle.berreader.specs.declared.reader.Step.{Step}
-use Rattle.berreader.specs.declared.reader.Step.TheVariants.{More, Done}
 use Rattle.berreader.specs.Feeding as reader
 use Rattle.berreader.proofs.FreshLemmas.{fed_none_finished, finished_has_been_fed, fresh_has_been_fed}
 use Rattle.engine.specs.Feeding.{IsFed, IsFinished, StandsOpen}
@@ -40,19 +39,19 @@ cases_of_feeding SinkFault h = absurd h
 cases_of_feeding NoMemory h = inr refl
 
 -- what a piece led to
-pub open_fed : (shape : Shape) (old new : Pieces) (before piece : List ℕ) (r : Result Step Refusal) → StandsOpen shape old before → OnOk r (reader.shape_of new ≡ reader.shape_of old)
-    → IfOk r (λ step. (octets : List ℕ) → reader.HasBeenFed old octets → reader.IsFedStep old new octets piece step)
+pub open_fed : (shape : Shape) (old new : Pieces) (before piece : List ℕ) (r : Result ℕ Refusal) (slot : Option Value) → StandsOpen shape old before → OnOk r (reader.shape_of new ≡ reader.shape_of old)
+    → IfOk r (λ used. (octets : List ℕ) → reader.HasBeenFed old octets → reader.IsFed old new octets piece slot used)
     → (old.refused ≡ None → IfErr r (λ refusal. IsFinal refusal → (octets more : List ℕ) → reader.HasBeenFed old octets → ¬ reader.HasValue (reader.shape_of old) ((octets ++ piece) ++ more)))
-    → IfErr r reader.IsOfFeeding → IsFed (StandsOpen shape new) ber shape r before piece
-open_fed shape old new before piece (Ok More) s type value never numbers =
+    → IfErr r reader.IsOfFeeding → IsFed (StandsOpen shape new) ber shape r slot before piece
+open_fed shape old new before piece (Ok used) None s type value never numbers =
     let m = value before s.fed in
     (record { type = type ∙ s.type; fed = m.has_been_fed }, subst (λ t. ¬ reader.HasValue t (before ++ piece)) s.type m.none)
-open_fed shape old new before piece (Ok (Done v used)) s type value never numbers =
+open_fed shape old new before piece (Ok used) (Some v) s type value never numbers =
     let d = value before s.fed in (
       record { some = d.0.some; there = d.0.there; accepted = subst (λ t. IsAccepted ber t (value_view v) (before ++ take used piece)) s.type d.0.accepted },
       stands_fresh shape new (type ∙ s.type) d.1,
     )
-open_fed shape old new before piece (Err refusal) s type value never numbers =
+open_fed shape old new before piece (Err refusal) slot s type value never numbers =
     let number = cases_of_feeding refusal numbers in (
       record { number = number; strict = λ is. absurd (subst reader.IsOfFeeding is numbers); by_ber = λ is. absurd (subst reader.IsOfFeeding is numbers) },
       λ final more. subst (λ t. ¬ reader.HasValue t ((before ++ piece) ++ more)) s.type (never s.fed.accepts final before more s.fed),

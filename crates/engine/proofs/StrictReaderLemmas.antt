@@ -1,5 +1,5 @@
 -- What a reader of a canonical rule takes: the encoding that the rule gives a value, which BER takes too.
-use Rattle.std.proofs.Common.{◌≡◌, ◌≢◌, ℕ, zero, suc, ◌≤◌, ◌⊎◌, inl, inr, List, [], ◌++◌, length, take, drop, Ok, Err, refl, sym, ap, ◌∙◌, subst, arith, append_assoc, append-nil}
+use Rattle.std.proofs.Common.{◌≡◌, ◌≢◌, ℕ, zero, suc, ◌≤◌, ◌⊎◌, inl, inr, List, [], ◌++◌, length, take, drop, Option, Some, None, MatchOption, Ok, Err, refl, sym, ap, ◌∙◌, subst, arith, append_assoc, append-nil}
 use Rattle.std.proofs.lemmas.List.{take-append-drop}
 use Rattle.octets.specs.Front.{HasFront}
 use Rattle.octets.specs.Rule.{Rule, ber, IsCanonical}
@@ -17,7 +17,6 @@ use Rattle.types.proofs.EncodingLemmas.{encoding_unique}
 use Rattle.strict.specs.Refusal.{IsOfStrictReading}
 use Rattle.strict.proofs.StrictLemmas.{as_ber}
 use Rattle.berreader.specs.declared.pieces.Pieces.{Pieces}
-use Rattle.berreader.specs.declared.reader.Step.TheVariants.{More, Done}
 use Rattle.engine.specs.declared.strict_reader.StrictReader.{StrictReader}
 use Rattle.engine.specs.Feeding.{IsFed, IsOfFeeding, StandsOpen}
 use Rattle.engine.specs.StrictReader.{IsOfJudging, StandsStrictly}
@@ -68,9 +67,10 @@ some_taken rule shape v zero octets read = absurd (of_no_octets rule shape v rea
 some_taken rule shape v (suc n) octets read = omega arith
 
 -- a value that is whole in the piece was read there, and the reader stands as it was
-pub strict_at_once : (rule : Rule) (shape : Shape) (strict : StrictReader) (before piece : List ℕ) (value : Value) (used : ℕ) → StandsStrictly shape strict before → strict.begun.items ≡ []
-    → used ≤ length piece → IsAccepted rule (ty_view strict.ty.now) (value_view value) (take used piece) → IsFed (StandsStrictly shape strict) rule shape (Ok (Done value used)) before piece
-strict_at_once rule shape strict before piece value used s none there read =
+pub strict_at_once : (rule : Rule) (shape : Shape) (strict : StrictReader) (before piece : List ℕ) (slot : Option Value) (used : ℕ) → StandsStrictly shape strict before → strict.begun.items ≡ []
+    → used ≤ length piece → MatchOption slot ⊥ (λ value. IsAccepted rule (ty_view strict.ty.now) (value_view value) (take used piece)) → IsFed (StandsStrictly shape strict) rule shape (Ok used) slot before piece
+strict_at_once rule shape strict before piece None used s none there read = absurd read
+strict_at_once rule shape strict before piece (Some value) used s none there read =
     let nothing : before ≡ [] = sym s.kept_are ∙ none in
     let here = subst (λ t. IsAccepted rule t (value_view value) (take used piece)) s.type_is read in (
       record { some = some_taken rule shape (value_view value) used piece here; there = there; accepted = subst (λ x. IsAccepted rule shape (value_view value) (x ++ take used piece)) (sym nothing) here },
@@ -78,9 +78,9 @@ strict_at_once rule shape strict before piece value used s none there read =
     )
 
 -- the piece was taken whole
-pub strict_more : (rule : Rule) (shape : Shape) (old new : StrictReader) (before piece : List ℕ) → IsCanonical rule → StandsStrictly shape old before → ty_view new.ty.now ≡ ty_view old.ty.now
-    → IsFed (StandsOpen shape new.reader) ber shape (Ok More) before piece → new.begun.items ≡ old.begun.items ++ piece → IsFed (StandsStrictly shape new) rule shape (Ok More) before piece
-strict_more rule shape old new before piece canonical s type fed kept = (
+pub strict_more : (rule : Rule) (shape : Shape) (old new : StrictReader) (before piece : List ℕ) (used : ℕ) → IsCanonical rule → StandsStrictly shape old before → ty_view new.ty.now ≡ ty_view old.ty.now
+    → IsFed (StandsOpen shape new.reader) ber shape (Ok used) None before piece → new.begun.items ≡ old.begun.items ++ piece → IsFed (StandsStrictly shape new) rule shape (Ok used) None before piece
+strict_more rule shape old new before piece used canonical s type fed kept = (
   record { type_is = type ∙ s.type_is; well_formed = s.well_formed; reader_stands = fed.0; kept_are = kept ∙ ap (λ x. x ++ piece) s.kept_are },
   λ f. fed.1 (front_by_ber rule shape (before ++ piece) s.well_formed canonical f),
 )
@@ -91,7 +91,7 @@ all_kept shape old before piece last used s last_is = ap (λ x. x ++ last) s.kep
 
 -- BER takes them
 pub kept_by_ber : (shape : Shape) (old : StrictReader) (new_reader : Pieces) (before piece last : List ℕ) (read : Value) (used : ℕ) → StandsStrictly shape old before
-    → IsFed (StandsOpen shape new_reader) ber shape (Ok (Done read used)) before piece → last ≡ take used piece → IsSomeAccepted ber (ty_view old.ty.now) (old.begun.items ++ last)
+    → IsFed (StandsOpen shape new_reader) ber shape (Ok used) (Some read) before piece → last ≡ take used piece → IsSomeAccepted ber (ty_view old.ty.now) (old.begun.items ++ last)
 kept_by_ber shape old new_reader before piece last read used s fed last_is = (
   value_view read,
   subst (λ t. IsAccepted ber t (value_view read) (old.begun.items ++ last)) (sym s.type_is) (subst (IsAccepted ber shape (value_view read)) (sym (all_kept shape old before piece last used s last_is)) fed.0.accepted),
@@ -99,8 +99,8 @@ kept_by_ber shape old new_reader before piece last read used s fed last_is = (
 
 -- a value is complete, and its octets are what the rule gives it
 pub strict_done : (rule : Rule) (shape : Shape) (old new : StrictReader) (before piece last : List ℕ) (read value : Value) (used : ℕ) → StandsStrictly shape old before → ty_view new.ty.now ≡ ty_view old.ty.now
-    → IsFed (StandsOpen shape new.reader) ber shape (Ok (Done read used)) before piece → last ≡ take used piece → IsAccepted rule (ty_view old.ty.now) (value_view value) (old.begun.items ++ last) → new.begun.items ≡ []
-    → IsFed (StandsStrictly shape new) rule shape (Ok (Done value used)) before piece
+    → IsFed (StandsOpen shape new.reader) ber shape (Ok used) (Some read) before piece → last ≡ take used piece → IsAccepted rule (ty_view old.ty.now) (value_view value) (old.begun.items ++ last) → new.begun.items ≡ []
+    → IsFed (StandsStrictly shape new) rule shape (Ok used) (Some value) before piece
 strict_done rule shape old new before piece last read value used s type fed last_is accepted none =
     let typed = subst (λ t. IsAccepted rule t (value_view value) (old.begun.items ++ last)) s.type_is accepted in
     let here = subst (IsAccepted rule shape (value_view value)) (all_kept shape old before piece last used s last_is) typed in (
@@ -119,7 +119,7 @@ memory_ran_out rule shape octets refusal memory =
 
 -- a value is complete, and its octets are not what the rule gives it, or memory ran out
 pub strict_refused : (rule : Rule) (shape : Shape) (old : StrictReader) (new_reader : Pieces) (before piece last : List ℕ) (read : Value) (used : ℕ) (refusal : Refusal) → IsCanonical rule → StandsStrictly shape old before
-    → IsFed (StandsOpen shape new_reader) ber shape (Ok (Done read used)) before piece → last ≡ take used piece → IsOfJudging refusal → (refusal ≡ NotCanonical → ¬ IsSomeAccepted rule (ty_view old.ty.now) (old.begun.items ++ last))
+    → IsFed (StandsOpen shape new_reader) ber shape (Ok used) (Some read) before piece → last ≡ take used piece → IsOfJudging refusal → (refusal ≡ NotCanonical → ¬ IsSomeAccepted rule (ty_view old.ty.now) (old.begun.items ++ last))
     → IsOfFeeding rule shape (before ++ piece) refusal × (IsFinal refusal → (more : List ℕ) → ¬ HasFront (IsSomeAccepted rule shape) ((before ++ piece) ++ more))
 strict_refused rule shape old new_reader before piece last read used refusal canonical s fed last_is numbers never =
     let octets = before ++ take used piece in
@@ -140,9 +140,9 @@ strict_refused rule shape old new_reader before piece last read used refusal can
     ]
 
 -- the piece was refused under BER
-pub strict_error : (rule : Rule) (shape : Shape) (old : StrictReader) (new_reader : Pieces) (before piece : List ℕ) (refusal : Refusal) → IsCanonical rule → StandsStrictly shape old before
-    → IsFed (StandsOpen shape new_reader) ber shape (Err refusal) before piece → IsOfFeeding rule shape (before ++ piece) refusal × (IsFinal refusal → (more : List ℕ) → ¬ HasFront (IsSomeAccepted rule shape) ((before ++ piece) ++ more))
-strict_error rule shape old new_reader before piece refusal canonical s fed = (
+pub strict_error : (rule : Rule) (shape : Shape) (old : StrictReader) (new_reader : Pieces) (before piece : List ℕ) (refusal : Refusal) (slot : Option Value) → IsCanonical rule → StandsStrictly shape old before
+    → IsFed (StandsOpen shape new_reader) ber shape (Err refusal) slot before piece → IsOfFeeding rule shape (before ++ piece) refusal × (IsFinal refusal → (more : List ℕ) → ¬ HasFront (IsSomeAccepted rule shape) ((before ++ piece) ++ more))
+strict_error rule shape old new_reader before piece refusal slot canonical s fed = (
   record { number = fed.0.number; strict = λ _. canonical; by_ber = fed.0.by_ber },
   λ final more f. fed.1 final more (front_by_ber rule shape ((before ++ piece) ++ more) s.well_formed canonical f),
 )

@@ -1,17 +1,16 @@
 -- Readers that are given octets piece by piece. `StandsAt` is what is said of a reader and the octets that it took
 -- since it was fresh.
-use Rattle.std.specs.Prelude.{◌≡◌, ◌≢◌, ◌≤◌, ◌⊎◌, ⊤, ℕ, List, [], ◌++◌, length, take, Result, Ok, Err}
+use Rattle.std.specs.Prelude.{◌≡◌, ◌≢◌, ◌≤◌, ◌⊎◌, ⊤, ℕ, List, [], ◌++◌, length, take, Option, Some, None, Result, Ok, Err}
 use Rattle.octets.specs.Front.{HasFront}
 use Rattle.octets.specs.Rule.{Rule, ber, IsCanonical}
 use Rattle.types.specs.declared.refusal.Refusal.{Refusal}
 use Rattle.types.specs.declared.refusal.Refusal.TheVariants.{Truncated, NotCanonical, NoMemory}
+use Rattle.types.specs.declared.value.Value.{Value}
 use Rattle.types.specs.Encoding.{IsAccepted, IsSomeAccepted}
 use Rattle.types.specs.Refusal.{IsFinal}
 use Rattle.types.specs.Shape.{Shape, Val}
 use Rattle.types.specs.View.{value_view}
 use Rattle.berreader.specs.declared.pieces.Pieces.{Pieces}
-use Rattle.berreader.specs.declared.reader.Step.{Step}
-use Rattle.berreader.specs.declared.reader.Step.TheVariants.{More, Done}
 use Rattle.berreader.specs.Feeding.{HasBeenFed, shape_of}
 
 -- a BER reader of the type has refused nothing, and took these octets since no value was begun
@@ -31,11 +30,11 @@ pub record IsDone (rule : Rule) (shape : Shape) (v : Val) (used : ℕ) (old piec
   pub there : used ≤ length piece
   pub accepted : IsAccepted rule shape v (old ++ take used piece)
 
--- what feeding a piece led to, behind the octets that were taken before it
-abbrev pub IsFed : (List ℕ → Type 0) → Rule → Shape → Result Step Refusal → List ℕ → List ℕ → Type 0
-IsFed StandsAt rule shape (Ok More) old piece = StandsAt (old ++ piece) × ¬ HasFront (IsSomeAccepted rule shape) (old ++ piece)
-IsFed StandsAt rule shape (Ok (Done value used)) old piece = IsDone rule shape (value_view value) used old piece × StandsAt []
-IsFed StandsAt rule shape (Err refusal) old piece = IsOfFeeding rule shape (old ++ piece) refusal × (IsFinal refusal → (more : List ℕ) → ¬ HasFront (IsSomeAccepted rule shape) ((old ++ piece) ++ more))
+-- what feeding a piece led to, behind the octets that were taken before it, by the value in the slot, if one is
+abbrev pub IsFed : (List ℕ → Type 0) → Rule → Shape → Result ℕ Refusal → Option Value → List ℕ → List ℕ → Type 0
+IsFed StandsAt rule shape (Ok used) None old piece = StandsAt (old ++ piece) × ¬ HasFront (IsSomeAccepted rule shape) (old ++ piece)
+IsFed StandsAt rule shape (Ok used) (Some value) old piece = IsDone rule shape (value_view value) used old piece × StandsAt []
+IsFed StandsAt rule shape (Err refusal) slot old piece = IsOfFeeding rule shape (old ++ piece) refusal × (IsFinal refusal → (more : List ℕ) → ¬ HasFront (IsSomeAccepted rule shape) ((old ++ piece) ++ more))
 
 -- Ok exactly where no value is begun
 abbrev pub IsFinished : Result ⊤ Refusal → List ℕ → Type 0

@@ -9,9 +9,9 @@ ghost use Rattle.engine.specs.Rule.{rule_of};
 use crate::feeding::Feed;
 use crate::strict_reader::StrictReader;
 use crate::{Canonical, Rule};
-use berreader::{Reader, Step};
+use berreader::Reader;
 use std::alloc::Global;
-use types::{Refusal, WellTyped};
+use types::{Refusal, Value, WellTyped};
 
 /// A reader of values of one type by any of the rules.
 #[derive(Drop)]
@@ -40,10 +40,10 @@ impl Feed for AnyReader<'_> {
 
     ghost stands_at = { StandsBy };
 
-    fn feed(&mut self, piece: &[u8]) -> Result<Step, Refusal> {
+    fn feed(&mut self, piece: &[u8], slot: &mut Option<Value>) -> Result<usize, Refusal> {
         match self {
-            AnyReader::Ber(reader) => Feed::feed(reader, piece),
-            AnyReader::Strict(reader) => reader.feed(piece),
+            AnyReader::Ber(reader) => Feed::feed(reader, piece, slot),
+            AnyReader::Strict(reader) => reader.feed(piece, slot),
         }
     }
 

@@ -13,7 +13,6 @@ ghost use Rattle.engine.specs.Refusal.{IsOfGathering};
 
 use crate::feeding::Feed;
 use crate::putting::Put;
-use berreader::Step;
 use std::alloc::Global;
 use types::{Refusal, Value};
 
@@ -74,30 +73,8 @@ impl Batch {
         }
     }
 
-    // Adds what stands for a value, which ends here.
-    #[inline(always)]
-    fn add_last<P: Put>(
-        &mut self,
-        writer: &P,
-        value: Value,
-        encoding: Option<&[u8]>,
-    ) -> Result<(), Refusal>
-        requires conforms { Conforms (P.shape writer.now) (value_view value) }
-        requires stands { IfSome encoding (λ octets. P.stands writer.now (value_view value) octets.now) }
-        ensures added { OnOk result (IsAdded (P.stands writer.now (value_view value))
-            self.old.octets.items self.new.octets.items self.old.lengths.items self.new.lengths.items) }
-        ensures octets { OnErr result (self.new.octets.items ≡ self.old.octets.items) }
-        ensures lengths { OnErr result (self.new.lengths.items ≡ self.old.lengths.items) }
-        ensures too_long { result ≡ Err Refusal.OutputTooLong →
-            (octets : List ℕ) → ¬ P.stands writer.now (value_view value) octets }
-        ensures copies { self.new.copies ≡ self.old.copies }
-        ensures long { result ≡ Err Refusal.OutputTooLong → P.can_be_too_long }
-        ensures numbers { IfErr result IsOfWriting }
-    {
-        self.add(writer, &value, encoding)
-    }
-
-    /// Gathers what stands for the values that a piece completes, in place of what was gathered.
+    /// Gathers what stands for the values that a piece completes, in place of what was gathered. Each value is read
+    /// into the room of the one before it, which is given back with the last of the piece.
     pub fn gather<F: Feed, P: Put>(
         &mut self,
         reader: &mut F,
@@ -124,23 +101,25 @@ impl Batch {
     {
         self.octets.clear();
         self.lengths.clear();
+        let mut slot = None;
         let mut rest = piece;
         while !rest.is_empty() {
             let is_whole = reader.finish().is_ok();
-            match reader.feed(rest) {
-                Ok(Step::More) => return Ok(()),
-                Ok(Step::Done { value, used }) => {
-                    let (front, behind) = rest.split_at(used);
-                    let encoding = if self.copies && is_whole {
-                        Some(front)
-                    } else {
-                        None
-                    };
-                    match self.add_last(writer, value, encoding) {
-                        Ok(()) => rest = behind,
-                        Err(refusal) => return Err(refusal),
-                    }
-                }
+            let used = match reader.feed(rest, &mut slot) {
+                Ok(used) => used,
+                Err(refusal) => return Err(refusal),
+            };
+            let Some(value) = &slot else {
+                return Ok(());
+            };
+            let (front, behind) = rest.split_at(used);
+            let encoding = if self.copies && is_whole {
+                Some(front)
+            } else {
+                None
+            };
+            match self.add(writer, value, encoding) {
+                Ok(()) => rest = behind,
                 Err(refusal) => return Err(refusal),
             }
         }

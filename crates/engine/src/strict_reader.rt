@@ -1,21 +1,20 @@
 //! A reader over pieces that takes the one encoding which CER or DER gives a value.
 
-ghost use Rattle.std.specs.Prelude.{◌≡◌, ◌++◌, ℕ, List, [], OnOk, IfOk, IfErr, length};
+ghost use Rattle.std.specs.Prelude.{◌≡◌, ◌++◌, ◌≤◌, ℕ, List, [], OnOk, IfOk, IfErr, length};
 ghost use Rattle.octets.specs.Rule.{ber};
 ghost use Rattle.types.specs.Encoding.{IsAccepted, IsSomeAccepted};
 ghost use Rattle.types.specs.Shape.{Shape};
 ghost use Rattle.types.specs.View.{ty_view, value_view};
 ghost use Rattle.types.specs.WellFormed.{IsWellFormed};
-ghost use Rattle.berreader.specs.Feeding.{EndsStepWithin};
 ghost use Rattle.engine.specs.Feeding.{IsFed};
 ghost use Rattle.engine.specs.Rule.{canonical_rule_of};
 ghost use Rattle.engine.specs.StrictReader.{IsOfJudging, StandsStrictly};
 
 use crate::Canonical;
 use crate::feeding::Feed;
-use berreader::{Reader, Step};
+use berreader::Reader;
 use std::alloc::Global;
-use strict::read_canonical;
+use strict::{read_canonical, read_into};
 use types::{Refusal, Value, WellTyped};
 
 /// A reader of the one encoding that the rule gives each value. A value that is whole in a piece it reads there. Of
@@ -46,25 +45,28 @@ impl<'a> StrictReader<'a> {
     }
 
     // Takes octets as `feed` does, by the BER reader. A refusal of BER is named as such, whatever the rule says.
-    fn feed_begun(&mut self, piece: &[u8]) -> Result<Step, Refusal>
+    fn feed_begun(&mut self, piece: &[u8], slot: &mut Option<Value>) -> Result<usize, Refusal>
         requires { (shape : Shape) × (old : List ℕ) × StandsStrictly shape self.old old }
-        ensures used { IfOk result (EndsStepWithin (length piece.now)) }
+        ensures used { IfOk result (λ used. used ≤ length piece.now) }
         ensures rule_stays { OnOk result (self.new.rule ≡ self.old.rule) }
         ensures fed { (shape : Shape) (old : List ℕ) → StandsStrictly shape self.old old →
-            IsFed (StandsStrictly shape self.new) (canonical_rule_of self.old.rule) shape result old piece.now }
+            IsFed (StandsStrictly shape self.new) (canonical_rule_of self.old.rule) shape result slot.new old piece.now }
     {
-        match self.reader.feed(piece) {
-            Ok(Step::More) => match keep(&mut self.begun, piece) {
-                Ok(()) => Ok(Step::More),
+        let used = match self.reader.feed_into(piece, slot) {
+            Ok(used) => used,
+            Err(refusal) => return Err(refusal),
+        };
+        let Some(_) = slot else {
+            return match keep(&mut self.begun, piece) {
+                Ok(()) => Ok(used),
                 Err(refusal) => Err(refusal),
-            },
-            Ok(Step::Done { value, used }) => {
-                drop(value);
-                let (last, _) = piece.split_at(used);
-                match judge(self.alloc, self.rule, self.ty, &mut self.begun, last) {
-                    Ok(value) => Ok(Step::Done { value, used }),
-                    Err(refusal) => Err(refusal),
-                }
+            };
+        };
+        let (last, _) = piece.split_at(used);
+        match judge(self.alloc, self.rule, self.ty, &mut self.begun, last) {
+            Ok(value) => {
+                *slot = Some(value);
+                Ok(used)
             }
             Err(refusal) => Err(refusal),
         }
@@ -76,15 +78,15 @@ impl Feed for StrictReader<'_> {
 
     ghost stands_at = { StandsStrictly };
 
-    fn feed(&mut self, piece: &[u8]) -> Result<Step, Refusal> {
+    fn feed(&mut self, piece: &[u8], slot: &mut Option<Value>) -> Result<usize, Refusal> {
         if self.begun.is_empty() {
-            match read_canonical(self.alloc, self.rule, self.ty, piece) {
-                Ok((value, used)) => return Ok(Step::Done { value, used }),
+            match read_into(self.alloc, self.rule, self.ty, piece, slot) {
+                Ok(used) => return Ok(used),
                 Err(Refusal::NoMemory) => return Err(Refusal::NoMemory),
                 Err(_) => {}
             }
         }
-        self.feed_begun(piece)
+        self.feed_begun(piece, slot)
     }
 
     fn finish(&self) -> Result<(), Refusal> {

@@ -10,7 +10,6 @@ ghost use Rattle.engine.specs.Stream.{most_streamed, source_failures};
 ghost use Rattle.value_stream.specs.Next.{IsNext, IsStop};
 ghost use Rattle.value_stream.specs.Unread.{unread, IsWithin};
 
-use berreader::Step;
 use devices::{Piece, Source};
 use engine::{AnyReader, Feed, MAX_STREAM};
 use types::{Refusal, Value, WellTyped};
@@ -113,12 +112,15 @@ impl<S: Source> Reading<'_, S> {
             }
             let (_, rest) = self.piece.octets().split_at(self.at);
             let count = rest.len();
-            match self.reader.feed(rest) {
-                Ok(Step::More) => self.pass(count),
-                Ok(Step::Done { value, used }) => {
-                    self.pass(used);
-                    return Ok(Some(value));
-                }
+            let mut slot = None;
+            match self.reader.feed(rest, &mut slot) {
+                Ok(used) => match slot {
+                    None => self.pass(count),
+                    Some(value) => {
+                        self.pass(used);
+                        return Ok(Some(value));
+                    }
+                },
                 Err(refusal) => return Err(refusal),
             }
         }

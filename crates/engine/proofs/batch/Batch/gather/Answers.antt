@@ -16,25 +16,25 @@ loop-rest-init g c = record {
   few = omega (arith, ap length c.clear-2.ensures.items);
 }
 
-pub add_last-requires-clause-conforms : goal.add_last-requires-clause-conforms
-add_last-requires-clause-conforms g c =
+pub add-requires-clause-conforms : goal.add-requires-clause-conforms
+add-requires-clause-conforms g c =
     let shape = g.P.Put.shape c.args.writer.now in
-    let fed = rw c.loop-rest.invariant.same_rule at (rw c.in-Ok-Done.field-0-is at c.in-Ok-Done.ensures.fed) in
+    let fed = rw c.loop-rest.invariant.same_rule at (rw c.in-Some.is at c.in-Ok.ensures.fed) in
     let i = c.loop-rest.invariant.gathers c.requires.stands.0 c.requires.stands.1 in
     let f = fed shape i.0 i.1.stands in
-    encoded_conforms (g.F.Feed.rule c.args.reader.now) shape (value_view c.in-Ok-Done.value) _ f.0.accepted.encoding
+    encoded_conforms (g.F.Feed.rule c.args.reader.now) shape (value_view c.in-Some.value) _ f.0.accepted.encoding
 
-pub add_last-requires-clause-stands : goal.add_last-requires-clause-stands
-add_last-requires-clause-stands g c =
+pub add-requires-clause-stands : goal.add-requires-clause-stands
+add-requires-clause-stands g c =
     let shape = g.P.Put.shape c.args.writer.now in
-    let v = value_view c.in-Ok-Done.value in
-    let fed = rw c.loop-rest.invariant.same_rule at (rw c.in-Ok-Done.field-0-is at c.in-Ok-Done.ensures.fed) in
+    let v = value_view c.in-Some.value in
+    let fed = rw c.loop-rest.invariant.same_rule at (rw c.in-Some.is at c.in-Ok.ensures.fed) in
     let i = c.loop-rest.invariant.gathers c.requires.stands.0 c.requires.stands.1 in
     let accepted = (fed shape i.0 i.1.stands).0.accepted in
     elim c.if-self.branch [
       | then-self+then-is_whole w ↦
           let none = finished_none c.finish.result i.0 (c.finish.ensures shape i.0 i.1.stands) (rw c.is_ok-is_whole.ensures.value at w.if-is_whole.true) in
-          let whole : i.0 ++ take c.in-Ok-Done.used c.loop-rest.rest.now ≡ c.split_at.result.0.now = ap (λ x. x ++ take c.in-Ok-Done.used c.loop-rest.rest.now) none ∙ sym c.split_at.ensures.front in
+          let whole : i.0 ++ take c.in-Ok.used c.loop-rest.rest.now ≡ c.split_at.result.0.now = ap (λ x. x ++ take c.in-Ok.used c.loop-rest.rest.now) none ∙ sym c.split_at.ensures.front in
           rw w.encoding-is (c.requires.copied (rw c.loop-rest.invariant.copies at w.if-self.true) v c.split_at.result.0.now (subst (IsAccepted (g.F.Feed.rule c.args.reader.now) shape v) whole accepted))
       | else-self w ↦ rw w.encoding-is tt
     ]
@@ -44,16 +44,16 @@ loop-rest-preserved g c =
     let rule = g.F.Feed.rule c.args.reader.now in
     let shape = g.P.Put.shape c.args.writer.now in
     let Stands = g.P.Put.stands c.args.writer.now in
-    let v = value_view c.in-Ok-Done.value in
+    let v = value_view c.in-Some.value in
     let left = c.loop-rest.rest.now in
-    let used = c.in-Ok-Done.used in
-    let fed = rw c.loop-rest.invariant.same_rule at (rw c.in-Ok-Done.field-0-is at c.in-Ok-Done.ensures.fed) in
+    let used = c.in-Ok.used in
+    let fed = rw c.loop-rest.invariant.same_rule at (rw c.in-Some.is at c.in-Ok.ensures.fed) in
     let here = c.loop-rest.invariant.gathers c.requires.stands.0 c.requires.stands.1 in
     let done = (fed shape here.0 here.1.stands).0 in
-    let added = c.in-Ok.ensures.added in
+    let added = c.in-Ok-add.ensures.added in
     record {
-      copies = c.in-Ok.ensures.copies ∙ c.loop-rest.invariant.copies;
-      same_rule = c.in-Ok-Done.ensures.rule_stays ∙ c.loop-rest.invariant.same_rule;
+      copies = c.in-Ok-add.ensures.copies ∙ c.loop-rest.invariant.copies;
+      same_rule = c.in-Ok.ensures.rule_stays ∙ c.loop-rest.invariant.same_rule;
       gathers = λ old unfinished.
           let i = c.loop-rest.invariant.gathers old unfinished in
           let f = fed shape i.0 i.1.stands in (
@@ -65,19 +65,19 @@ loop-rest-preserved g c =
       few = omega (arith, ap length added.lengths_are, length_push c.loop-rest.self.lengths.items (length added.part), c.loop-rest.invariant.few, done.some, done.there, ap length c.split_at.ensures.back, length-drop used left);
     }
 
-pub returns-in-Err-add_last-clause-refused : goal.returns-in-Err-add_last-clause-refused
-returns-in-Err-add_last-clause-refused g c = λ old unfinished.
+pub returns-in-Err-add-clause-refused : goal.returns-in-Err-add-clause-refused
+returns-in-Err-add-clause-refused g c = λ old unfinished.
     let rule = g.F.Feed.rule c.args.reader.now in
     let shape = g.P.Put.shape c.args.writer.now in
     let Stands = g.P.Put.stands c.args.writer.now in
     let left = c.loop-rest.rest.now in
-    let used = c.in-Ok-Done.used in
-    let fed = rw c.loop-rest.invariant.same_rule at (rw c.in-Ok-Done.field-0-is at c.in-Ok-Done.ensures.fed) in
+    let used = c.in-Ok.used in
+    let fed = rw c.loop-rest.invariant.same_rule at (rw c.in-Some.is at c.in-Ok.ensures.fed) in
     let i = c.loop-rest.invariant.gathers old unfinished in
     let f = fed shape i.0 i.1.stands in
-    add_refused rule shape Stands c.in-Err-add_last.refusal (value_view c.in-Ok-Done.value) _ _ _ _ _ (i.0 ++ left) (i.0 ++ take used left) (drop used left)
-    c.in-Err-add_last.ensures.octets c.in-Err-add_last.ensures.lengths (cut_piece i.0 left (drop used left) used refl) f.0.accepted c.in-Err-add_last.ensures.numbers
-    (λ too_long. c.in-Err-add_last.ensures.too_long (ap Err too_long)) i.2
+    add_refused rule shape Stands c.in-Err-add.refusal (value_view c.in-Some.value) _ _ _ _ _ (i.0 ++ left) (i.0 ++ take used left) (drop used left)
+    c.in-Err-add.ensures.octets c.in-Err-add.ensures.lengths (cut_piece i.0 left (drop used left) used refl) f.0.accepted c.in-Err-add.ensures.numbers
+    (λ too_long. c.in-Err-add.ensures.too_long (ap Err too_long)) i.2
 
 pub returns-in-Err-clause-refused : goal.returns-in-Err-clause-refused
 returns-in-Err-clause-refused g c = λ old unfinished.
@@ -102,14 +102,14 @@ feed-requires g c =
 pub loop-rest-smaller : goal.loop-rest-smaller
 loop-rest-smaller g c =
     let shape = g.P.Put.shape c.args.writer.now in
-    let fed = rw c.loop-rest.invariant.same_rule at (rw c.in-Ok-Done.field-0-is at c.in-Ok-Done.ensures.fed) in
+    let fed = rw c.loop-rest.invariant.same_rule at (rw c.in-Some.is at c.in-Ok.ensures.fed) in
     let here = c.loop-rest.invariant.gathers c.requires.stands.0 c.requires.stands.1 in
     let done = (fed shape here.0 here.1.stands).0 in
-    omega (arith, done.some, done.there, ap length c.split_at.ensures.back, length-drop c.in-Ok-Done.used c.loop-rest.rest.now)
+    omega (arith, done.some, done.there, ap length c.split_at.ensures.back, length-drop c.in-Ok.used c.loop-rest.rest.now)
 
-pub returns-in-Ok-More-clause-gathered : goal.returns-in-Ok-More-clause-gathered
-returns-in-Ok-More-clause-gathered g c = λ old unfinished.
-    let fed = rw c.loop-rest.invariant.same_rule at (rw c.in-Ok-More.field-0-is at c.in-Ok-More.ensures.fed) in
+pub returns-in_default-clause-gathered : goal.returns-in_default-clause-gathered
+returns-in_default-clause-gathered g c = λ old unfinished.
+    let fed = rw c.loop-rest.invariant.same_rule at (rw c.in_default.is at c.in-Ok.ensures.fed) in
     let i = c.loop-rest.invariant.gathers old unfinished in
     let f = fed (g.P.Put.shape c.args.writer.now) i.0 i.1.stands in
     record { rest = i.0 ++ c.loop-rest.rest.now; gathers = i.2; stands = record { stands = f.0; none = f.1 } }

@@ -33,31 +33,31 @@ loop-self-preserved g c =
     let rest = c.split_at.result.1.now in
     let begun = begun_still shape _ c.loop-self.self.reader f.reader _ _ f.read _ _ _ c.loop-self.invariant.begun c.fill.ensures.kept c.fill.ensures.reader c.fill.ensures.read in
     let same = ap read_rule c.fill.ensures.reader ∙ c.loop-self.invariant.same_rule in
-    let fed = rw same at (rw c.in-Ok-More.field-0-is at c.in-Ok-More.ensures.fed) in
+    let fed = rw same at (rw c.in-None.is at c.in-Ok-feed.ensures.fed) in
     let rest_is : rest ≡ drop f.at f.piece = c.split_at.ensures.back ∙ ap (λ x. drop f.at x) c.octets.ensures in
     let taken = read_all f.at p.at f.piece p.piece rest (g.S.Source.left f.source) (g.S.Source.left p.source) rest_is c.pass.ensures.at c.pass.ensures.piece (ap g.S.Source.left c.pass.ensures.source) in
     let more = begins_more (StandsBy shape f.reader) (StandsBy shape c.feed.new.self) _ shape _ _ p.read _ _ _ rest begun taken c.pass.ensures.read (λ octets stands. fed shape octets stands) in
     record {
       type = c.pass.ensures.ty ∙ c.fill.ensures.ty ∙ c.loop-self.invariant.type;
-      same_rule = ap read_rule c.pass.ensures.reader ∙ c.in-Ok-More.ensures.rule_stays ∙ same;
+      same_rule = ap read_rule c.pass.ensures.reader ∙ c.in-Ok-feed.ensures.rule_stays ∙ same;
       begun = rw c.pass.ensures.reader more;
       source = ap g.S.Source.failures c.pass.ensures.source ∙ c.in-Ok-true.ensures.source;
       within = c.pass.ensures.within;
     }
 
-pub returns-in-Ok-Done-clause-value : goal.returns-in-Ok-Done-clause-value
-returns-in-Ok-Done-clause-value g c =
+pub returns-in-Some-clause-value : goal.returns-in-Some-clause-value
+returns-in-Some-clause-value g c =
     let shape = ty_view c.args.self.now.ty.now in
     let f = c.fill.new.self in
-    let p = c.pass-in-Ok-Done.new.self in
+    let p = c.pass-in-Some.new.self in
     let rest = c.split_at.result.1.now in
     let begun = begun_still shape _ c.loop-self.self.reader f.reader _ _ f.read _ _ _ c.loop-self.invariant.begun c.fill.ensures.kept c.fill.ensures.reader c.fill.ensures.read in
     let same = ap read_rule c.fill.ensures.reader ∙ c.loop-self.invariant.same_rule in
-    let fed = rw same at (rw c.in-Ok-Done.field-0-is at c.in-Ok-Done.ensures.fed) in
+    let fed = rw same at (rw c.in-Some.is at c.in-Ok-feed.ensures.fed) in
     let rest_is : rest ≡ drop f.at f.piece = c.split_at.ensures.back ∙ ap (λ x. drop f.at x) c.octets.ensures in
-    let e = c.pass-in-Ok-Done.ensures in
-    let taken = read_on f.at c.in-Ok-Done.used p.at f.piece p.piece rest (g.S.Source.left f.source) (g.S.Source.left p.source) rest_is e.at e.piece (ap g.S.Source.left e.source) in
-    next_is (StandsBy shape f.reader) _ shape (value_view c.in-Ok-Done.value) _ _ p.read c.in-Ok-Done.used _ _ _ rest begun taken e.read (λ octets stands. (fed shape octets stands).0)
+    let e = c.pass-in-Some.ensures in
+    let taken = read_on f.at c.in-Ok-feed.used p.at f.piece p.piece rest (g.S.Source.left f.source) (g.S.Source.left p.source) rest_is e.at e.piece (ap g.S.Source.left e.source) in
+    next_is (StandsBy shape f.reader) _ shape (value_view c.in-Some.value) _ _ p.read c.in-Ok-feed.used _ _ _ rest begun taken e.read (λ octets stands. (fed shape octets stands).0)
 
 pub returns-in-Err-feed-clause-stopped : goal.returns-in-Err-feed-clause-stopped
 returns-in-Err-feed-clause-stopped g c =
