@@ -1,10 +1,11 @@
 //! Texts of values without parts that are no strings.
 
-ghost use Rattle.std.specs.Prelude.{◌≡◌, ◌++◌, OnOk, codes, map, string_bytes};
+ghost use Rattle.std.specs.Prelude.{◌≡◌, ◌++◌, OnOk, codes, decimal, map, string_bytes};
 ghost use Rattle.std.specs.Fmt.{signed_decimal};
 ghost use Rattle.types.specs.View.{item_view};
 ghost use Rattle.texts.specs.Leaf.{boolean_text, arcs_text, item_name};
 
+use itoa::Buffer;
 use octets::NoMemory;
 use std::string::String;
 use types::Item;
@@ -16,10 +17,12 @@ pub(crate) fn put_boolean(truth: bool, out: &mut String) -> Result<(), NoMemory>
     Ok(())
 }
 
-pub(crate) fn put_integer(number: i128, out: &mut String) -> Result<(), NoMemory>
+/// Appends the text of an INTEGER within 128 bits: the number in decimal.
+pub fn put_integer(number: i128, out: &mut String) -> Result<(), NoMemory>
     ensures { OnOk result (string_bytes out.new ≡ string_bytes out.old ++ signed_decimal number) }
 {
-    write!(out, "{number}")?;
+    let mut buffer = Buffer::new();
+    out.push_str(buffer.format(number))?;
     Ok(())
 }
 
@@ -42,9 +45,18 @@ pub(crate) fn put_arcs(arcs: &[u128], out: &mut String) -> Result<(), NoMemory>
     let Some((first, others)) = arcs.split_first() else {
         return Ok(());
     };
-    write!(out, "{first}")?;
+    put_arc(*first, out)?;
     for arc in others {
-        write!(out, ".{arc}")?;
+        out.push_str(".")?;
+        put_arc(*arc, out)?;
     }
+    Ok(())
+}
+
+fn put_arc(arc: u128, out: &mut String) -> Result<(), NoMemory>
+    ensures { OnOk result (string_bytes out.new ≡ string_bytes out.old ++ decimal arc) }
+{
+    let mut buffer = Buffer::new();
+    out.push_str(buffer.format(arc))?;
     Ok(())
 }

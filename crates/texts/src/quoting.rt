@@ -20,8 +20,16 @@ const PLACES: [u8; 8] = [128, 64, 32, 16, 8, 4, 2, 1];
 pub(crate) fn put_bits(bits: &Bits, out: &mut String) -> Result<(), NoMemory>
     ensures { OnOk result (string_bytes out.new ≡ string_bytes out.old ++ bits_text bits.now) }
 {
+    put_bits_before(bits.octets(), bits.unused(), out)
+}
+
+/// Appends a digit for each bit of octets but the last `unused`, in quotes.
+pub fn put_bits_before(octets: &[u8], unused: u8, out: &mut String) -> Result<(), NoMemory>
+    requires { unused ≤ 7 }
+    ensures { OnOk result (string_bytes out.new ≡ string_bytes out.old ++ bits_text (bits_before octets.now unused)) }
+{
     out.push_str("'")?;
-    put_digits(bits.octets(), bits.unused(), out)?;
+    put_digits(octets, unused, out)?;
     out.push_str("'B")?;
     Ok(())
 }
@@ -60,8 +68,8 @@ fn bit_digit(octet: u8, place: u8) -> char
     if octet / place % 2 == 1 { '1' } else { '0' }
 }
 
-// Appends two hexadecimal digits for each octet, in quotes.
-pub(crate) fn put_octets(octets: &[u8], out: &mut String) -> Result<(), NoMemory>
+/// Appends two hexadecimal digits for each octet, in quotes.
+pub fn put_octets(octets: &[u8], out: &mut String) -> Result<(), NoMemory>
     ensures { OnOk result (string_bytes out.new ≡ string_bytes out.old ++ octets_text octets.now) }
 {
     out.reserve(octets.len().saturating_mul(2).saturating_add(3))?;
@@ -106,9 +114,9 @@ fn put_ascii(octets: &[u8], out: &mut String) -> Result<(), NoMemory>
     Ok(())
 }
 
-// Appends the characters of a character string in double quotes, or where they are not readable its
-// octets.
-pub(crate) fn put_text(kind: TextKind, octets: &[u8], out: &mut String) -> Result<(), NoMemory>
+/// Appends the characters of a character string in double quotes, or where they are not readable its
+/// octets.
+pub fn put_text(kind: TextKind, octets: &[u8], out: &mut String) -> Result<(), NoMemory>
     ensures { OnOk result (string_bytes out.new ≡ string_bytes out.old ++ text_of_kind kind octets.now) }
 {
     match kind {
@@ -121,7 +129,9 @@ pub(crate) fn put_text(kind: TextKind, octets: &[u8], out: &mut String) -> Resul
     }
 }
 
-pub(crate) fn put_readable(octets: &[u8], out: &mut String) -> Result<(), NoMemory>
+/// Appends octets in double quotes where each is a space or a visible character of ASCII, and else as those of an OCTET
+/// STRING.
+pub fn put_readable(octets: &[u8], out: &mut String) -> Result<(), NoMemory>
     ensures { OnOk result (string_bytes out.new ≡ string_bytes out.old ++ readable_text octets.now) }
 {
     if is_readable(octets) {
