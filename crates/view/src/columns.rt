@@ -11,8 +11,14 @@ const WIDTH_OF_LENGTHS: usize = 8;
 
 const WIDTH_OF_TAG: usize = 17;
 
-// Of heads of two and of three octets the texts are kept, with fewer contents octets than this.
+// At depths below this the texts of heads of two and of three octets are kept, ..
+const SHALLOW: usize = 4;
+
+// .. with fewer contents octets than this, or of the indefinite form.
 const SHORT: usize = 128;
+
+// How many texts are kept of a depth and a count of octets in the head.
+const KEPT: usize = SHORT + 1;
 
 // Of universal and of context-specific tags the texts are kept, with numbers below this.
 const LOW: u32 = 32;
@@ -20,7 +26,7 @@ const LOW: u32 = 32;
 /// Texts of columns.
 #[derive(Drop)]
 pub struct Columns {
-    lengths: Vec<String>,
+    heads: Vec<String>,
     tags: Vec<String>,
 }
 
@@ -28,18 +34,37 @@ impl Columns {
     /// The texts that are kept.
     pub fn new(alloc: Global) -> Result<Columns, NoMemory> {
         let mut columns = Columns {
-            lengths: Vec::new(alloc),
+            heads: Vec::new(alloc),
             tags: Vec::new(alloc),
         };
-        for which in 0..2 * SHORT {
-            let mut text = String::new(alloc);
-            let head = (which / SHORT).saturating_add(2);
-            put_lengths(head, Some(which % SHORT), &mut text)?;
-            columns.lengths.push(text)?;
+        for depth in 0..SHALLOW {
+            columns.keep_heads(alloc, depth, 2)?;
+            columns.keep_heads(alloc, depth, 3)?;
         }
         columns.keep_tags(alloc, Class::Universal)?;
         columns.keep_tags(alloc, Class::Context)?;
         Ok(columns)
+    }
+
+    fn keep_heads(&mut self, alloc: Global, depth: usize, head: usize) -> Result<(), NoMemory> {
+        for size in 0..SHORT {
+            self.keep_head(alloc, depth, head, Some(size))?;
+        }
+        self.keep_head(alloc, depth, head, None)
+    }
+
+    fn keep_head(
+        &mut self,
+        alloc: Global,
+        depth: usize,
+        head: usize,
+        contents: Option<usize>,
+    ) -> Result<(), NoMemory> {
+        let mut text = String::new(alloc);
+        put_depth(depth, &mut text)?;
+        put_lengths(head, contents, &mut text)?;
+        self.heads.push(text)?;
+        Ok(())
     }
 
     fn keep_tags(&mut self, alloc: Global, class: Class) -> Result<(), NoMemory> {
@@ -51,22 +76,24 @@ impl Columns {
         Ok(())
     }
 
-    /// Appends how many octets a head and the contents have.
-    pub fn put_lengths(
+    /// Appends in how many encodings one stands, and how many octets its head and its contents have.
+    pub fn put_head(
         &self,
+        depth: usize,
         head: usize,
         contents: Option<usize>,
         out: &mut String,
     ) -> Result<(), NoMemory> {
-        let kept = match (head, contents) {
-            (2, Some(size)) if size < SHORT => self.lengths.get(size),
-            (3, Some(size)) if size < SHORT => self.lengths.get(size.saturating_add(SHORT)),
-            (_, _) => None,
+        let kept = match place_of(depth, head, contents) {
+            Some(place) => self.heads.get(place),
+            None => None,
         };
-        match kept {
-            Some(text) => Ok(out.push_str(text.as_str())?),
-            None => put_lengths(head, contents, out),
+        if let Some(text) = kept {
+            out.push_str(text.as_str())?;
+            return Ok(());
         }
+        put_depth(depth, out)?;
+        put_lengths(head, contents, out)
     }
 
     /// Appends a tag.
@@ -81,6 +108,20 @@ impl Columns {
             Some(text) => Ok(out.push_str(text.as_str())?),
             None => put_tag(tag, out),
         }
+    }
+}
+
+// The place of a kept text of a depth, a head and contents.
+fn place_of(depth: usize, head: usize, contents: Option<usize>) -> Option<usize> {
+    let place = match contents {
+        Some(size) if size < SHORT => size,
+        Some(_) => return None,
+        None => SHORT,
+    };
+    match head {
+        2 if depth < SHALLOW => Some(2 * KEPT * depth + place),
+        3 if depth < SHALLOW => Some(2 * KEPT * depth + KEPT + place),
+        _ => None,
     }
 }
 
@@ -117,17 +158,7 @@ pub fn put_offset(offset: u64, out: &mut String) -> Result<(), NoMemory> {
     Ok(())
 }
 
-// The depths that most encodings have, as they are printed.
-const DEPTHS: [&str; 8] = [
-    ": 0 ", ": 1 ", ": 2 ", ": 3 ", ": 4 ", ": 5 ", ": 6 ", ": 7 ",
-];
-
-/// Appends in how many encodings one stands.
-pub fn put_depth(depth: usize, out: &mut String) -> Result<(), NoMemory> {
-    if let Some(text) = DEPTHS.get(depth) {
-        out.push_str(text)?;
-        return Ok(());
-    }
+fn put_depth(depth: usize, out: &mut String) -> Result<(), NoMemory> {
     out.push_str(": ")?;
     put_number(depth as u64, out)?;
     out.push_str(" ")?;

@@ -5,7 +5,7 @@ use octets::NoMemory;
 use std::alloc::Global;
 use std::string::String;
 use types::{Refusal, WellTyped};
-use walking::{Line, Stop, Walk};
+use walking::{Stop, Walk};
 
 /// Where and why octets are refused.
 #[derive(Debug, Drop)]
@@ -18,25 +18,25 @@ pub struct Found {
     pub reason: String,
 }
 
-/// Appends a line for each identifier of a value, before which `base` octets of the input stand. Of octets that are
-/// refused these are the lines up to the fault.
+/// Appends a line for each identifier of a value, before which `base` octets of the input stand. Of octets that are not
+/// taken, but refused, these are the lines up to the fault.
 pub fn put_lines(
     alloc: Global,
     ty: &WellTyped,
     octets: &[u8],
     base: u64,
+    is_taken: bool,
     style: &Style<'_>,
-    before: String,
-) -> Result<String, NoMemory> {
-    let mut text = before;
-    let mut walk = Walk::new(alloc, style.rule, ty, octets);
+    out: &mut String,
+) -> Result<(), NoMemory> {
+    let mut walk = Walk::new(alloc, style.rule, ty, octets, is_taken);
     for _ in 0..=octets.len() {
         match walk.next_line() {
-            Ok(Some(line)) => text = put_line(alloc, &walk, base, line, style, text)?,
-            Ok(None) | Err(_) => return Ok(text),
+            Ok(true) => put_line(alloc, &walk, base, style, out)?,
+            Ok(false) | Err(_) => return Ok(()),
         }
     }
-    Ok(text)
+    Ok(())
 }
 
 /// Where and why these octets are refused: where the refusal says that they are not canonical, at the first place that
@@ -48,15 +48,15 @@ pub fn find(
     refusal: Refusal,
     style: &Style<'_>,
 ) -> Result<Option<Found>, NoMemory> {
-    let mut walk = Walk::new(alloc, style.rule, ty, octets);
+    let mut walk = Walk::new(alloc, style.rule, ty, octets, false);
     for _ in 0..=octets.len() {
         match walk.next_line() {
-            Ok(Some(line)) => {
-                if refusal == Refusal::NotCanonical && !line.notes.is_empty() {
-                    return of_note(alloc, &walk, &line, style);
+            Ok(true) => {
+                if refusal == Refusal::NotCanonical && !walk.line().notes.is_empty() {
+                    return of_note(alloc, &walk, style);
                 }
             }
-            Ok(None) => return Ok(None),
+            Ok(false) => return Ok(None),
             Err(stop) => return of_stop(alloc, &walk, &stop),
         }
     }
@@ -64,12 +64,8 @@ pub fn find(
 }
 
 // The place of what is not canonical.
-fn of_note(
-    alloc: Global,
-    walk: &Walk<'_>,
-    line: &Line<'_>,
-    style: &Style<'_>,
-) -> Result<Option<Found>, NoMemory> {
+fn of_note(alloc: Global, walk: &Walk<'_>, style: &Style<'_>) -> Result<Option<Found>, NoMemory> {
+    let line = walk.line();
     let Some(note) = line.notes.first() else {
         return Ok(None);
     };

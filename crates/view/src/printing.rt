@@ -1,12 +1,12 @@
 //! The printed lines of encodings.
 
-use crate::columns::{Columns, put_depth, put_offset};
+use crate::columns::{Columns, put_offset};
 use engine::Canonical;
 use octets::NoMemory;
 use std::alloc::Global;
 use std::string::String;
-use types::{Ty, Value};
-use walking::{LeafTypes, Line, NOTES, Notes, Walk, What, name_of, show_leaf};
+use types::Ty;
+use walking::{Line, NOTES, Notes, Walk, What, name_of, put_contents, put_string};
 
 // The most octets of a value that are shown, unless all are asked for.
 const MOST_SHOWN: usize = 32;
@@ -20,8 +20,6 @@ pub struct Style<'a> {
     pub rule: Canonical,
     /// Texts of columns.
     pub columns: &'a Columns,
-    /// The types by which values are printed.
-    pub leaf_types: &'a LeafTypes,
     /// Whether long values are shown whole.
     pub wide: bool,
 }
@@ -36,45 +34,29 @@ impl Style<'_> {
     }
 }
 
-/// Appends the line of an encoding, before whose value `base` octets of the input stand.
+/// Appends the line of an encoding to which a walk has gone, before whose value `base` octets of the input stand.
 pub fn put_line(
     alloc: Global,
     walk: &Walk<'_>,
     base: u64,
-    line: Line<'_>,
     style: &Style<'_>,
-    before: String,
-) -> Result<String, NoMemory> {
-    let mut out = before;
-    put_place(base, &line, style.columns, &mut out)?;
-    let Line {
-        depth,
-        part,
-        what,
-        notes,
-        ..
-    } = line;
-    let is_end = matches!(what, What::End);
-    if is_end {
-        out.push_str("end of contents")?;
-    } else {
-        let start = out.len();
-        walk.put_path(depth, Some(&part), &mut out)?;
-        if out.len() == start {
-            out.push_str(style.name)?;
-            out.push_str(" ::=")?;
-        }
-        out.push_str(" ")?;
-        out.push_str(name_of(part.node))?;
+    out: &mut String,
+) -> Result<(), NoMemory> {
+    let line = walk.line();
+    put_place(base, line, style.columns, out)?;
+    match line.what {
+        What::End => out.push_str("end of contents")?,
+        What::Parts | What::Leaf(_) | What::Segment(_) => put_name(walk, line, style, out)?,
     }
-    let mut out = match what {
-        What::Parts | What::End => out,
-        What::Leaf(value) => put_value(alloc, part.node, &value, style, "  ", out)?,
-        What::Segment(value) => put_value(alloc, part.node, &value, style, " segment  ", out)?,
-    };
-    put_notes(notes, style.rule, &mut out)?;
-    out.push_str("\n")?;
-    Ok(out)
+    match line.what {
+        What::Leaf(contents) | What::Segment(contents) => {
+            put_value(alloc, line, contents, style, out)?;
+        }
+        What::Parts | What::End => {}
+    }
+    put_notes(line.notes, style.rule, out)?;
+    out.push('\n')?;
+    Ok(())
 }
 
 // Appends the offset, the depth, the lengths and the tag.
@@ -85,9 +67,26 @@ fn put_place(
     out: &mut String,
 ) -> Result<(), NoMemory> {
     put_offset(base.saturating_add(line.at as u64), out)?;
-    put_depth(line.depth, out)?;
-    columns.put_lengths(line.head, line.contents, out)?;
+    columns.put_head(line.depth, line.head, line.contents, out)?;
     columns.put_tag(line.part.tag, out)
+}
+
+// Appends the path, or the name of the type where that is empty, and the words that name the part's type.
+fn put_name(
+    walk: &Walk<'_>,
+    line: &Line<'_>,
+    style: &Style<'_>,
+    out: &mut String,
+) -> Result<(), NoMemory> {
+    let start = out.len();
+    walk.put_path(line.depth, Some(&line.part), out)?;
+    if out.len() == start {
+        out.push_str(style.name)?;
+        out.push_str(" ::=")?;
+    }
+    out.push(' ')?;
+    out.push_str(name_of(line.part.node))?;
+    Ok(())
 }
 
 // Appends what is not canonical.
@@ -103,48 +102,44 @@ fn put_notes(notes: Notes, rule: Canonical, out: &mut String) -> Result<(), NoMe
         if notes.has(*note) {
             out.push_str(lead)?;
             out.push_str(note.words())?;
-            out.push_str(")")?;
+            out.push(')')?;
         }
     }
     Ok(())
 }
 
-// Appends the text of a value, cut where it is long.
+// Appends the text of contents octets, cut where it is long.
 fn put_value(
     alloc: Global,
-    node: &Ty,
-    value: &Value,
+    line: &Line<'_>,
+    contents: &[u8],
     style: &Style<'_>,
-    lead: &str,
-    before: String,
-) -> Result<String, NoMemory> {
-    let mut out = before;
-    out.push_str(lead)?;
-    let types = style.leaf_types;
-    match shortened(alloc, value)? {
-        Some((value, omitted)) if !style.wide => {
-            let mut out = show_leaf(alloc, types, node, &value, out)?;
-            write!(out, " and {omitted} octets more")?;
-            Ok(out)
-        }
-        _ => show_leaf(alloc, types, node, value, out),
+    out: &mut String,
+) -> Result<(), NoMemory> {
+    let node = line.part.node;
+    let (shown, omitted) = split_shown(node, contents, style);
+    if let What::Segment(_) = line.what {
+        out.push_str(" segment  ")?;
+        put_string(node, shown, out)?;
+    } else {
+        out.push_str("  ")?;
+        put_contents(alloc, node, shown, out)?;
     }
+    if omitted > 0 {
+        write!(out, " and {omitted} octets more")?;
+    }
+    Ok(())
 }
 
-// The value with so many octets as are shown, and how many it has behind them; None where it is shown whole. The octets
-// of a number are shown as such.
-fn shortened(alloc: Global, value: &Value) -> Result<Option<(Value, usize)>, NoMemory> {
-    let octets = match value {
-        Value::Octets(octets) | Value::Text(octets) | Value::WideInteger(octets) => octets,
-        _ => return Ok(None),
+// The contents octets that are shown, and how many stand behind them. Octets of a long number are shown as such.
+fn split_shown<'a>(node: &Ty, contents: &'a [u8], style: &Style<'_>) -> (&'a [u8], usize) {
+    let is_cut = match node {
+        Ty::Integer(_) | Ty::Octets(_) | Ty::Text(_, _) | Ty::Time(_, _) => !style.wide,
+        _ => false,
     };
-    let omitted = octets.len().saturating_sub(MOST_SHOWN);
-    if omitted == 0 {
-        return Ok(None);
+    if !is_cut || contents.len() <= MOST_SHOWN {
+        return (contents, 0);
     }
-    let shown = Vec::from_slice(alloc, octets.get(..MOST_SHOWN).unwrap_or(&[]))?;
-    Ok(Some(match value {
-        Value::Text(_) => (Value::Text(shown), omitted),
-        _ => (Value::Octets(shown), omitted),
-    }))
+    let (shown, omitted) = contents.split_at(MOST_SHOWN);
+    (shown, omitted.len())
 }

@@ -11,7 +11,6 @@ use crate::showing_files::Showing;
 use crate::{FileSystem, Form, Line, Reading, Task};
 use std::alloc::Global;
 use std::io::{BufWriter, Write};
-use walking::LeafTypes;
 
 /// Does what a command line asks, and returns the exit status. Results go to `out`, one line for each fault to `err`.
 pub fn run<D: FileSystem, W: Write + Drop, E: Write>(
@@ -87,7 +86,6 @@ fn show<D: FileSystem, W: Write, E: Write>(
             reading,
             form,
             columns,
-            leaf_types: LeafTypes::new(),
         }
         .show_all(out, err),
         Err(fault) => print_no_type(module, name, &fault, err),

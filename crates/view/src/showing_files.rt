@@ -16,7 +16,6 @@ use std::alloc::Global;
 use std::io::Write;
 use std::string::String;
 use types::{Refusal, WellTyped};
-use walking::LeafTypes;
 
 /// What the values of all files are printed by.
 #[derive(Drop)]
@@ -27,7 +26,6 @@ pub struct Showing<'a, D> {
     pub reading: &'a Reading,
     pub form: Form,
     pub columns: Columns,
-    pub leaf_types: LeafTypes,
 }
 
 impl<D: FileSystem> Showing<'_, D> {
@@ -69,7 +67,7 @@ impl<D: FileSystem> Showing<'_, D> {
         let read = read_values(self.alloc, &mut input, hex, &mut values, &mut lines);
         if let Form::Octets(wanted) = self.form {
             if matches!(read, Err(Fault::Refused(_))) {
-                lines.print_octets(wanted, values.begun(), values.at())?;
+                lines.print_octets(wanted, values.begun(), values.at(), false)?;
             }
         }
         if lines.out.flush().is_err() {
@@ -127,7 +125,6 @@ impl<D: FileSystem> Showing<'_, D> {
             name: self.reading.name.as_str(),
             rule: canonical_of(self.reading.from),
             columns: &self.columns,
-            leaf_types: &self.leaf_types,
             wide,
         }
     }

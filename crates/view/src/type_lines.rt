@@ -3,8 +3,9 @@
 use octets::NoMemory;
 use std::alloc::Global;
 use std::string::String;
+use texts::put_value;
 use types::{Alternative, Field, Item, NamedBit, Presence, Ty};
-use walking::{LeafTypes, PrintedTag, name_of, show_leaf};
+use walking::{PrintedTag, name_of};
 
 /// How many levels and nodes a type has.
 #[derive(Clone, Copy, Debug, PartialEq, Eq)]
@@ -131,23 +132,10 @@ fn presence_text(alloc: Global, field: &Field) -> Result<String, NoMemory> {
         Presence::Required => Ok(String::new(alloc)),
         Presence::Optional => Ok(String::from_str(alloc, " OPTIONAL")?),
         Presence::Default(value) => {
-            let before = String::from_str(alloc, " DEFAULT ")?;
-            show_leaf(
-                alloc,
-                &LeafTypes::new(),
-                innermost(&field.ty),
-                value,
-                before,
-            )
+            let mut text = String::from_str(alloc, " DEFAULT ")?;
+            put_value(&field.ty, value, &mut text)?;
+            Ok(text)
         }
-    }
-}
-
-// What explicit tags stand around.
-fn innermost(ty: &Ty) -> &Ty {
-    match ty {
-        Ty::Explicit(_, inner) => innermost(inner),
-        other => other,
     }
 }
 

@@ -26,15 +26,25 @@ pub struct ValueLines<'a, W> {
 }
 
 impl<W: Write> ValueLines<'_, W> {
-    /// Prints the lines of the octets of the value that comes next, refused or not, if they are wanted.
-    pub fn print_octets(&mut self, wanted: Wanted, octets: &[u8], at: u64) -> Result<(), Unwanted> {
+    /// Prints the lines of the octets of the value that comes next, which are taken or refused, if they are wanted.
+    pub fn print_octets(
+        &mut self,
+        wanted: Wanted,
+        octets: &[u8],
+        at: u64,
+        is_taken: bool,
+    ) -> Result<(), Unwanted> {
         let number = self.done.saturating_add(1);
         if wanted.only_refused || wanted.value.is_some_and(|value| value != number) {
             return Ok(());
         }
-        let before = self.emptied();
+        let mut text = self.emptied();
         let style = self.style;
-        let lines = put_lines(self.alloc, self.ty, octets, at, &style, before);
+        let put = put_lines(self.alloc, self.ty, octets, at, is_taken, &style, &mut text);
+        let lines = match put {
+            Ok(()) => Ok(text),
+            Err(refused) => Err(refused),
+        };
         self.write(lines)
     }
 
@@ -78,7 +88,7 @@ impl<W: Write> ValueLines<'_, W> {
 impl<W: Write> Visit for ValueLines<'_, W> {
     fn value(&mut self, octets: &[u8], at: u64, value: Value) -> Result<(), Unwanted> {
         let printed = match self.form {
-            Form::Octets(wanted) => self.print_octets(wanted, octets, at),
+            Form::Octets(wanted) => self.print_octets(wanted, octets, at, true),
             Form::Json { indented } => self.print_json(indented, &value),
         };
         self.done = self.done.saturating_add(1);

@@ -2,17 +2,17 @@
 
 use crate::open::{Due, Held};
 use crate::{Part, Reason, Step, Stop, Walk};
-use contents::{Kind, begins, node_of, not_due, segment_tag};
+use contents::{Kind, begins, is_node, node_of, not_due, segment_tag};
 use octets::Tag;
 use types::{Refusal, Value};
 
 impl<'a> Walk<'a> {
-    // The part that begins with the tag, and its default.
+    // Tells the part that begins with the tag, and returns its default.
     pub(crate) fn due(
         &mut self,
         tag: Tag,
         constructed: bool,
-    ) -> Result<(Part<'a>, Option<&'a Value>), Stop<'a>> {
+    ) -> Result<Option<&'a Value>, Stop<'a>> {
         let at = self.taken;
         let is_bits_end = self.joined.unused != 0;
         let Some(top) = self.open.last_mut() else {
@@ -20,13 +20,14 @@ impl<'a> Walk<'a> {
         };
         if let Held::Segments(kind) = &top.held {
             let kind = *kind;
-            return match segment_refused(kind, tag, constructed, is_bits_end) {
-                Some((refusal, words)) => { Err(Stop::outside(refusal, at, Reason::Words(words))) }
-                None => Ok((segment_of(&top.part, tag), None)),
-            };
+            if let Some((refusal, words)) = segment_refused(kind, tag, constructed, is_bits_end) {
+                return Err(Stop::outside(refusal, at, Reason::Words(words)));
+            }
+            self.line.part = segment_of(&top.part, tag);
+            return Ok(None);
         }
         match top.take_due(tag) {
-            Ok(due) => part_of(due, tag, at),
+            Ok(due) => self.tell_part(due, tag),
             Err(refusal) => {
                 let reason = why_not_due(refusal, tag, top.missing());
                 Err(Stop::outside(refusal, at, reason))
@@ -34,8 +35,8 @@ impl<'a> Walk<'a> {
         }
     }
 
-    // The value itself, if it begins with the tag.
-    fn due_outside(&self, tag: Tag) -> Result<(Part<'a>, Option<&'a Value>), Stop<'a>> {
+    // Tells the value itself, if it begins with the tag.
+    fn due_outside(&mut self, tag: Tag) -> Result<Option<&'a Value>, Stop<'a>> {
         if !begins(self.ty, tag) {
             let refusal = not_due(tag);
             let reason = why_not_due(refusal, tag, None);
@@ -46,28 +47,27 @@ impl<'a> Walk<'a> {
             ty: self.ty,
             default: None,
         };
-        part_of(due, tag, self.taken)
+        self.tell_part(due, tag)
     }
-}
 
-// The part that is due.
-fn part_of<'a>(
-    due: Due<'a>,
-    tag: Tag,
-    at: usize,
-) -> Result<(Part<'a>, Option<&'a Value>), Stop<'a>> {
-    let Due { step, ty, default } = due;
-    match node_of(ty, tag) {
-        Some(node) => Ok((
-            Part {
-                step,
-                ty,
-                node,
-                tag,
-            },
-            default,
-        )),
-        None => Err(Stop::outside(Refusal::Identifier, at, Reason::NotDue(tag))),
+    // Tells the part that is due, which begins with the tag, and returns its default.
+    fn tell_part(&mut self, due: Due<'a>, tag: Tag) -> Result<Option<&'a Value>, Stop<'a>> {
+        let Due { step, ty, default } = due;
+        let node = if is_node(ty) {
+            Some(ty)
+        } else {
+            node_of(ty, tag)
+        };
+        let Some(node) = node else {
+            return Err(Stop::outside(Refusal::Identifier, self.taken, Reason::NotDue(tag)));
+        };
+        self.line.part = Part {
+            step,
+            ty,
+            node,
+            tag,
+        };
+        Ok(default)
     }
 }
 

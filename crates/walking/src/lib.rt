@@ -26,7 +26,7 @@ pub use line::{Line, What};
 pub use note::{NOTES, Note, Notes};
 pub use part::{Part, Step};
 pub use reason::Reason;
-pub use showing::{LeafTypes, show_leaf};
+pub use showing::{put_contents, put_string};
 pub use stop::Stop;
 pub use type_names::{PrintedTag, name_of};
 pub use walk::Walk;

@@ -1,10 +1,9 @@
 //! What an identifier begins.
 
 use crate::{Notes, Part};
-use types::Value;
 
 /// What is told of an encoding at its identifier.
-#[derive(Debug, Drop)]
+#[derive(Clone, Copy, Debug)]
 pub struct Line<'a> {
     /// How many octets of the value stand before it.
     pub at: usize,
@@ -17,20 +16,20 @@ pub struct Line<'a> {
     /// Which part it is.
     pub part: Part<'a>,
     /// What the contents octets are.
-    pub what: What,
+    pub what: What<'a>,
     /// What is not canonical there.
     pub notes: Notes,
 }
 
 /// What contents octets are.
-#[derive(Debug, Drop)]
-pub enum What {
+#[derive(Clone, Copy, Debug)]
+pub enum What<'a> {
     /// Encodings of parts, or segments.
     Parts,
-    /// Those of this value.
-    Leaf(Value),
-    /// Those of a segment: the octets or bits that it has.
-    Segment(Value),
+    /// These, of a value without parts.
+    Leaf(&'a [u8]),
+    /// These, of a segment.
+    Segment(&'a [u8]),
     /// The end-of-contents octets of what holds them.
     End,
 }

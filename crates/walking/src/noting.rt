@@ -1,25 +1,20 @@
 //! What is not canonical at an identifier (X.690 clauses 9 to 11).
 
-use crate::judging::is_spelt_out;
 use crate::opening::Opening;
 use crate::order::order_tag;
-use crate::{Note, Notes, Part, Walk};
+use crate::{Note, Notes, Walk};
 use contents::{Kind, kind_of};
 use cutting::Ends;
 use strict::Canonical;
-use types::{Ty, Value};
+use types::Ty;
 
 // The contents octets of a full segment under CER (X.690 9.2).
 const FULL_SEGMENT: usize = 1_000;
 
 impl<'a> Walk<'a> {
-    // Whether the part stands out of the order of a SET or a SET OF.
-    pub(crate) fn order_note(
-        &mut self,
-        part: Part<'a>,
-        opening: Opening,
-        rest: &'a [u8],
-    ) -> Option<Note> {
+    // Whether the part that is told stands out of the order of a SET or a SET OF.
+    pub(crate) fn order_note(&mut self, opening: &Opening, rest: &[u8]) -> Option<Note> {
+        let part = self.line.part;
         let start = self.taken;
         let rule = self.rule;
         let octets = self.octets;
@@ -51,7 +46,7 @@ impl<'a> Walk<'a> {
     }
 
     // What is not canonical in the head of a constructed encoding.
-    pub(crate) fn form_notes(&self, node: &Ty, opening: Opening) -> Notes {
+    pub(crate) fn form_notes(&self, node: &Ty, opening: &Opening) -> Notes {
         let mut notes = length_notes(opening);
         match (self.rule, opening.contents) {
             (Canonical::Der, None) => notes.add(Note::Indefinite),
@@ -65,24 +60,14 @@ impl<'a> Walk<'a> {
         notes
     }
 
-    // What is not canonical in a primitive encoding.
-    pub(crate) fn leaf_notes(
-        &self,
-        node: &Ty,
-        default: Option<&Value>,
-        opening: Opening,
-        value: &Value,
-        contents: &[u8],
-    ) -> Notes {
+    // What is not canonical in a primitive encoding, but that it spells a default out.
+    pub(crate) fn leaf_notes(&self, node: &Ty, opening: &Opening, contents: &[u8]) -> Notes {
         let mut notes = length_notes(opening);
         if self.rule == Canonical::Cer && contents.len() > FULL_SEGMENT && kind_of(node).is_some() {
             notes.add(Note::OnePiece);
         }
         if let Some(note) = contents_note(node, contents) {
             notes.add(note);
-        }
-        if is_spelt_out(default, value) {
-            notes.add(Note::Default);
         }
         notes
     }
@@ -91,7 +76,7 @@ impl<'a> Walk<'a> {
     pub(crate) fn segment_notes(
         &self,
         node: &Ty,
-        opening: Opening,
+        opening: &Opening,
         contents: &[u8],
         later: &[u8],
     ) -> Notes {
@@ -113,7 +98,7 @@ impl<'a> Walk<'a> {
 }
 
 // Whether there are more length octets than needed.
-fn length_notes(opening: Opening) -> Notes {
+fn length_notes(opening: &Opening) -> Notes {
     let mut notes = Notes::none();
     if let Some(size) = opening.contents {
         if opening.length > fewest_length_octets(size) {
@@ -124,7 +109,7 @@ fn length_notes(opening: Opening) -> Notes {
 }
 
 // How many octets an encoding has.
-fn size_of(opening: Opening, octets: &[u8]) -> usize {
+fn size_of(opening: &Opening, octets: &[u8]) -> usize {
     match opening.contents {
         Some(size) => opening.head().saturating_add(size),
         None => match Ends::new().take(octets) {

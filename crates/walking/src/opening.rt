@@ -1,10 +1,10 @@
 //! Length octets, and whether a part may have them.
 
 use crate::walk::behind;
-use crate::{Part, Reason, Stop, Walk};
+use crate::{Reason, Stop, Walk};
 use contents::{Extent, can_have_length, kind_of, read_extent, unfit};
 use octets::{Length, read_length};
-use types::{Refusal, Ty};
+use types::Refusal;
 use whole::MAX_NESTED;
 
 /// Identifier octets and length octets that have been read.
@@ -28,16 +28,17 @@ impl Opening {
 }
 
 impl<'a> Walk<'a> {
-    // Reads the length octets of a part, behind so many identifier octets.
+    // Reads the length octets of the part that is told, behind so many identifier octets.
     pub(crate) fn opening(
         &self,
-        part: Part<'a>,
         constructed: bool,
         identifier: usize,
         rest: &[u8],
     ) -> Result<Opening, Stop<'a>> {
-        if let Some((refusal, reason)) = self.form_refused(part.node, constructed) {
-            return Err(Stop::of(part, refusal, self.taken, reason));
+        if !self.is_taken {
+            if let Some((refusal, reason)) = self.form_refused(constructed) {
+                return Err(Stop::of(self.line.part, refusal, self.taken, reason));
+            }
         }
         let before = self.taken.saturating_add(identifier);
         let lengths = behind(rest, identifier);
@@ -49,7 +50,7 @@ impl<'a> Walk<'a> {
         ) {
             Ok(Extent::Definite { octets, used }) => (used, Some(octets)),
             Ok(Extent::Indefinite { used }) => (used, None),
-            Err(refusal) => return Err(self.length_refused(part, refusal, before, lengths)),
+            Err(refusal) => return Err(self.length_refused(refusal, before, lengths)),
         };
         let opening = Opening {
             constructed,
@@ -57,12 +58,15 @@ impl<'a> Walk<'a> {
             length,
             contents,
         };
-        self.count_refused(part, opening, rest)?;
+        if !self.is_taken {
+            self.count_refused(&opening, rest)?;
+        }
         Ok(opening)
     }
 
     // Why an encoding of this form is refused.
-    fn form_refused(&self, node: &'a Ty, constructed: bool) -> Option<(Refusal, Reason<'a>)> {
+    fn form_refused(&self, constructed: bool) -> Option<(Refusal, Reason<'a>)> {
+        let node = self.line.part.node;
         let can_be = match (constructed, kind_of(node)) {
             (true, Some(_)) => true,
             (_, _) => constructed != node.has_no_parts(),
@@ -80,14 +84,9 @@ impl<'a> Walk<'a> {
         None
     }
 
-    // Why the length octets of a part are refused.
-    fn length_refused(
-        &self,
-        part: Part<'a>,
-        refusal: Refusal,
-        at: usize,
-        lengths: &[u8],
-    ) -> Stop<'a> {
+    // Why length octets are refused.
+    fn length_refused(&self, refusal: Refusal, at: usize, lengths: &[u8]) -> Stop<'a> {
+        let part = self.line.part;
         if refusal == Refusal::TooLong && !self.is_inside_definite() && !self.is_in_string() {
             if let Length::Definite { octets, .. } = read_length(lengths) {
                 if part.node.has_no_parts() && !can_have_length(part.node, octets) {
@@ -105,7 +104,8 @@ impl<'a> Walk<'a> {
     }
 
     // Refuses a primitive encoding whose type cannot have as many contents octets, or that the input cuts.
-    fn count_refused(&self, part: Part<'a>, opening: Opening, rest: &[u8]) -> Result<(), Stop<'a>> {
+    fn count_refused(&self, opening: &Opening, rest: &[u8]) -> Result<(), Stop<'a>> {
+        let part = &self.line.part;
         let Some(count) = opening.contents else {
             return Ok(());
         };
@@ -114,12 +114,17 @@ impl<'a> Walk<'a> {
         }
         let at = self.taken.saturating_add(opening.identifier);
         if !self.is_in_string() && !can_have_length(part.node, count) {
-            return Err(Stop::of(part, unfit(part.node), at, Reason::Count(part.node, count)));
+            return Err(Stop::of(*part, unfit(part.node), at, Reason::Count(part.node, count)));
         }
         let there = rest.len().saturating_sub(opening.head());
         if count > there {
             let at = self.taken.saturating_add(rest.len());
-            return Err(Stop::of(part, Refusal::Truncated, at, Reason::Missing(count - there)));
+            return Err(Stop::of(
+                *part,
+                Refusal::Truncated,
+                at,
+                Reason::Missing(count - there),
+            ));
         }
         Ok(())
     }

@@ -1,6 +1,7 @@
 //! Which part of what holds it an encoding is, and how it is named.
 
 use contents::begins;
+use itoa::Buffer;
 use octets::{NoMemory, Tag};
 use std::string::String;
 use types::Ty;
@@ -36,7 +37,7 @@ impl Part<'_> {
         match self.step {
             Step::Whole => {}
             Step::Component(name) => put_dotted(name, out)?,
-            Step::Item(number) => write!(out, "[{number}]")?,
+            Step::Item(number) => put_number(number, out)?,
         }
         put_alternatives(self.ty, self.tag, out)
     }
@@ -53,6 +54,14 @@ fn put_alternatives(ty: &Ty, tag: Tag, out: &mut String) -> Result<(), NoMemory>
             return put_alternatives(&alternative.ty, tag, out);
         }
     }
+    Ok(())
+}
+
+fn put_number(number: usize, out: &mut String) -> Result<(), NoMemory> {
+    let mut buffer = Buffer::new();
+    out.push('[')?;
+    out.push_str(buffer.format(number))?;
+    out.push(']')?;
     Ok(())
 }
 

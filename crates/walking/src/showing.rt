@@ -1,106 +1,47 @@
-//! Texts of values without parts.
+//! Texts of contents octets.
 
-use octets::{NoMemory, Tag};
+use crate::judging::value_of;
+use octets::NoMemory;
+use primitives::read_integer;
 use std::alloc::Global;
 use std::string::String;
-use strings::{TextKind, allowed};
-use texts::show_behind;
-use types::{Ty, Value, WellTyped, conforms};
+use texts::{put_bits_before, put_integer, put_octets, put_readable, put_text, put_value};
+use types::{Refusal, Ty};
 
-/// Types without parts, by which values are printed. They are made once, since that is dear.
-#[derive(Drop)]
-pub struct LeafTypes {
-    boolean: Option<WellTyped>,
-    integer: Option<WellTyped>,
-    bits: Option<WellTyped>,
-    octets: Option<WellTyped>,
-    null: Option<WellTyped>,
-    oid: Option<WellTyped>,
-    relative_oid: Option<WellTyped>,
-    text: Option<WellTyped>,
-}
-
-impl LeafTypes {
-    /// The types. Takes no memory.
-    pub fn new() -> LeafTypes {
-        LeafTypes {
-            boolean: WellTyped::new(Ty::Boolean(Tag::universal(1))).ok(),
-            integer: WellTyped::new(Ty::Integer(Tag::universal(2))).ok(),
-            bits: WellTyped::new(Ty::Bits(Tag::universal(3))).ok(),
-            octets: WellTyped::new(Ty::Octets(Tag::universal(4))).ok(),
-            null: WellTyped::new(Ty::Null(Tag::universal(5))).ok(),
-            oid: WellTyped::new(Ty::Oid(Tag::universal(6))).ok(),
-            relative_oid: WellTyped::new(Ty::RelativeOid(Tag::universal(13))).ok(),
-            text: WellTyped::new(Ty::Text(Tag::universal(22), TextKind::Ia5)).ok(),
-        }
-    }
-
-    // A type that the value is of, and that prints it alike.
-    fn of(&self, value: &Value) -> Option<&WellTyped> {
-        let ty = match value {
-            Value::Boolean(_) => &self.boolean,
-            Value::Integer(_) | Value::WideInteger(_) => &self.integer,
-            Value::Bits(_) => &self.bits,
-            Value::Octets(_) => &self.octets,
-            Value::Oid(_) => &self.oid,
-            Value::RelativeOid(_) => &self.relative_oid,
-            Value::Text(_) => &self.text,
-            Value::Null
-            | Value::Enumerated(_)
-            | Value::Fields(_)
-            | Value::Items(_)
-            | Value::Chosen(_, _) => &self.null,
-        };
-        ty.as_ref()
-    }
-}
-
-/// The text `before` and that of a value without parts behind it, as `texts::show` prints it. Octets of a character
-/// string may also be those of a segment.
-pub fn show_leaf(
+/// Appends the text of the value of contents octets, as `texts::show` prints it: nothing where they have no value, but
+/// of a string what `put_string` does, and of an INTEGER the octets.
+pub fn put_contents(
     alloc: Global,
-    types: &LeafTypes,
     node: &Ty,
-    value: &Value,
-    before: String,
-) -> Result<String, NoMemory> {
-    match value {
-        Value::Enumerated(number) => show_item(node, *number, before),
-        Value::Text(octets) if is_shown_as_octets(node, octets) => {
-            let octets = Value::Octets(Vec::from_slice(alloc, octets)?);
-            show_as(alloc, types, &octets, before)
+    contents: &[u8],
+    out: &mut String,
+) -> Result<(), NoMemory> {
+    match node {
+        Ty::Integer(_) => match read_integer(contents) {
+            Some(number) => put_integer(number, out),
+            None => put_octets(contents, out),
+        },
+        Ty::Bits(_) | Ty::Octets(_) | Ty::Text(_, _) | Ty::Time(_, _) => {
+            put_string(node, contents, out)
         }
-        other => show_as(alloc, types, other, before),
+        _ => match value_of(alloc, node, contents) {
+            Ok(value) => put_value(node, &value, out),
+            Err((Refusal::NoMemory, _, _)) => Err(NoMemory),
+            Err(_) => Ok(()),
+        },
     }
 }
 
-// Appends a value as its kind is printed.
-fn show_as(
-    alloc: Global,
-    types: &LeafTypes,
-    value: &Value,
-    before: String,
-) -> Result<String, NoMemory> {
-    match types.of(value) {
-        Some(ty) if conforms(ty.as_type(), value) => show_behind(alloc, ty, value, before),
-        _ => Ok(before),
+/// Appends the text of the contents octets of a string or a segment: of bits all, and of characters or a time what need
+/// not be a whole one.
+pub fn put_string(node: &Ty, contents: &[u8], out: &mut String) -> Result<(), NoMemory> {
+    match node {
+        Ty::Bits(_) | Ty::NamedBits(_, _) => match contents.split_first() {
+            Some((unused, octets)) if *unused <= 7 => put_bits_before(octets, *unused, out),
+            _ => Ok(()),
+        },
+        Ty::Text(_, kind) => put_text(*kind, contents, out),
+        Ty::Time(_, _) => put_readable(contents, out),
+        _ => put_octets(contents, out),
     }
-}
-
-// Appends the name of the item that has the number.
-fn show_item(node: &Ty, number: i128, before: String) -> Result<String, NoMemory> {
-    let mut out = before;
-    if let Ty::Enumerated(_, items) = node {
-        for item in items {
-            if item.number == number {
-                out.push_str(item.name.as_str())?;
-            }
-        }
-    }
-    Ok(out)
-}
-
-// Whether these octets of a character string or a time are printed as octets.
-fn is_shown_as_octets(node: &Ty, octets: &[u8]) -> bool {
-    matches!(node, Ty::Text(_, TextKind::Bmp)) || !allowed(TextKind::Ia5, octets)
 }

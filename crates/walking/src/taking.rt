@@ -1,28 +1,27 @@
 //! Encodings that are taken: one that opens, one of a type without parts, a segment.
 
-use crate::judging::{value_of, why_no_value};
+use crate::judging::{is_spelt_out, value_of, why_no_value};
 use crate::open::{Held, Open};
 use crate::opening::Opening;
 use crate::walk::behind;
-use crate::{Line, Notes, Part, Reason, Stop, Walk, What};
+use crate::{Note, Notes, Reason, Stop, Walk, What};
 use contents::{Frame, Kind, holding_of, kind_of};
 use octets::NoMemory;
 use primitives::read_bits;
-use types::{Refusal, Ty, Value};
+use types::{Refusal, Value};
 
 impl<'a> Walk<'a> {
     // Opens a constructed encoding.
     pub(crate) fn open_part(
         &mut self,
-        part: Part<'a>,
         default: Option<&'a Value>,
-        opening: Opening,
-        rest: &'a [u8],
-    ) -> Result<Line<'a>, Stop<'a>> {
+        opening: &Opening,
+        rest: &[u8],
+    ) -> Result<(), Stop<'a>> {
         let at = self.taken;
-        let notes = self.form_notes(part.node, opening);
-        let line = self.line(part, opening, What::Parts, notes, rest);
-        let opened = self.opened(part, default, opening);
+        let notes = self.form_notes(self.line.part.node, opening);
+        self.tell(opening, What::Parts, notes, rest);
+        let opened = self.opened(default, opening);
         let Ok(Some(opened)) = opened else {
             return Err(Stop::no_memory(at));
         };
@@ -30,16 +29,16 @@ impl<'a> Walk<'a> {
             return Err(Stop::no_memory(at));
         }
         self.taken = at.saturating_add(opening.head());
-        Ok(line)
+        Ok(())
     }
 
     // The encoding as it opens.
     fn opened(
         &self,
-        part: Part<'a>,
         default: Option<&'a Value>,
-        opening: Opening,
+        opening: &Opening,
     ) -> Result<Option<Open<'a>>, NoMemory> {
+        let part = self.line.part;
         let held = match kind_of(part.node) {
             Some(kind) => Held::Segments(kind),
             None => match holding_of(self.alloc, part.node)? {
@@ -72,104 +71,94 @@ impl<'a> Walk<'a> {
     // Takes the contents octets of a primitive encoding.
     pub(crate) fn leaf(
         &mut self,
-        part: Part<'a>,
         default: Option<&'a Value>,
-        opening: Opening,
+        opening: &Opening,
         rest: &'a [u8],
-    ) -> Result<Line<'a>, Stop<'a>> {
+    ) -> Result<(), Stop<'a>> {
         let start = opening.head();
         let stop = start.saturating_add(opening.contents.unwrap_or(0));
         let contents = rest.get(start..stop).unwrap_or(&[]);
-        let at = self.taken;
         if self.is_in_string() {
-            return self.segment(part, opening, contents, rest);
+            return self.segment(opening, contents, behind(rest, stop));
         }
-        let value = match value_of(self.alloc, part.node, contents) {
-            Ok(value) => value,
-            Err((refusal, place, reason)) => {
-                let at = at.saturating_add(start).saturating_add(place);
-                return Err(Stop::of(part, refusal, at, reason));
+        let mut notes = self.leaf_notes(self.line.part.node, opening, contents);
+        if default.is_some() || !self.is_taken {
+            let value = self.value(start, contents)?;
+            if is_spelt_out(default, &value) {
+                notes.add(Note::Default);
             }
-        };
-        let notes = self.leaf_notes(part.node, default, opening, &value, contents);
-        let line = self.line(part, opening, What::Leaf(value), notes, rest);
-        self.taken = at.saturating_add(stop);
+        }
+        self.tell(opening, What::Leaf(contents), notes, rest);
+        self.taken = self.taken.saturating_add(stop);
         self.is_over = self.open.is_empty();
-        Ok(line)
+        Ok(())
     }
 
-    // Takes a primitive segment.
+    // The value of the contents octets of the part that is told, whose head has so many octets.
+    fn value(&self, head: usize, contents: &[u8]) -> Result<Value, Stop<'a>> {
+        let part = self.line.part;
+        match value_of(self.alloc, part.node, contents) {
+            Ok(value) => Ok(value),
+            Err((refusal, place, reason)) => {
+                let at = self.taken.saturating_add(head).saturating_add(place);
+                Err(Stop::of(part, refusal, at, reason))
+            }
+        }
+    }
+
+    // Takes a primitive segment, behind which `later` stands.
     fn segment(
         &mut self,
-        part: Part<'a>,
-        opening: Opening,
-        contents: &[u8],
-        rest: &'a [u8],
-    ) -> Result<Line<'a>, Stop<'a>> {
-        let at = self.taken;
-        let stop = opening.head().saturating_add(contents.len());
-        let notes = self.segment_notes(part.node, opening, contents, behind(rest, stop));
-        let value = match self.join(part, contents) {
-            Ok(value) => value,
-            Err((refusal, reason)) => {
-                return Err(Stop::of(part, refusal, at.saturating_add(opening.head()), reason));
-            }
-        };
+        opening: &Opening,
+        contents: &'a [u8],
+        later: &[u8],
+    ) -> Result<(), Stop<'a>> {
+        let start = self.taken.saturating_add(opening.head());
+        let part = self.line.part;
+        let notes = self.segment_notes(part.node, opening, contents, later);
+        if let Err((refusal, reason)) = self.join(contents) {
+            return Err(Stop::of(part, refusal, start, reason));
+        }
         if let Some(top) = self.open.last_mut() {
             top.count = top.count.saturating_add(1);
         }
-        let line = self.line(part, opening, What::Segment(value), notes, &[]);
-        self.taken = at.saturating_add(stop);
-        Ok(line)
+        self.tell(opening, What::Segment(contents), notes, &[]);
+        self.taken = start.saturating_add(contents.len());
+        Ok(())
     }
 
-    // Appends a segment to the string, and returns what it has.
-    fn join(&mut self, part: Part<'a>, contents: &[u8]) -> Result<Value, (Refusal, Reason<'a>)> {
-        let octets = match kind_of(part.node) {
-            Some(Kind::Bits) => match read_bits(self.alloc, contents) {
+    // Appends a segment to the string.
+    fn join(&mut self, contents: &[u8]) -> Result<(), (Refusal, Reason<'a>)> {
+        let node = self.line.part.node;
+        if kind_of(node) == Some(Kind::Bits) {
+            return match read_bits(self.alloc, contents) {
                 Ok(bits) => {
                     self.joined.unused = bits.unused();
-                    return Ok(Value::Bits(bits));
+                    Ok(())
                 }
                 Err(fault) => {
-                    let (_, reason) = why_no_value(part.node, contents);
-                    return Err((Refusal::from(fault), reason));
+                    let (_, reason) = why_no_value(node, contents);
+                    Err((Refusal::from(fault), reason))
                 }
-            },
-            _ => contents,
-        };
-        let no_memory = (Refusal::NoMemory, Reason::Words("memory ran out"));
-        if self.joined.octets.extend_from_slice(octets).is_err() {
-            return Err(no_memory);
+            };
         }
-        match Vec::from_slice(self.alloc, octets) {
-            Ok(octets) if matches!(part.node, Ty::Octets(_)) => Ok(Value::Octets(octets)),
-            Ok(octets) => Ok(Value::Text(octets)),
-            Err(_) => Err(no_memory),
+        match self.joined.octets.extend_from_slice(contents) {
+            Ok(()) => Ok(()),
+            Err(_) => Err((Refusal::NoMemory, Reason::Words("memory ran out"))),
         }
     }
 
-    // The line of a part, with what its place in a SET or a SET OF says.
-    fn line(
-        &mut self,
-        part: Part<'a>,
-        opening: Opening,
-        what: What,
-        notes: Notes,
-        rest: &'a [u8],
-    ) -> Line<'a> {
+    // Tells what stands here, besides the part, with what its place in a SET or a SET OF says.
+    fn tell(&mut self, opening: &Opening, what: What<'a>, notes: Notes, rest: &[u8]) {
         let mut notes = notes;
-        if let Some(note) = self.order_note(part, opening, rest) {
+        if let Some(note) = self.order_note(opening, rest) {
             notes.add(note);
         }
-        Line {
-            at: self.taken,
-            depth: self.open.len(),
-            head: opening.head(),
-            contents: opening.contents,
-            part,
-            what,
-            notes,
-        }
+        self.line.at = self.taken;
+        self.line.depth = self.open.len();
+        self.line.head = opening.head();
+        self.line.contents = opening.contents;
+        self.line.what = what;
+        self.line.notes = notes;
     }
 }

@@ -26,23 +26,48 @@ pub struct Walk<'a> {
     pub(crate) open: Vec<Open<'a>>,
     // the string whose segments come
     pub(crate) joined: Joined,
+    // whether a reader has taken the octets, so that what it has judged need not be judged here
+    pub(crate) is_taken: bool,
     pub(crate) is_over: bool,
+    pub(crate) line: Line<'a>,
 }
 
 impl<'a> Walk<'a> {
-    /// A walk over the encoding of a value of the type at the front of the octets. What is not canonical is said by
-    /// the rule. Takes no memory now.
-    pub fn new(alloc: Global, rule: Canonical, ty: &'a WellTyped, octets: &'a [u8]) -> Walk<'a> {
+    /// A walk over the encoding of a value of the type at the front of the octets. Where a reader of BER has taken them,
+    /// what it has judged is not judged again. What is not canonical is said by the rule. Takes no memory now.
+    pub fn new(
+        alloc: Global,
+        rule: Canonical,
+        ty: &'a WellTyped,
+        octets: &'a [u8],
+        is_taken: bool,
+    ) -> Walk<'a> {
+        let ty = ty.as_type();
         Walk {
             alloc,
-            ty: ty.as_type(),
+            ty,
             rule,
             octets,
             taken: 0,
             open: Vec::new(alloc),
             joined: Joined::new(alloc),
+            is_taken,
             is_over: false,
+            line: Line {
+                at: 0,
+                depth: 0,
+                head: 0,
+                contents: Some(0),
+                part: end_of(ty),
+                what: What::End,
+                notes: Notes::none(),
+            },
         }
+    }
+
+    /// What stands at the identifier to which `next_line` has gone.
+    pub fn line(&self) -> &Line<'a> {
+        &self.line
     }
 
     /// How many octets have been walked over.
@@ -72,11 +97,12 @@ impl<'a> Walk<'a> {
         self.open.len()
     }
 
-    /// The next identifier, or the end of an indefinite form; None behind the end of the value.
-    pub fn next_line(&mut self) -> Result<Option<Line<'a>>, Stop<'a>> {
+    /// Goes to the next identifier, or the end of an indefinite form, of which `line` tells then. False behind the end
+    /// of the value.
+    pub fn next_line(&mut self) -> Result<bool, Stop<'a>> {
         self.close_definite()?;
         if self.is_over {
-            return Ok(None);
+            return Ok(false);
         }
         let rest = behind(self.octets, self.taken);
         let ended = match self.open.last() {
@@ -87,12 +113,13 @@ impl<'a> Walk<'a> {
             None => None,
         };
         match ended {
-            Some(used) => self.end(used),
+            Some(used) => self.end(used)?,
             None => match self.part(rest) {
-                Ok(line) => Ok(Some(line)),
-                Err(stop) => Err(stop.named(self.is_inside_definite())),
+                Ok(()) => {}
+                Err(stop) => return Err(stop.named(self.is_inside_definite())),
             },
         }
+        Ok(true)
     }
 
     // Why the end of an indefinite form is none.
@@ -108,7 +135,7 @@ impl<'a> Walk<'a> {
 
     // Closes the encodings of the definite form that end here.
     fn close_definite(&mut self) -> Result<(), Stop<'a>> {
-        for _ in 0..=MAX_NESTED {
+        for _ in 0..MAX_NESTED {
             let Some(top) = self.open.last() else {
                 return Ok(());
             };
@@ -121,27 +148,22 @@ impl<'a> Walk<'a> {
     }
 
     // Takes the end-of-contents octets of the innermost open encoding.
-    fn end(&mut self, used: usize) -> Result<Option<Line<'a>>, Stop<'a>> {
+    fn end(&mut self, used: usize) -> Result<(), Stop<'a>> {
         let Some(top) = self.open.last() else {
-            return Ok(None);
+            return Ok(());
         };
-        let line = Line {
+        self.line = Line {
             at: self.taken,
             depth: self.open.len(),
             head: used,
             contents: Some(0),
-            part: Part {
-                step: Step::Whole,
-                ty: top.part.node,
-                node: top.part.node,
-                tag: Tag::universal(0),
-            },
+            part: end_of(top.part.node),
             what: What::End,
             notes: Notes::none(),
         };
         self.close()?;
         self.taken = self.taken.saturating_add(used);
-        Ok(Some(line))
+        Ok(())
     }
 
     // Closes the innermost open encoding.
@@ -152,6 +174,9 @@ impl<'a> Walk<'a> {
         };
         if self.open.is_empty() {
             self.is_over = true;
+        }
+        if self.is_taken && matches!(open.held, Held::Parts(_)) {
+            return Ok(());
         }
         let missing = open.missing();
         let part = open.part;
@@ -203,7 +228,7 @@ impl<'a> Walk<'a> {
     }
 
     // Takes the part whose identifier stands at the front.
-    fn part(&mut self, rest: &'a [u8]) -> Result<Line<'a>, Stop<'a>> {
+    fn part(&mut self, rest: &'a [u8]) -> Result<(), Stop<'a>> {
         let (tag, constructed, identifier) = match read_head_tag(
             self.end_inside(),
             self.taken,
@@ -212,12 +237,12 @@ impl<'a> Walk<'a> {
             Ok(read) => read,
             Err(refusal) => return Err(self.no_identifier(refusal)),
         };
-        let (part, default) = self.due(tag, constructed)?;
-        let opening = self.opening(part, constructed, identifier, rest)?;
+        let default = self.due(tag, constructed)?;
+        let opening = self.opening(constructed, identifier, rest)?;
         if opening.constructed {
-            self.open_part(part, default, opening, rest)
+            self.open_part(default, &opening, rest)
         } else {
-            self.leaf(part, default, opening, rest)
+            self.leaf(default, &opening, rest)
         }
     }
 
@@ -229,6 +254,16 @@ impl<'a> Walk<'a> {
                 "malformed identifier octets, or a tag number above 268,435,455 (the limit is asn1x's own)",
         };
         Stop::outside(refusal, self.taken, Reason::Words(words))
+    }
+}
+
+// The end-of-contents octets of a type's encoding.
+fn end_of(node: &Ty) -> Part<'_> {
+    Part {
+        step: Step::Whole,
+        ty: node,
+        node,
+        tag: Tag::universal(0),
     }
 }
 
