@@ -21,6 +21,8 @@ mod enumerated;
 #[cfg(test)]
 mod faults_in_one;
 #[cfg(test)]
+mod in_turn;
+#[cfg(test)]
 mod library_use;
 #[cfg(test)]
 mod many_parts;
