@@ -62,6 +62,11 @@ impl Bits {
         self.unused
     }
 
+    /// The vector in which the octets are.
+    pub fn into_octets(self) -> Vec<u8> {
+        self.octets
+    }
+
     /// Whether there are no bits, or the last one is 1 (X.690 11.2.2). Takes no memory.
     pub fn is_trimmed(&self) -> bool
         ensures { IsTrue result ↔ IsTrimmed self.now }
@@ -139,10 +144,20 @@ pub fn read_bits(alloc: Global, contents: &[u8]) -> Result<Bits, Fault>
     ensures value { IfOk result (λ bits. IsBits ber bits contents.now) }
     ensures none { IsErrOf result Fault.Contents → (bits : List Bool) → ¬ IsBits ber bits contents.now }
 {
+    read_bits_in(Vec::new(alloc), contents)
+}
+
+/// The value that `read_bits` returns, in the room of a vector, whose octets are dropped.
+pub fn read_bits_in(room: Vec<u8>, contents: &[u8]) -> Result<Bits, Fault>
+    ensures value { IfOk result (λ bits. IsBits ber bits contents.now) }
+    ensures none { IsErrOf result Fault.Contents → (bits : List Bool) → ¬ IsBits ber bits contents.now }
+{
     let Some((&unused, data)) = contents.split_first() else {
         return Err(Fault::Contents);
     };
-    let octets = Vec::from_slice(alloc, data)?;
+    let mut octets = room;
+    octets.clear();
+    octets.extend_from_slice(data)?;
     Bits::new(octets, unused).ok_or(Fault::Contents)
 }
 

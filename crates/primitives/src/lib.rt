@@ -13,7 +13,7 @@ mod null;
 mod oid;
 mod subidentifier;
 
-pub use bits::{Bits, put_bits, read_bits};
+pub use bits::{Bits, put_bits, read_bits, read_bits_in};
 pub use boolean::{put_boolean, read_boolean};
 pub use fault::Fault;
 pub use integer::{is_wide_integer, put_integer, read_integer};
@@ -24,7 +24,7 @@ pub use laws::{
     one_relative_oid_value,
 };
 pub use null::{put_null, read_null};
-pub use oid::{put_oid, put_relative_oid, read_oid, read_relative_oid};
+pub use oid::{put_oid, put_relative_oid, read_oid, read_oid_into, read_relative_oid};
 
 /// The most subidentifiers of one value.
 pub const MAX_SUBIDENTIFIERS: usize = 128;

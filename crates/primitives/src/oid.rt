@@ -17,12 +17,24 @@ pub fn read_oid(alloc: Global, contents: &[u8]) -> Result<Vec<u128>, Fault>
     ensures within { IfOk result (λ arcs. IsOidValue arcs.items) }
     ensures none { IsErrOf result Fault.Contents → (arcs : List ℕ) → IsOidValue arcs → ¬ IsOid arcs contents.now }
 {
-    let mut arcs = read_relative_oid(alloc, contents)?;
+    let mut arcs = Vec::new(alloc);
+    read_oid_into(contents, &mut arcs)?;
+    Ok(arcs)
+}
+
+/// Puts the arcs of an OBJECT IDENTIFIER's contents octets into the vector in place of those in it, where they have
+/// room if it has. Where the octets are refused, it may hold any numbers.
+pub fn read_oid_into(contents: &[u8], arcs: &mut Vec<u128>) -> Result<(), Fault>
+    ensures value { OnOk result (IsOid arcs.new.items contents.now) }
+    ensures within { OnOk result (IsOidValue arcs.new.items) }
+    ensures none { IsErrOf result Fault.Contents → (arcs : List ℕ) → IsOidValue arcs → ¬ IsOid arcs contents.now }
+{
+    read_subidentifiers(contents, arcs)?;
     let shared = arcs[0];
     let first = first_arc(shared);
     arcs[0] = shared - 40 * first;
     arcs.insert(0, first)?;
-    Ok(arcs)
+    Ok(())
 }
 
 // The first arc of the two that share a subidentifier.
@@ -45,6 +57,17 @@ pub fn read_relative_oid(alloc: Global, contents: &[u8]) -> Result<Vec<u128>, Fa
     ensures none { IsErrOf result Fault.Contents → (arcs : List ℕ) → IsRelativeOidValue arcs → ¬ IsRelativeOid arcs contents.now }
 {
     let mut arcs = Vec::new(alloc);
+    read_subidentifiers(contents, &mut arcs)?;
+    Ok(arcs)
+}
+
+// Puts the subidentifiers of contents octets into the vector in place of the numbers in it.
+fn read_subidentifiers(contents: &[u8], arcs: &mut Vec<u128>) -> Result<(), Fault>
+    ensures value { OnOk result (IsRelativeOid arcs.new.items contents.now) }
+    ensures within { OnOk result (IsRelativeOidValue arcs.new.items) }
+    ensures none { IsErrOf result Fault.Contents → (arcs : List ℕ) → IsRelativeOidValue arcs → ¬ IsRelativeOid arcs contents.now }
+{
+    arcs.clear();
     let mut start = 0usize;
     while start < contents.len() {
         if arcs.len() == MAX_SUBIDENTIFIERS {
@@ -59,7 +82,7 @@ pub fn read_relative_oid(alloc: Global, contents: &[u8]) -> Result<Vec<u128>, Fa
     if arcs.is_empty() {
         return Err(Fault::Contents);
     }
-    Ok(arcs)
+    Ok(())
 }
 
 /// Appends the contents octets of an OBJECT IDENTIFIER.

@@ -1,6 +1,6 @@
 use Rattle.std.proofs.Common.{length, ◌-◌}
 use Rattle.primitives.proofs.OidLemmas.{AreRead}
-use Rattle.primitives.proofs.oid.read_relative_oid.Given as goal
+use Rattle.primitives.proofs.oid.read_subidentifiers.Given as goal
 
 abbrev pub invariant-loop-start : goal.invariant-loop-start
 invariant-loop-start l = AreRead l.contents l.start l.arcs.items

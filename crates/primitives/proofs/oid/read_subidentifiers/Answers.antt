@@ -4,10 +4,10 @@ use Rattle.octets.specs.Base128.{IsBase128}
 use Rattle.octets.specs.Front.{HasFront}
 use Rattle.primitives.specs.Oid.{IsReadSubidentifier}
 use Rattle.primitives.proofs.OidLemmas.{AreRead, AreRead-none, AreRead-more, no_subidentifiers-many, no_subidentifiers-bad}
-use Rattle.primitives.proofs.oid.read_relative_oid.Goals as goal
+use Rattle.primitives.proofs.oid.read_subidentifiers.Goals as goal
 
 pub loop-start-init : goal.loop-start-init
-loop-start-init c = subst (AreRead c.args.contents.now 0) (sym c.new-arcs.ensures.items) (AreRead-none c.args.contents.now)
+loop-start-init c = subst (AreRead c.args.contents.now 0) (sym c.clear.ensures.items) (AreRead-none c.args.contents.now)
 
 pub returns-then-len-eq-MAX_SUBIDENTIFIERS-clause-none : goal.returns-then-len-eq-MAX_SUBIDENTIFIERS-clause-none
 returns-then-len-eq-MAX_SUBIDENTIFIERS-clause-none c = λ refused arcs within spelt.
