@@ -72,7 +72,7 @@ pub fn node_of<'a>(ty: &'a Ty, tag: Tag) -> Option<&'a Ty>
     node_of(&alternative.ty, tag)
 }
 
-/// The same (`node_of`), where encodings of the type can begin with the tag: only a CHOICE is looked into.
+/// The node that `node_of` finds, where encodings of the type can begin with the tag: only a CHOICE is looked into.
 /// Takes no memory.
 pub fn node_within<'a>(ty: &'a Ty, tag: Tag) -> Option<&'a Ty>
     requires { Contains (first_tags (ty_view ty.now)) tag }

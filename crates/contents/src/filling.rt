@@ -9,7 +9,9 @@ ghost use Rattle.contents.specs.Contents.{IsEnumerated, IsFilled};
 
 use crate::contents::read_contents;
 use octets::Tag;
-use primitives::{is_wide_integer, read_bits, read_boolean, read_integer, read_oid};
+use primitives::{
+    is_wide_integer, read_bits_in, read_boolean, read_integer, read_oid, read_oid_into,
+};
 use std::alloc::Global;
 use strings::{TextKind, TimeKind, allowed, is_time};
 use types::{Ty, Value, conforms};
@@ -55,7 +57,7 @@ pub fn fill(alloc: Global, ty: &Ty, contents: &[u8], slot: &mut Option<Value>) -
     }
 }
 
-// The same of an INTEGER past 128 bits.
+// Fills the slot with an INTEGER past 128 bits.
 #[inline(never)]
 fn fill_wide_integer(alloc: Global, tag: Tag, contents: &[u8], slot: &mut Option<Value>) -> bool
     ensures { IsTrue result → IsFilled ber (Shape.simple tag SimpleType.integer) contents.now slot.new }
@@ -75,7 +77,7 @@ fn fill_wide_integer(alloc: Global, tag: Tag, contents: &[u8], slot: &mut Option
     }
 }
 
-// The same of an OCTET STRING.
+// Fills the slot with an OCTET STRING.
 #[inline(never)]
 fn fill_octets(alloc: Global, tag: Tag, contents: &[u8], slot: &mut Option<Value>) -> bool
     ensures { IsTrue result → IsFilled ber (Shape.string tag StringType.octet_string) contents.now slot.new }
@@ -92,7 +94,7 @@ fn fill_octets(alloc: Global, tag: Tag, contents: &[u8], slot: &mut Option<Value
     }
 }
 
-// The same of a character string.
+// Fills the slot with a character string.
 #[inline(never)]
 fn fill_text(
     alloc: Global,
@@ -118,7 +120,7 @@ fn fill_text(
     }
 }
 
-// The same of a time.
+// Fills the slot with a time.
 #[inline(never)]
 fn fill_time(
     alloc: Global,
@@ -152,11 +154,14 @@ fn refill(octets: &mut Vec<u8>, contents: &[u8]) -> bool
     octets.extend_from_slice(contents).is_ok()
 }
 
-// The same of an OBJECT IDENTIFIER.
+// Fills the slot with an OBJECT IDENTIFIER.
 #[inline(never)]
 fn fill_oid(alloc: Global, tag: Tag, contents: &[u8], slot: &mut Option<Value>) -> bool
     ensures { IsTrue result → IsFilled ber (Shape.simple tag SimpleType.oid) contents.now slot.new }
 {
+    if let Some(Value::Oid(arcs)) = slot {
+        return read_oid_into(contents, arcs).is_ok();
+    }
     match read_oid(alloc, contents) {
         Ok(arcs) => {
             *slot = Some(Value::Oid(arcs));
@@ -166,12 +171,17 @@ fn fill_oid(alloc: Global, tag: Tag, contents: &[u8], slot: &mut Option<Value>) 
     }
 }
 
-// The same of a BIT STRING.
+// Fills the slot with a BIT STRING.
 #[inline(never)]
 fn fill_bits(alloc: Global, tag: Tag, contents: &[u8], slot: &mut Option<Value>) -> bool
     ensures { IsTrue result → IsFilled ber (Shape.string tag StringType.bit_string) contents.now slot.new }
 {
-    match read_bits(alloc, contents) {
+    let room = match slot.take() {
+        Some(Value::Bits(bits)) => bits.into_octets(),
+        Some(_other) => Vec::new(alloc),
+        None => Vec::new(alloc),
+    };
+    match read_bits_in(room, contents) {
         Ok(bits) => {
             *slot = Some(Value::Bits(bits));
             true
@@ -180,7 +190,7 @@ fn fill_bits(alloc: Global, tag: Tag, contents: &[u8], slot: &mut Option<Value>)
     }
 }
 
-// The same of an ENUMERATED.
+// Fills the slot with an ENUMERATED.
 #[inline(never)]
 fn fill_item(ty: &Ty, contents: &[u8], slot: &mut Option<Value>) -> bool
     requires { IsEnumerated ty.now }
@@ -197,7 +207,7 @@ fn fill_item(ty: &Ty, contents: &[u8], slot: &mut Option<Value>) -> bool
     true
 }
 
-// The same of any type.
+// Fills the slot with a value of any type without parts.
 #[inline(never)]
 fn fill_any(alloc: Global, ty: &Ty, contents: &[u8], slot: &mut Option<Value>) -> bool
     requires { IsLeaf (ty_view ty.now) }

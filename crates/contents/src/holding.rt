@@ -147,8 +147,9 @@ impl<'a> Holding<'a> {
     }
 }
 
-// The one type that parts may have, if its encodings can begin with the tag.
-fn only_due<'a>(ty: &'a Ty, tag: Tag) -> Result<(usize, &'a Ty), Refusal>
+/// The one type that parts may have, if its encodings can begin with the tag. Refused as `not_due` says. Takes no
+/// memory.
+pub fn only_due<'a>(ty: &'a Ty, tag: Tag) -> Result<(usize, &'a Ty), Refusal>
     ensures value { IfOk result (λ p. (ty_view ty.now ≡ ty_view p.1.now)
         × Contains (first_tags (ty_view p.1.now)) tag) }
     ensures never { IfErr result (λ refusal. (type : Shape) →
@@ -169,8 +170,11 @@ fn rest<'a>(fields: &'a [Field], count: usize) -> &'a [Field]
     &fields[count.min(fields.len())..]
 }
 
-// The component that begins with the tag, if those before it may be absent.
-fn next_due<'a>(left: &'a [Field], tag: Tag) -> Result<(usize, &'a Ty), Refusal>
+/// Which of the components that are left in a SEQUENCE begins with the tag, if those before it may be absent.
+///
+/// Refused with `Missing` where one may not be, with `Identifier` behind the last component, and else as `not_due`
+/// says. Takes no memory.
+pub fn next_due<'a>(left: &'a [Field], tag: Tag) -> Result<(usize, &'a Ty), Refusal>
     ensures value { IfOk result (λ p. IsNextOf (map field_view left.now) p.0 (ty_view p.1.now)
         × Contains (first_tags (ty_view p.1.now)) tag) }
     ensures never { IfErr result (λ refusal. (which : ℕ) (type : Shape) →
@@ -239,7 +243,7 @@ fn grow(values: &mut Vec<Value>) -> Result<(), NoMemory>
     Ok(())
 }
 
-// The same values in no more room than they need. A call of its own, since few lists are fitted.
+// The values in no more room than they need. A call of its own, since few lists are fitted.
 #[inline(never)]
 fn fit(values: Vec<Value>) -> Vec<Value>
     ensures { result.items ≡ values.items }

@@ -52,8 +52,11 @@ pub fn seats_of<'a>(alloc: Global, fields: &'a [Field]) -> Result<Vec<Seat<'a>>,
     Ok(seats)
 }
 
-// Which component begins with the tag. Components that come in order are found at once, and so are those that
-// come in reverse.
+/// Which component that has not come begins with the tag. Components that come in order are found at once, and so are
+/// those that come in reverse. `behind` is the place behind the component that came last.
+///
+/// Refused with `Repeated` where it has come, with `Identifier` where all have, and else as `not_due` says. Takes no
+/// memory.
 pub fn seat_due<'a>(seats: &[Seat<'a>], behind: usize, tag: Tag) -> Result<(usize, &'a Ty), Refusal>
     ensures value { IfOk result (λ p. IsVacant (map seat_view seats.now) p.0 (ty_view p.1.now)
         × Contains (first_tags (ty_view p.1.now)) tag) }

@@ -37,16 +37,12 @@ pub fn take_slots(
     empty_slots(alloc, fields)
 }
 
-/// A list without items, in the room of the one that the slot holds, if it does. Takes no memory.
-pub fn take_list(alloc: Global, slot: &mut Option<Value>) -> Vec<Value>
-    ensures { result.items ≡ [] }
-{
-    let mut items = Vec::new(alloc);
-    if let Some(Value::Items(old)) = slot {
-        std::mem::swap(old, &mut items);
-        items.clear();
+/// Takes out the items that the slot holds, if it does; else there are none. Takes no memory.
+pub fn take_list(alloc: Global, slot: &mut Option<Value>) -> Vec<Value> {
+    match slot {
+        Some(Value::Items(items)) => std::mem::replace(items, Vec::new(alloc)),
+        _ => Vec::new(alloc),
     }
-    items
 }
 
 /// Takes out the value of an alternative that the slot holds, if it does, and leaves its box there.
