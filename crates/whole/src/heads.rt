@@ -39,7 +39,7 @@ pub fn primitive(tag: Tag, octets: &[u8]) -> Option<(&[u8], usize)>
     long_primitive(tag, octets)
 }
 
-// The same, whatever stands before them.
+// The contents octets of a primitive encoding and its end, whatever its identifier and length are.
 #[inline(never)]
 fn long_primitive(tag: Tag, octets: &[u8]) -> Option<(&[u8], usize)>
     ensures { IfSome result (λ p. IsPrimitiveAt tag octets.now p.0.now p.1) }
@@ -85,7 +85,7 @@ pub fn opened(tag: Tag, octets: &[u8]) -> Option<Inside<'_>>
     long_opened(tag, octets)
 }
 
-// The same, whatever stands before it.
+// What is inside a constructed encoding, whatever its identifier and length are.
 #[inline(never)]
 fn long_opened(tag: Tag, octets: &[u8]) -> Option<Inside<'_>>
     ensures { IfSome result (λ inside. IsOpened tag octets.now inside) }

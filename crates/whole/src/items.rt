@@ -1,22 +1,21 @@
 //! Items of a SEQUENCE OF or SET OF, in the order in which they stand (X.690 8.10 and 8.12).
 
-ghost use Rattle.std.specs.Prelude.{◌≡◌, ◌<◌, vec_len, vec_capacity, None, IfSome, IsTrue};
+ghost use Rattle.std.specs.Prelude.{◌≡◌, None, IfSome};
 ghost use Rattle.types.specs.FirstTags.{IsUsable};
 ghost use Rattle.types.specs.Shape.{Shape};
 ghost use Rattle.types.specs.View.{ty_view};
 ghost use Rattle.contents.specs.Parts.{IsGoodType};
 ghost use Rattle.whole.specs.Reading.{IsRead, IsItemRead, AreMoreItemsRead};
+ghost use Rattle.whole.specs.Renewed.{new_items};
 
 use crate::heads::{ends_at, opened};
 use crate::places::Places;
 use crate::reading::{fill, read_alternative, read_one};
+use crate::renewed::Renewed;
 use contents::take_list;
 use octets::Tag;
 use std::alloc::Global;
 use types::{Ty, Value};
-
-/// A list of so many items is a long one.
-const LONG: usize = 4096;
 
 // Reads a SEQUENCE OF or SET OF at the front into the slot.
 #[cycle(reading)]
@@ -38,17 +37,26 @@ pub fn read_list(
     if levels == 0 {
         return None;
     }
-    let mut items = take_list(alloc, slot);
-    let used = read_items(
+    let mut list = Renewed::over(old_items(alloc, inner, slot));
+    let used = fill_list(
         alloc,
         inner,
         levels - 1,
         inside.octets,
         inside.definite,
-        &mut items,
+        &mut list,
     );
-    fill(slot, Value::Items(items));
+    fill(slot, Value::Items(list.into_items()));
     inside.close(octets, used)
+}
+
+// The items of the list that the slot holds: of a type whose values have room to give, or, emptied, of any other.
+fn old_items(alloc: Global, ty: &Ty, slot: &mut Option<Value>) -> Vec<Value> {
+    let mut items = take_list(alloc, slot);
+    if let Ty::Boolean(_) | Ty::Integer(_) | Ty::Enumerated(_, _) | Ty::Null(_) = ty {
+        items.clear();
+    }
+    items
 }
 
 /// Appends the items at the front of `octets` that are read at once, and returns how many octets they have. It goes as
@@ -56,7 +64,6 @@ pub fn read_list(
 /// or has a constructed string, of which it takes nothing.
 ///
 /// Takes memory as the items do; where there is too little it ends.
-#[cycle(reading)]
 pub fn read_items(
     alloc: Global,
     inner: &Ty,
@@ -68,12 +75,31 @@ pub fn read_items(
     requires { IsGoodType (ty_view inner.now) }
     ensures { AreMoreItemsRead levels (ty_view inner.now) octets.now items.old.items items.new.items result }
 {
-    let before = items.len();
+    let mut list = Renewed::behind(std::mem::replace(items, Vec::new(alloc)));
+    let used = fill_list(alloc, inner, levels, octets, definite, &mut list);
+    *items = list.into_items();
+    used
+}
+
+// Puts the items at the front of `octets` into the list, and returns how many octets they have.
+#[cycle(reading)]
+fn fill_list(
+    alloc: Global,
+    inner: &Ty,
+    levels: usize,
+    octets: &[u8],
+    definite: bool,
+    list: &mut Renewed,
+) -> usize
+    requires { IsGoodType (ty_view inner.now) }
+    ensures { AreMoreItemsRead levels (ty_view inner.now) octets.now (new_items list.old) (new_items list.new) result }
+{
+    let before = list.count;
     let mut places = Places::of(inner);
     let mut at = 0;
     while !ends_at(&octets[at..], definite) {
         let rest = &octets[at..];
-        match read_item(alloc, inner, levels, rest, before, &mut places, items) {
+        match read_item(alloc, inner, levels, rest, before, &mut places, list) {
             Some(used) => at += used,
             None => return at,
         }
@@ -81,7 +107,7 @@ pub fn read_items(
     at
 }
 
-// Appends the item at the front, and returns how many octets it has. So many had come `before` these octets.
+// Puts the item at the front into the list, and returns how many octets it has. So many had come `before` these octets.
 #[cycle(reading)]
 #[inline(always)]
 fn read_item(
@@ -91,21 +117,21 @@ fn read_item(
     octets: &[u8],
     before: usize,
     places: &mut Option<Places>,
-    items: &mut Vec<Value>,
+    list: &mut Renewed,
 ) -> Option<usize>
     requires { IsGoodType (ty_view inner.now) }
-    ensures some { IfSome result (λ used. IsItemRead levels (ty_view inner.now) octets.now items.old.items items.new.items used) }
-    ensures none { result ≡ None → items.new.items ≡ items.old.items }
+    ensures some { IfSome result (λ used. IsItemRead levels (ty_view inner.now) octets.now (new_items list.old) (new_items list.new) used) }
+    ensures none { result ≡ None → new_items list.new ≡ new_items list.old }
 {
-    let mut item = None;
+    let mut item = list.take_old();
     let used = read_among(alloc, inner, levels, octets, places, &mut item)?;
     let value = item?;
     let most = before.max(octets.len() / used);
-    if !grow(items, most) {
-        return None;
+    if list.put(value, most) {
+        Some(used)
+    } else {
+        None
     }
-    items.push_reserved(value);
-    Some(used)
 }
 
 // Reads the encoding at the front into the slot, of a type of which others may have come.
@@ -129,22 +155,4 @@ fn read_among(
         }
     }
     read_one(alloc, ty, levels, octets, slot)
-}
-
-// Makes room for one item more. Where there is none, it makes room for as many as there are, and for four at least, but
-// for no more than `most`: as many as the octets have of this item's size, or had come before them. So the short lists
-// of which a large value is made take memory once and mostly have no room to spare, and a list that goes on from piece
-// to piece grows seldom. A long list doubles, and so ends at a power of two.
-#[inline(always)]
-fn grow(items: &mut Vec<Value>, most: usize) -> bool
-    ensures items { items.new.items ≡ items.old.items }
-    ensures room { IsTrue result → vec_len items.new < vec_capacity items.new }
-{
-    let count = items.len();
-    let more = if count < LONG {
-        count.max(4).min(most)
-    } else {
-        count
-    };
-    count < items.capacity() || items.reserve_exact(more.max(1)).is_ok()
 }

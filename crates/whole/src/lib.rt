@@ -12,6 +12,7 @@ mod leaf;
 mod members;
 mod places;
 mod reading;
+mod renewed;
 
 pub use items::read_items;
 pub use reading::read_whole;

@@ -13,6 +13,7 @@ use Rattle.contents.specs.Parts.{IsDue, IsGoodType}
 use Rattle.contents.specs.Holding.{parts_view}
 use Rattle.whole.specs.Heads.{IsOpened}
 use Rattle.whole.specs.Reading.{IsRead, IsComponentRead, AreComponentsRead, AreMoreItemsRead}
+use Rattle.whole.specs.Renewed.{new_items}
 use Rattle.whole.proofs.ReadingLemmas.{both_of, read_some, explicit_read, sequence_read, sequence_of_read, set_of_read, no_more_items, one_item_more, item_behind, all_items, no_components, component_read, all_components, component_stands, good_components, good_component, good_alternative, chosen_read, no_members, member_behind, member_read, member_some, field_type, due_field, set_read, good_members}
 use Rattle.whole.proofs.+reading.Goals as goal
 
@@ -87,64 +88,64 @@ reading::read_explicit-returns t c =
 pub items::read_item-nonzero_div-octets : goal.items::read_item-nonzero_div-octets
 items::read_item-nonzero_div-octets t c = read_some c.args.levels (ty_view c.args.inner.now) c.args.octets.now c.read_among.new.slot c.in_ok-used.used c.in_ok-used.ensures
 
-pub items::read_item-returns-clause-some : goal.items::read_item-returns-clause-some
-items::read_item-returns-clause-some t c =
+pub items::read_item-returns-then-put-clause-some : goal.items::read_item-returns-then-put-clause-some
+items::read_item-returns-then-put-clause-some t c =
     let type = ty_view c.args.inner.now in
     let octets = c.args.octets.now in
     let used = c.in_ok-used.used in
     let v = c.in_ok-value.value in
     record {
       value = v;
-      joined = c.push_reserved.ensures.items ∙ ap (λ l. l ++ (v ∷ [])) c.grow.ensures.items;
+      joined = c.put.ensures.put c.if-put.true ∙ ap (λ l. l ++ (v ∷ [])) c.take_old-item.ensures;
       read = subst (λ slot. IsRead c.args.levels type octets slot used) c.in_ok-value.was c.in_ok-used.ensures;
     }
 
-pub items::read_items-loop-alloc-init : goal.items::read_items-loop-alloc-init
-items::read_items-loop-alloc-init t c = no_more_items c.args.levels (ty_view c.args.inner.now) c.args.octets.now c.args.items.now.items
+pub items::fill_list-loop-alloc-init : goal.items::fill_list-loop-alloc-init
+items::fill_list-loop-alloc-init t c = no_more_items c.args.levels (ty_view c.args.inner.now) c.args.octets.now (new_items c.args.list.now)
 
-pub items::read_items-slice_bounds-ends_at-count : goal.items::read_items-slice_bounds-ends_at-count
-items::read_items-slice_bounds-ends_at-count t c = c.loop-alloc.invariant.read.there
+pub items::fill_list-slice_bounds-ends_at-count : goal.items::fill_list-slice_bounds-ends_at-count
+items::fill_list-slice_bounds-ends_at-count t c = c.loop-alloc.invariant.read.there
 
-pub items::read_items-slice_bounds-ends_at-start : goal.items::read_items-slice_bounds-ends_at-start
-items::read_items-slice_bounds-ends_at-start t c = c.loop-alloc.invariant.read.there
+pub items::fill_list-slice_bounds-ends_at-start : goal.items::fill_list-slice_bounds-ends_at-start
+items::fill_list-slice_bounds-ends_at-start t c = c.loop-alloc.invariant.read.there
 
-pub items::read_items-loop-alloc-smaller : goal.items::read_items-loop-alloc-smaller
-items::read_items-loop-alloc-smaller t c =
+pub items::fill_list-loop-alloc-smaller : goal.items::fill_list-loop-alloc-smaller
+items::fill_list-loop-alloc-smaller t c =
     let octets = c.args.octets.now in
     let at = c.loop-alloc.at in
     let type = ty_view c.args.inner.now in
-    let one = item_behind c.args.levels type octets at c.in-Some.used c.loop-alloc.items.items c.read_item.new.items.items c.in-Some.ensures.some in
+    let one = item_behind c.args.levels type octets at c.in-Some.used (new_items c.loop-alloc.list) (new_items c.read_item.new.list) c.in-Some.ensures.some in
     let some = read_some c.args.levels type (drop at octets) (Some one.value) c.in-Some.used one.read in
     let rest = length-drop at octets in
     omega (arith, some, one.read.0, rest, c.loop-alloc.invariant.read.there)
 
-pub items::read_items-loop-alloc-preserved : goal.items::read_items-loop-alloc-preserved
-items::read_items-loop-alloc-preserved t c =
+pub items::fill_list-loop-alloc-preserved : goal.items::fill_list-loop-alloc-preserved
+items::fill_list-loop-alloc-preserved t c =
     let octets = c.args.octets.now in
     let at = c.loop-alloc.at in
     let type = ty_view c.args.inner.now in
-    let items = c.loop-alloc.items.items in
-    let new = c.read_item.new.items.items in
-    one_item_more c.args.levels type octets c.args.items.now.items items new at c.in-Some.used c.loop-alloc.invariant (item_behind c.args.levels type octets at c.in-Some.used items new c.in-Some.ensures.some)
+    let items = (new_items c.loop-alloc.list) in
+    let new = (new_items c.read_item.new.list) in
+    one_item_more c.args.levels type octets (new_items c.args.list.now) items new at c.in-Some.used c.loop-alloc.invariant (item_behind c.args.levels type octets at c.in-Some.used items new c.in-Some.ensures.some)
 
-pub items::read_items-returns-in-None : goal.items::read_items-returns-in-None
-items::read_items-returns-in-None t c =
-    subst (λ l. AreMoreItemsRead c.args.levels (ty_view c.args.inner.now) c.args.octets.now c.args.items.now.items l c.loop-alloc.at) (sym (c.in-None.ensures.none refl)) c.loop-alloc.invariant
+pub items::fill_list-returns-in-None : goal.items::fill_list-returns-in-None
+items::fill_list-returns-in-None t c =
+    subst (λ l. AreMoreItemsRead c.args.levels (ty_view c.args.inner.now) c.args.octets.now (new_items c.args.list.now) l c.loop-alloc.at) (sym (c.in-None.ensures.none refl)) c.loop-alloc.invariant
 
-pub items::read_items-returns : goal.items::read_items-returns
-items::read_items-returns t c = c.loop-alloc.invariant
+pub items::fill_list-returns : goal.items::fill_list-returns
+items::fill_list-returns t c = c.loop-alloc.invariant
 
 pub items::read_list-close-requires-clause-there : goal.items::read_list-close-requires-clause-there
-items::read_list-close-requires-clause-there t c = c.read_items-used.ensures.read.there
+items::read_list-close-requires-clause-there t c = c.fill_list-used.ensures.read.there
 
 pub items::read_list-returns-clause-sequence : goal.items::read_list-returns-clause-sequence
 items::read_list-returns-clause-sequence t c =
     let octets = c.args.octets.now in
     let type = ty_view c.args.inner.now in
     let inside = c.in_ok-inside.inside in
-    let items = c.read_items-used.new.items in
-    let used = c.read_items-used.result in
-    let read = all_items (c.args.levels - 1) type inside.octets.now c.take_list-items.result.items items.items used c.take_list-items.ensures c.read_items-used.ensures in
+    let items = c.into_items.result in
+    let used = c.fill_list-used.result in
+    let read = all_items (c.args.levels - 1) type inside.octets.now (new_items c.over-list.result) items.items used c.over-list.ensures (subst (λ l. AreMoreItemsRead (c.args.levels - 1) type inside.octets.now (new_items c.over-list.result) l used) (sym c.into_items.ensures) c.fill_list-used.ensures) in
     both_of (λ n. n ≤ length octets) (λ n. (tag : Tag) → IsOpened tag octets inside → IsConstructed ber tag (take used inside.octets.now) (take n octets)) (λ n. IsRead c.args.levels (Shape.sequence_of c.args.tag type) octets c.fill.new.slot n)
     c.close.result c.close.ensures.there c.close.ensures.value
     (λ n there whole. subst (λ slot. IsRead c.args.levels (Shape.sequence_of c.args.tag type) octets slot n) (sym c.fill.ensures)
@@ -155,9 +156,9 @@ items::read_list-returns-clause-set t c =
     let octets = c.args.octets.now in
     let type = ty_view c.args.inner.now in
     let inside = c.in_ok-inside.inside in
-    let items = c.read_items-used.new.items in
-    let used = c.read_items-used.result in
-    let read = all_items (c.args.levels - 1) type inside.octets.now c.take_list-items.result.items items.items used c.take_list-items.ensures c.read_items-used.ensures in
+    let items = c.into_items.result in
+    let used = c.fill_list-used.result in
+    let read = all_items (c.args.levels - 1) type inside.octets.now (new_items c.over-list.result) items.items used c.over-list.ensures (subst (λ l. AreMoreItemsRead (c.args.levels - 1) type inside.octets.now (new_items c.over-list.result) l used) (sym c.into_items.ensures) c.fill_list-used.ensures) in
     both_of (λ n. n ≤ length octets) (λ n. (tag : Tag) → IsOpened tag octets inside → IsConstructed ber tag (take used inside.octets.now) (take n octets)) (λ n. IsRead c.args.levels (Shape.set_of c.args.tag type) octets c.fill.new.slot n)
     c.close.result c.close.ensures.there c.close.ensures.value
     (λ n there whole. subst (λ slot. IsRead c.args.levels (Shape.set_of c.args.tag type) octets slot n) (sym c.fill.ensures)

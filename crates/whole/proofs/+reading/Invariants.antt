@@ -2,6 +2,7 @@ use Rattle.std.proofs.Common.{◌≡◌, length, map, take, ◌-◌}
 use Rattle.types.specs.View.{ty_view, field_view}
 use Rattle.contents.specs.Holding.{parts_view}
 use Rattle.whole.specs.Reading.{AreComponentsRead, AreMoreItemsRead, AreMembersRead}
+use Rattle.whole.specs.Renewed.{new_items}
 use Rattle.whole.proofs.+reading.Given as goal
 
 abbrev pub invariant-components::read_components-loop-place : goal.invariant-components::read_components-loop-place
@@ -9,11 +10,11 @@ invariant-components::read_components-loop-place l =
     AreComponentsRead l.levels (map field_view (take l.place l.fields)) l.octets (take l.place l.slots.items) l.at
     × (length l.slots.items ≡ length l.fields)
 
-abbrev pub invariant-items::read_items-loop-alloc : goal.invariant-items::read_items-loop-alloc
-invariant-items::read_items-loop-alloc l = AreMoreItemsRead l.levels (ty_view l.inner) l.octets l.initial.items.items l.items.items l.at
+abbrev pub invariant-items::fill_list-loop-alloc : goal.invariant-items::fill_list-loop-alloc
+invariant-items::fill_list-loop-alloc l = AreMoreItemsRead l.levels (ty_view l.inner) l.octets (new_items l.initial.list) (new_items l.list) l.at
 
-abbrev pub decreases-items::read_items-loop-alloc : goal.decreases-items::read_items-loop-alloc
-decreases-items::read_items-loop-alloc l = length l.octets - l.at
+abbrev pub decreases-items::fill_list-loop-alloc : goal.decreases-items::fill_list-loop-alloc
+decreases-items::fill_list-loop-alloc l = length l.octets - l.at
 
 abbrev pub invariant-members::read_members-loop-alloc : goal.invariant-members::read_members-loop-alloc
 invariant-members::read_members-loop-alloc l = AreMembersRead l.levels (map field_view l.fields) l.inside.octets.now (parts_view l.holding) l.at
