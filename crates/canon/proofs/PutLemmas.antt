@@ -1,9 +1,9 @@
 -- Lemmas on the parts of constructed encodings as they are written.
-use Rattle.std.specs.List.{concat}
+use Rattle.std.specs.List.{AllZip, concat}
 use Rattle.std.proofs.Common.{◌≡◌, ◌+◌, ◌-◌, ◌<◌, ℕ, suc, List, [], ◌∷◌, ◌++◌, Option, Some, None, length, take, drop, get_or, map, refl, sym, ap, ◌∙◌, subst, arith, append_assoc, append-nil, length-append, IsPermutation}
 use Rattle.std.specs.Prelude.{reverse}
 use Rattle.std.proofs.lemmas.List.{reverse-append, reverse-reverse}
-use Rattle.std.proofs.lemmas.List.Sorted.{IsPermutation-map, IsPermutation-trans, IsPermutation-reverse}
+use Rattle.std.proofs.lemmas.List.Sorted.{IsPermutation-map, IsPermutation-refl, IsPermutation-trans, IsPermutation-reverse}
 use Rattle.octets.specs.Front.{Appends}
 use Rattle.octets.specs.Rule.{Rule, IsCanonical}
 use Rattle.types.specs.declared.ty.Field.{Field}
@@ -141,6 +141,26 @@ laid_more IsItem xs i j x ss s old mid new l next at h a =
       each = (a.holds, rest.each);
       cuts = subst (Cuts (length old) (ss ++ s ∷ [])) (sym turned) (cuts_push (length old) ss (reverse rest.encodings) s a.octets rest.cuts (omega (arith, a.start, was)) (omega (arith, a.start, a.end, now)));
       is = a.is ∙ ap (λ z. z ++ a.octets) rest.is ∙ append_assoc old (concat (reverse rest.encodings)) a.octets ∙ ap (λ z. old ++ z) (sym (concat_push (reverse rest.encodings) a.octets) ∙ ap concat (sym turned));
+    }
+
+few_encodings : (IsItem : Meaning) (values : List Val) (encodings : List (List ℕ)) → length values < 2 → AllZip IsItem values encodings → length encodings < 2
+few_encodings IsItem [] [] few h = omega arith
+few_encodings IsItem [] (e ∷ es) few h = absurd h
+few_encodings IsItem (v ∷ vs) [] few h = absurd h
+few_encodings IsItem (v ∷ []) (e ∷ []) few h = omega arith
+few_encodings IsItem (v ∷ []) (e ∷ f ∷ es) few h = absurd h.1
+few_encodings IsItem (v ∷ w ∷ vs) (e ∷ es) few h = absurd (omega (arith, few))
+
+-- fewer than two items are in order
+pub few_in_order : (IsItem : Meaning) (values : List Val) (octets : List ℕ) → length values < 2 → AreItems IsItem values octets → AreItemsInOrder IsItem values octets
+few_in_order IsItem values octets few h =
+    let none = few_encodings IsItem values h.encodings few h.each in record {
+      encodings = h.encodings;
+      each = h.each;
+      order = h.encodings;
+      permutes = IsPermutation-refl h.encodings;
+      ascends = λ i j d before there. absurd (omega (arith, none, before, there));
+      joined = h.joined;
     }
 
 -- laid parts whose spans were sorted, and which were moved into that order, each turned round

@@ -145,6 +145,9 @@ fn put_in_order(
         (Turned (AreItemsInOrder (IsEncoding (rule_of rule) (ty_view ty.now)) (map value_view items.now))) out.old.items out.new.items) }
     ensures kept { OnErr result (Keeps out.old.items out.new.items) }
 {
+    if items.len() < 2 {
+        return put_items(alloc, rule, ty, items, out);
+    }
     let from = out.len();
     let count = items.len();
     let mut spans = Vec::new(alloc);

@@ -69,7 +69,7 @@ pub(crate) fn size_of_contents(rule: CanonicalRule, value: &Value) -> usize
     }
 }
 
-// The same of a number of 128 bits.
+// How many contents octets a number of 128 bits has.
 pub(crate) fn size_of_integer(number: i128) -> usize
     ensures size { (contents : List ℕ) → IsInteger number contents → length contents ≡ result }
     ensures at_most { result ≤ 16 }
@@ -81,7 +81,7 @@ pub(crate) fn size_of_integer(number: i128) -> usize
     }
 }
 
-// The same of the number that stands `distance` above 0, or below -1.
+// How many the number has that stands `distance` above 0, or below -1.
 fn size_of_signed(negative: bool, distance: u128) -> usize
     requires { distance < 2 ^ 127 }
     ensures size { (contents : List ℕ) → IsInteger (number_at negative distance) contents → length contents ≡ result }
@@ -98,7 +98,7 @@ fn size_of_signed(negative: bool, distance: u128) -> usize
     16
 }
 
-// The same of an OBJECT IDENTIFIER.
+// How many contents octets an OBJECT IDENTIFIER has.
 fn size_of_oid(arcs: &[u128]) -> usize
     requires { IsOidValue arcs.now }
     ensures size { (contents : List ℕ) → IsOid arcs.now contents → length contents ≡ result }
@@ -107,7 +107,7 @@ fn size_of_oid(arcs: &[u128]) -> usize
     size_of_base_128(40 * arcs[0] + arcs[1]) + size_of_subidentifiers(&arcs[2..])
 }
 
-// The same of a RELATIVE-OID.
+// How many contents octets a RELATIVE-OID has.
 fn size_of_relative_oid(arcs: &[u128]) -> usize
     requires { IsRelativeOidValue arcs.now }
     ensures size { (contents : List ℕ) → IsRelativeOid arcs.now contents → length contents ≡ result }

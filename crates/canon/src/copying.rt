@@ -29,7 +29,7 @@ pub(crate) fn copy_leaf(alloc: Global, value: &Value) -> Result<Value, NoMemory>
     }
 }
 
-// The same bits.
+// Bits like these.
 fn copy_bits(alloc: Global, bits: &Bits) -> Result<Bits, NoMemory>
     ensures { IfOk result (λ copy. copy ≡ bits.now) }
 {

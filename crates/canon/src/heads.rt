@@ -33,7 +33,7 @@ pub(crate) fn put_primitive_head(
     put_long_primitive_head(tag, contents, out)
 }
 
-// The same, of any size.
+// Appends the head of a primitive encoding, of any size.
 #[inline(never)]
 fn put_long_primitive_head(tag: Tag, contents: usize, out: &mut Vec<u8>) -> Result<(), NoMemory>
     ensures appended { OnOk result (Appends (IsPrimitiveHead tag contents) out.old.items out.new.items) }
@@ -57,7 +57,7 @@ fn put_pair(first: u8, second: u8, out: &mut Vec<u8>) -> Result<(), NoMemory>
     Ok(())
 }
 
-// The same where there may be none.
+// Appends two octets, and makes room for them where there is none.
 #[inline(never)]
 fn grow_by_pair(first: u8, second: u8, out: &mut Vec<u8>) -> Result<(), NoMemory>
     ensures appended { OnOk result (out.new.items ≡ out.old.items ++ first ∷ second ∷ []) }
@@ -106,7 +106,7 @@ pub(crate) fn put_opening(tag: Tag, out: &mut Vec<u8>) -> Result<usize, NoMemory
     put_long_opening(tag, out)
 }
 
-// The same, whatever the tag.
+// Appends the opening of a constructed encoding, whatever the tag.
 #[inline(never)]
 fn put_long_opening(tag: Tag, out: &mut Vec<u8>) -> Result<usize, NoMemory>
     ensures opened { IfOk result (IsOpening tag out.old.items out.new.items) }
@@ -151,7 +151,7 @@ fn put_length(place: usize, out: &mut Vec<u8>) -> Result<(), NoMemory>
     put_long_length(place, contents, out)
 }
 
-// The same of so many octets, whatever they are.
+// Puts the length of so many contents octets behind `place`, also one of the long form.
 #[inline(never)]
 fn put_long_length(place: usize, contents: usize, out: &mut Vec<u8>) -> Result<(), NoMemory>
     requires { place + 1 + contents ≡ length out.old.items }

@@ -52,7 +52,7 @@ pub(crate) fn size_of_leaf(rule: CanonicalRule, tag: Tag, value: &Value) -> usiz
     }
 }
 
-// The same of a value whose encodings are primitive.
+// How many octets the primitive encoding of a value under `tag` has.
 fn size_of_simple(rule: CanonicalRule, tag: Tag, value: &Value) -> usize
     requires tag { tag.number ≤ MAX_TAG_NUMBER }
     requires simple { IsSimple (value_view value.now) }
@@ -121,7 +121,7 @@ pub(crate) fn put_forwards(
     }
 }
 
-// The same of a value whose encodings are primitive.
+// Appends the primitive encoding of a value under `tag`.
 #[inline(always)]
 pub(crate) fn put_simple(
     rule: CanonicalRule,

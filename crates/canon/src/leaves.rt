@@ -62,7 +62,7 @@ pub(crate) fn put_leaves(
     Ok(())
 }
 
-// The same, in order.
+// Appends the encodings of values under `tag`, one behind another.
 pub(crate) fn join_leaves(
     rule: CanonicalRule,
     tag: Tag,

@@ -21,7 +21,7 @@ use std::alloc::Global;
 use std::cmp::Ordering;
 use types::{Field, Ty, Value, WellTyped};
 
-/// The same value with the items of each SET OF, at any depth, in ascending order of their DER
+/// The value with the items of each SET OF, at any depth, in ascending order of their DER
 /// encodings. Two values are the same exactly if what this returns of them is equal
 /// (`equal_in_order_exactly_if_same`).
 ///
@@ -46,7 +46,7 @@ pub(crate) struct Placed {
     pub span: Span,
 }
 
-// The same where what is asked of the type is known of each node.
+// Orders a value whose type is known, at each node, to be as `order` asks.
 #[cycle(ordering)]
 fn order_value(alloc: Global, ty: &Ty, value: &Value) -> Result<Value, NoMemory>
     requires sound { IsSound (ty_view ty.now) }
@@ -125,7 +125,7 @@ fn order_items(alloc: Global, ty: &Ty, items: &[Value]) -> Result<Vec<Value>, No
     Ok(ordered)
 }
 
-// The same items, by their encodings.
+// The items in the order of their encodings.
 #[cycle(ordering)]
 fn sort_items(alloc: Global, ty: &Ty, items: &[Value]) -> Result<Vec<Value>, NoMemory>
     requires sound { IsSound (ty_view ty.now) }

@@ -45,7 +45,7 @@ pub(crate) fn size_of_string(rule: CanonicalRule, tag: Tag, lead: usize, octets:
     }
 }
 
-// The same of the constructed encoding of one that is cut.
+// How many octets the constructed encoding of a string has that is cut into segments.
 fn size_of_cut(tag: Tag, lead: usize, octets: usize) -> usize
     requires tag { tag.number ≤ MAX_TAG_NUMBER }
     requires lead { lead ≤ 1 }
@@ -101,7 +101,7 @@ pub(crate) fn put_string(
     }
 }
 
-// The same of a string whose contents octets begin with no others.
+// Appends the encoding under `tag` of a string whose contents octets are `octets`.
 #[inline(always)]
 pub(crate) fn put_octets(
     rule: CanonicalRule,

@@ -63,7 +63,7 @@ pub(crate) fn size_of(rule: CanonicalRule, ty: &Ty, value: &Value) -> usize
     }
 }
 
-// The same of the encodings of items, one after another.
+// How many octets the encodings of items have, one after another, or one more than the limit.
 #[cycle(size)]
 fn size_of_items(rule: CanonicalRule, ty: &Ty, items: &[Value]) -> usize
     requires nodes { HasGoodNodes (ty_view ty.now) }
@@ -81,7 +81,7 @@ fn size_of_items(rule: CanonicalRule, ty: &Ty, items: &[Value]) -> usize
     total
 }
 
-// The same of the encodings of components.
+// How many octets the encodings of components have, or one more than the limit.
 #[cycle(size)]
 fn size_of_components(rule: CanonicalRule, fields: &[Field], slots: &[Option<Value>]) -> usize
     requires nodes { HaveGoodNodes (components_view fields.now) }

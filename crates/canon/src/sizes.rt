@@ -27,7 +27,7 @@ pub(crate) fn size_of_constructed(rule: CanonicalRule, tag: Tag, contents: usize
     }
 }
 
-// The same of an encoding of the definite form with the shortest length.
+// How many octets an encoding of the definite form with the shortest length has.
 pub(crate) fn size_of_definite(tag: Tag, contents: usize) -> usize
     requires tag { tag.number ≤ MAX_TAG_NUMBER }
     requires at_most { contents ≤ MAX_ENCODING + 1 }

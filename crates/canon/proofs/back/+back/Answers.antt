@@ -2,6 +2,7 @@ use Rattle.std.specs.List.{concat}
 use Rattle.std.proofs.Common.{◌≡◌, ◌∙◌, ◌+◌, ◌-◌, ◌<◌, ◌++◌, ℕ, List, OnOk, Option, Some, None, Vec, Global, length, take, drop, get_or, map, inl, inr, sym, ap, subst, arith, rules, IsPermutation}
 use Rattle.std.specs.Prelude.{reverse}
 use Rattle.std.specs.declared.result.Result.{Result}
+use Rattle.std.proofs.lemmas.List.{length-map}
 use Rattle.octets.specs.declared.tag.Tag.{Tag}
 use Rattle.octets.specs.Rule.{Rule}
 use Rattle.octets.specs.Front.{Appends}
@@ -29,7 +30,7 @@ use Rattle.canon.proofs.KeptLemmas.{kept, always_kept, keeps_more, keeps_chain, 
 use Rattle.canon.proofs.LeafLemmas.{leaf_alike, leaf_conforms}
 use Rattle.canon.proofs.LeavesLemmas.{leaves_conform, leaves_alike}
 use Rattle.canon.proofs.NodeLemmas.{choice_parts, choice_alike, has_items, has_slots, explicit_alike, sequence_alike, set_alike, sequence_of_alike, set_of_alike}
-use Rattle.canon.proofs.PutLemmas.{PutFrom, item_put, no_components_put, present_put, absent_put, laid_more, order_made}
+use Rattle.canon.proofs.PutLemmas.{PutFrom, few_in_order, item_put, no_components_put, present_put, absent_put, laid_more, order_made}
 use Rattle.canon.proofs.SimpleLemmas.{rule_is_canonical}
 use Rattle.canon.proofs.StepLemmas.{item_conforms, as_many_slots, present_at}
 use Rattle.types.specs.Order.{Ascends, IsOrderTag}
@@ -207,6 +208,13 @@ put_items-loop-done-preserved t c =
     let place : length items - 1 - c.loop-done.done ≡ i = omega arith in
     let at : c.index-items-count.result ≡ get_or items i c.index-items-count.result = c.index-items-count.is ∙ ap (λ k. get_or items k c.index-items-count.result) place in
     item_put (IsEncoding (rule_of c.args.rule) (ty_view c.args.ty.now)) items i (length items - c.loop-done.done) c.index-items-count.result c.args.out.now.items c.loop-done.out.items c.put_back.new.out.items (omega arith) (omega arith) at c.loop-done.invariant c.in_ok-put_back.ensures.appended
+
+pub put_in_order-returns-then-items-lt2-clause-appended : goal.put_in_order-returns-then-items-lt2-clause-appended
+put_in_order-returns-then-items-lt2-clause-appended t c =
+    let IsItem = IsEncoding (rule_of c.args.rule) (ty_view c.args.ty.now) in
+    let values = map value_view c.args.items.now in
+    let few : length values < 2 = omega (arith, length-map c.args.items.now value_view, c.if-items-lt2.true) in
+    appended_by c.put_items.result (Turned (AreItems IsItem values)) (Turned (AreItemsInOrder IsItem values)) c.args.out.now.items c.put_items.new.out.items (λ b h. few_in_order IsItem values (reverse b) few h) c.put_items.ensures.appended
 
 pub put_in_order-put_span-requires : goal.put_in_order-put_span-requires
 put_in_order-put_span-requires t c =

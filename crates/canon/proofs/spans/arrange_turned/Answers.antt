@@ -1,4 +1,4 @@
-use Rattle.std.proofs.Common.{◌≡◌, ◌∙◌, ◌+◌, ◌-◌, ◌++◌, [], suc, sym, ap, map, take, drop, length, append-nil, arith, get_or}
+use Rattle.std.proofs.Common.{◌≡◌, ◌∙◌, ◌+◌, ◌-◌, [], suc, sym, ap, map, take, drop, length, append-nil, arith, get_or}
 use Rattle.std.specs.List.{concat}
 use Rattle.std.proofs.lemmas.List.{get_or_default}
 use Rattle.canon.specs.Span.{part_of, turned_part}
