@@ -1,5 +1,6 @@
 //! What an identifier begins.
 
+use crate::walk::behind;
 use crate::{Notes, Part};
 
 /// What is told of an encoding at its identifier.
@@ -16,20 +17,28 @@ pub struct Line<'a> {
     /// Which part it is.
     pub part: Part<'a>,
     /// What the contents octets are.
-    pub what: What<'a>,
+    pub what: What,
     /// What is not canonical there.
     pub notes: Notes,
 }
 
 /// What contents octets are.
 #[derive(Clone, Copy, Debug)]
-pub enum What<'a> {
+pub enum What {
     /// Encodings of parts, or segments.
     Parts,
-    /// These, of a value without parts.
-    Leaf(&'a [u8]),
-    /// These, of a segment.
-    Segment(&'a [u8]),
+    /// Those of a value without parts.
+    Leaf,
+    /// Those of a segment.
+    Segment,
     /// The end-of-contents octets of what holds them.
     End,
+}
+
+impl Line<'_> {
+    /// The contents octets among the octets of the value; none of the indefinite form.
+    pub fn contents_in<'b>(&self, octets: &'b [u8]) -> &'b [u8] {
+        let front = behind(octets, self.at.saturating_add(self.head));
+        front.get(..self.contents.unwrap_or(0)).unwrap_or(&[])
+    }
 }

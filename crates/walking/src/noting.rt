@@ -2,6 +2,7 @@
 
 use crate::opening::Opening;
 use crate::order::order_tag;
+use crate::walk::behind;
 use crate::{Note, Notes, Walk};
 use contents::{Kind, kind_of};
 use cutting::Ends;
@@ -13,11 +14,10 @@ const FULL_SEGMENT: usize = 1_000;
 
 impl<'a> Walk<'a> {
     // Whether the part that is told stands out of the order of a SET or a SET OF.
-    pub(crate) fn order_note(&mut self, opening: &Opening, rest: &[u8]) -> Option<Note> {
+    pub(crate) fn order_note(&mut self, opening: &Opening, octets: &[u8]) -> Option<Note> {
         let part = self.line.part;
         let start = self.taken;
         let rule = self.rule;
-        let octets = self.octets;
         let top = self.open.last_mut()?;
         match top.part.node {
             Ty::Set(_, _) => {
@@ -30,6 +30,7 @@ impl<'a> Walk<'a> {
                 }
             }
             Ty::SetOf(_, _) => {
+                let rest = behind(octets, start);
                 let size = size_of(opening, rest);
                 let (from, to) = top.last_item;
                 top.last_item = (start, start.saturating_add(size));

@@ -1,8 +1,9 @@
 //! The open encodings of a walk.
 
 use crate::{Part, Step};
-use contents::{Frame, Holding, Kind};
+use contents::{Frame, Kind, Seats, kind_of, next_due, only_due, seat_due, seats_of};
 use octets::{NoMemory, Tag};
+use std::alloc::Global;
 use types::{Field, Presence, Refusal, Ty, Value, may_be_absent};
 
 /// An open encoding.
@@ -12,7 +13,7 @@ pub struct Open<'a> {
     pub part: Part<'a>,
     /// Where it ends.
     pub frame: Frame,
-    /// What it holds.
+    /// What may come in it.
     pub held: Held<'a>,
     /// The default of the component that an explicit tag is of.
     pub default: Option<&'a Value>,
@@ -24,11 +25,17 @@ pub struct Open<'a> {
     pub count: usize,
 }
 
-/// What an open encoding holds.
+/// What may come in an open encoding.
 #[derive(Debug, Drop)]
 pub enum Held<'a> {
-    /// Parts.
-    Parts(Holding<'a>),
+    /// What an explicit tag stands around; None once it has come.
+    Explicit(Option<&'a Ty>),
+    /// The items of a SEQUENCE OF or SET OF.
+    Items(&'a Ty),
+    /// The components of a SEQUENCE that stand behind the one that came last.
+    Sequence(&'a [Field]),
+    /// The components of a SET.
+    Set(Seats<'a>),
     /// Segments of a string.
     Segments(Kind),
 }
@@ -44,64 +51,89 @@ pub struct Due<'a> {
     pub default: Option<&'a Value>,
 }
 
+impl<'a> Held<'a> {
+    /// What may come in an encoding of the type when it opens; None where none of its encodings is constructed.
+    pub fn of(alloc: Global, node: &'a Ty) -> Result<Option<Held<'a>>, NoMemory> {
+        Ok(match node {
+            Ty::Sequence(_, fields) => Some(Held::Sequence(fields)),
+            Ty::Set(_, fields) => {
+                let each = seats_of(alloc, fields)?;
+                let behind = 0;
+                Some(Held::Set(Seats { each, behind }))
+            }
+            Ty::SequenceOf(_, inner) | Ty::SetOf(_, inner) => Some(Held::Items(inner)),
+            Ty::Explicit(_, inner) => Some(Held::Explicit(Some(inner))),
+            _ => match kind_of(node) {
+                Some(kind) => Some(Held::Segments(kind)),
+                None => None,
+            },
+        })
+    }
+}
+
 impl<'a> Open<'a> {
-    /// Takes the part that may come next and begins with the tag. Refused as `Holding::due` refuses.
+    /// Takes the part that may come next and begins with the tag, and refuses any other as a reader does.
     pub fn take_due(&mut self, tag: Tag) -> Result<Due<'a>, Refusal> {
         let outer = self.default;
         let item = self.count;
         self.count = item.saturating_add(1);
         match &mut self.held {
             Held::Segments(_) => Err(Refusal::Identifier),
-            Held::Parts(holding) => take_due_in(holding, tag, item, outer),
+            Held::Explicit(inner) => take_inner(inner, tag, outer),
+            Held::Items(ty) => take_item(ty, tag, item),
+            Held::Sequence(left) => take_next(left, tag),
+            Held::Set(seats) => take_seat(seats, tag),
         }
     }
 
     /// The name of the first component that is required and has not come.
     pub fn missing(&self) -> Option<&'a str> {
         match &self.held {
-            Held::Segments(_) => None,
-            Held::Parts(holding) => missing_in(holding),
+            Held::Segments(_) | Held::Explicit(_) | Held::Items(_) => None,
+            Held::Sequence(left) => missing_in(left),
+            Held::Set(seats) => missing_seat(seats),
         }
     }
 }
 
-// Takes the part of what is held that begins with the tag. What comes of it is not kept: NULL stands for it.
-fn take_due_in<'a>(
-    holding: &mut Holding<'a>,
+// What an explicit tag stands around has the default of what the tag is of.
+fn take_inner<'a>(
+    inner: &mut Option<&'a Ty>,
     tag: Tag,
-    item: usize,
-    outer: Option<&'a Value>,
+    default: Option<&'a Value>,
 ) -> Result<Due<'a>, Refusal> {
-    let (which, ty) = holding.due(tag)?;
-    let due = due_of(holding, which, ty, item, outer);
-    holding.put(which, Value::Null)?;
-    Ok(due)
+    let Some(ty) = *inner else {
+        return Err(Refusal::Identifier);
+    };
+    let (_, ty) = only_due(ty, tag)?;
+    *inner = None;
+    let step = Step::Whole;
+    Ok(Due { step, ty, default })
 }
 
-// The part as it is named. Under an explicit tag it has the default of what the tag is of.
-fn due_of<'a>(
-    holding: &Holding<'a>,
-    which: usize,
-    ty: &'a Ty,
-    item: usize,
-    outer: Option<&'a Value>,
-) -> Due<'a> {
-    match holding {
-        Holding::Explicit(_, _) => Due {
-            step: Step::Whole,
-            ty,
-            default: outer,
-        },
-        Holding::Items(_, _) => Due {
-            step: Step::Item(item),
-            ty,
-            default: None,
-        },
-        Holding::Sequence(fields, slots) => {
-            due_field(fields.get(slots.len().saturating_add(which)), ty)
-        }
-        Holding::Set(seats) => due_field(seats.each.get(which).map(|seat| seat.field), ty),
-    }
+fn take_item<'a>(ty: &'a Ty, tag: Tag, item: usize) -> Result<Due<'a>, Refusal> {
+    let (_, ty) = only_due(ty, tag)?;
+    let step = Step::Item(item);
+    let default = None;
+    Ok(Due { step, ty, default })
+}
+
+fn take_next<'a>(left: &mut &'a [Field], tag: Tag) -> Result<Due<'a>, Refusal> {
+    let fields = *left;
+    let (which, ty) = next_due(fields, tag)?;
+    let (before, later) = fields.split_at(which.saturating_add(1).min(fields.len()));
+    *left = later;
+    Ok(due_field(before.last(), ty))
+}
+
+fn take_seat<'a>(seats: &mut Seats<'a>, tag: Tag) -> Result<Due<'a>, Refusal> {
+    let (which, ty) = seat_due(&seats.each, seats.behind, tag)?;
+    seats.behind = which.saturating_add(1);
+    let Some(seat) = seats.each.get_mut(which) else {
+        return Err(Refusal::Identifier);
+    };
+    seat.came = true;
+    Ok(due_field(Some(seat.field), ty))
 }
 
 fn due_field<'a>(field: Option<&'a Field>, ty: &'a Ty) -> Due<'a> {
@@ -126,24 +158,20 @@ fn default_of(presence: &Presence) -> Option<&Value> {
     }
 }
 
-fn missing_in<'a>(holding: &Holding<'a>) -> Option<&'a str> {
-    match holding {
-        Holding::Explicit(_, _) | Holding::Items(_, _) => None,
-        Holding::Sequence(fields, slots) => {
-            for field in fields.iter().skip(slots.len()) {
-                if !may_be_absent(&field.presence) {
-                    return Some(field.name.as_str());
-                }
-            }
-            None
-        }
-        Holding::Set(seats) => {
-            for seat in &seats.each {
-                if !seat.came && !may_be_absent(&seat.field.presence) {
-                    return Some(seat.field.name.as_str());
-                }
-            }
-            None
+fn missing_in<'a>(left: &'a [Field]) -> Option<&'a str> {
+    for field in left {
+        if !may_be_absent(&field.presence) {
+            return Some(field.name.as_str());
         }
     }
+    None
+}
+
+fn missing_seat<'a>(seats: &Seats<'a>) -> Option<&'a str> {
+    for seat in &seats.each {
+        if !seat.came && !may_be_absent(&seat.field.presence) {
+            return Some(seat.field.name.as_str());
+        }
+    }
+    None
 }

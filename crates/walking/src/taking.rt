@@ -5,7 +5,7 @@ use crate::open::{Held, Open};
 use crate::opening::Opening;
 use crate::walk::behind;
 use crate::{Note, Notes, Reason, Stop, Walk, What};
-use contents::{Frame, Kind, holding_of, kind_of};
+use contents::{Frame, Kind, kind_of};
 use octets::NoMemory;
 use primitives::read_bits;
 use types::{Refusal, Value};
@@ -16,11 +16,11 @@ impl<'a> Walk<'a> {
         &mut self,
         default: Option<&'a Value>,
         opening: &Opening,
-        rest: &[u8],
+        octets: &[u8],
     ) -> Result<(), Stop<'a>> {
         let at = self.taken;
         let notes = self.form_notes(self.line.part.node, opening);
-        self.tell(opening, What::Parts, notes, rest);
+        self.tell(opening, What::Parts, notes, octets);
         let opened = self.opened(default, opening);
         let Ok(Some(opened)) = opened else {
             return Err(Stop::no_memory(at));
@@ -39,12 +39,8 @@ impl<'a> Walk<'a> {
         opening: &Opening,
     ) -> Result<Option<Open<'a>>, NoMemory> {
         let part = self.line.part;
-        let held = match kind_of(part.node) {
-            Some(kind) => Held::Segments(kind),
-            None => match holding_of(self.alloc, part.node)? {
-                Some(holding) => Held::Parts(holding),
-                None => return Ok(None),
-            },
+        let Some(held) = Held::of(self.alloc, part.node)? else {
+            return Ok(None);
         };
         let start = self.taken.saturating_add(opening.head());
         let frame = match opening.contents {
@@ -73,13 +69,14 @@ impl<'a> Walk<'a> {
         &mut self,
         default: Option<&'a Value>,
         opening: &Opening,
-        rest: &'a [u8],
+        octets: &[u8],
+        rest: &[u8],
     ) -> Result<(), Stop<'a>> {
         let start = opening.head();
         let stop = start.saturating_add(opening.contents.unwrap_or(0));
         let contents = rest.get(start..stop).unwrap_or(&[]);
         if self.is_in_string() {
-            return self.segment(opening, contents, behind(rest, stop));
+            return self.segment(opening, contents, octets);
         }
         let mut notes = self.leaf_notes(self.line.part.node, opening, contents);
         if default.is_some() || !self.is_taken {
@@ -88,7 +85,7 @@ impl<'a> Walk<'a> {
                 notes.add(Note::Default);
             }
         }
-        self.tell(opening, What::Leaf(contents), notes, rest);
+        self.tell(opening, What::Leaf, notes, octets);
         self.taken = self.taken.saturating_add(stop);
         self.is_over = self.open.is_empty();
         Ok(())
@@ -106,14 +103,15 @@ impl<'a> Walk<'a> {
         }
     }
 
-    // Takes a primitive segment, behind which `later` stands.
+    // Takes a primitive segment.
     fn segment(
         &mut self,
         opening: &Opening,
-        contents: &'a [u8],
-        later: &[u8],
+        contents: &[u8],
+        octets: &[u8],
     ) -> Result<(), Stop<'a>> {
         let start = self.taken.saturating_add(opening.head());
+        let later = behind(octets, start.saturating_add(contents.len()));
         let part = self.line.part;
         let notes = self.segment_notes(part.node, opening, contents, later);
         if let Err((refusal, reason)) = self.join(contents) {
@@ -122,7 +120,7 @@ impl<'a> Walk<'a> {
         if let Some(top) = self.open.last_mut() {
             top.count = top.count.saturating_add(1);
         }
-        self.tell(opening, What::Segment(contents), notes, &[]);
+        self.tell(opening, What::Segment, notes, octets);
         self.taken = start.saturating_add(contents.len());
         Ok(())
     }
@@ -149,9 +147,9 @@ impl<'a> Walk<'a> {
     }
 
     // Tells what stands here, besides the part, with what its place in a SET or a SET OF says.
-    fn tell(&mut self, opening: &Opening, what: What<'a>, notes: Notes, rest: &[u8]) {
+    fn tell(&mut self, opening: &Opening, what: What, notes: Notes, octets: &[u8]) {
         let mut notes = notes;
-        if let Some(note) = self.order_note(opening, rest) {
+        if let Some(note) = self.order_note(opening, octets) {
             notes.add(note);
         }
         self.line.at = self.taken;

@@ -13,15 +13,14 @@ use strict::Canonical;
 use types::{Refusal, Ty, WellTyped};
 use whole::MAX_NESTED;
 
-/// A walk over the octets of one value.
+/// A walk over the octets of a value, and then of the next one, in the same room.
 #[derive(Drop)]
 pub struct Walk<'a> {
     pub(crate) alloc: Global,
     pub(crate) ty: &'a Ty,
     // the rule that says what is canonical
     pub(crate) rule: Canonical,
-    pub(crate) octets: &'a [u8],
-    // how many of them have been walked over
+    // how many octets of the value have been walked over
     pub(crate) taken: usize,
     pub(crate) open: Vec<Open<'a>>,
     // the string whose segments come
@@ -33,25 +32,18 @@ pub struct Walk<'a> {
 }
 
 impl<'a> Walk<'a> {
-    /// A walk over the encoding of a value of the type at the front of the octets. Where a reader of BER has taken them,
-    /// what it has judged is not judged again. What is not canonical is said by the rule. Takes no memory now.
-    pub fn new(
-        alloc: Global,
-        rule: Canonical,
-        ty: &'a WellTyped,
-        octets: &'a [u8],
-        is_taken: bool,
-    ) -> Walk<'a> {
+    /// A walk over values of the type, before the first one. What is not canonical is said by the rule. Takes no memory
+    /// now.
+    pub fn new(alloc: Global, rule: Canonical, ty: &'a WellTyped) -> Walk<'a> {
         let ty = ty.as_type();
         Walk {
             alloc,
             ty,
             rule,
-            octets,
             taken: 0,
             open: Vec::new(alloc),
             joined: Joined::new(alloc),
-            is_taken,
+            is_taken: false,
             is_over: false,
             line: Line {
                 at: 0,
@@ -63,6 +55,16 @@ impl<'a> Walk<'a> {
                 notes: Notes::none(),
             },
         }
+    }
+
+    /// Begins with the next value. Where a reader of BER has taken its octets, what it has judged is not judged again.
+    pub fn begin(&mut self, is_taken: bool) {
+        self.taken = 0;
+        self.open.clear();
+        self.joined.octets.clear();
+        self.joined.unused = 0;
+        self.is_taken = is_taken;
+        self.is_over = false;
     }
 
     /// What stands at the identifier to which `next_line` has gone.
@@ -98,13 +100,13 @@ impl<'a> Walk<'a> {
     }
 
     /// Goes to the next identifier, or the end of an indefinite form, of which `line` tells then. False behind the end
-    /// of the value.
-    pub fn next_line(&mut self) -> Result<bool, Stop<'a>> {
+    /// of the value. The octets are those from the front of the value on, the same at each call.
+    pub fn next_line(&mut self, octets: &[u8]) -> Result<bool, Stop<'a>> {
         self.close_definite()?;
         if self.is_over {
             return Ok(false);
         }
-        let rest = behind(self.octets, self.taken);
+        let rest = behind(octets, self.taken);
         let ended = match self.open.last() {
             Some(top) => match read_end(top.frame, self.taken, rest) {
                 Ok(ended) => ended,
@@ -114,7 +116,7 @@ impl<'a> Walk<'a> {
         };
         match ended {
             Some(used) => self.end(used)?,
-            None => match self.part(rest) {
+            None => match self.part(octets, rest) {
                 Ok(()) => {}
                 Err(stop) => return Err(stop.named(self.is_inside_definite())),
             },
@@ -175,18 +177,15 @@ impl<'a> Walk<'a> {
         if self.open.is_empty() {
             self.is_over = true;
         }
-        if self.is_taken && matches!(open.held, Held::Parts(_)) {
+        if let Held::Segments(_) = open.held {
+            return self.close_string(open.part);
+        }
+        if self.is_taken {
             return Ok(());
         }
-        let missing = open.missing();
-        let part = open.part;
-        let definite = open.frame.definite;
-        match open.held {
-            Held::Segments(_) => self.close_string(part),
-            Held::Parts(holding) => match holding.into_value(definite, false) {
-                Ok(_) => Ok(()),
-                Err(refusal) => Err(Stop::of(part, refusal, at, why_not_closed(missing))),
-            },
+        match why_not_closed(&open) {
+            Some((refusal, reason)) => Err(Stop::of(open.part, refusal, at, reason)),
+            None => Ok(()),
         }
     }
 
@@ -227,8 +226,8 @@ impl<'a> Walk<'a> {
         end.min(MAX_ENCODING)
     }
 
-    // Takes the part whose identifier stands at the front.
-    fn part(&mut self, rest: &'a [u8]) -> Result<(), Stop<'a>> {
+    // Takes the part whose identifier stands in front of the rest of the octets.
+    fn part(&mut self, octets: &[u8], rest: &[u8]) -> Result<(), Stop<'a>> {
         let (tag, constructed, identifier) = match read_head_tag(
             self.end_inside(),
             self.taken,
@@ -240,9 +239,9 @@ impl<'a> Walk<'a> {
         let default = self.due(tag, constructed)?;
         let opening = self.opening(constructed, identifier, rest)?;
         if opening.constructed {
-            self.open_part(default, &opening, rest)
+            self.open_part(default, &opening, octets)
         } else {
-            self.leaf(default, &opening, rest)
+            self.leaf(default, &opening, octets, rest)
         }
     }
 
@@ -267,11 +266,19 @@ fn end_of(node: &Ty) -> Part<'_> {
     }
 }
 
-// Why an encoding with parts cannot end.
-fn why_not_closed<'a>(missing: Option<&'a str>) -> Reason<'a> {
-    match missing {
-        Some(name) => Reason::Absent(name),
-        None => Reason::Words("nothing stands in an explicit tag"),
+// Why an encoding with parts cannot end, if it cannot.
+fn why_not_closed<'a>(open: &Open<'a>) -> Option<(Refusal, Reason<'a>)> {
+    if let Held::Explicit(Some(_)) = open.held {
+        let refusal = if open.frame.definite {
+            Refusal::Length
+        } else {
+            Refusal::EndOfContents
+        };
+        return Some((refusal, Reason::Words("nothing stands in an explicit tag")));
+    }
+    match open.missing() {
+        Some(name) => Some((Refusal::Missing, Reason::Absent(name))),
+        None => None,
     }
 }
 
