@@ -18,21 +18,19 @@ pub struct Found {
     pub reason: String,
 }
 
-/// Appends a line for each identifier of a value, before which `base` octets of the input stand. Of octets that are not
-/// taken, but refused, these are the lines up to the fault.
+/// Appends a line for each identifier of the value with which the walk has begun, before which `base` octets of the
+/// input stand. Of octets that are refused, these are the lines up to the fault.
 pub fn put_lines(
     alloc: Global,
-    ty: &WellTyped,
+    walk: &mut Walk<'_>,
     octets: &[u8],
     base: u64,
-    is_taken: bool,
     style: &Style<'_>,
     out: &mut String,
 ) -> Result<(), NoMemory> {
-    let mut walk = Walk::new(alloc, style.rule, ty, octets, is_taken);
     for _ in 0..=octets.len() {
-        match walk.next_line() {
-            Ok(true) => put_line(alloc, &walk, base, style, out)?,
+        match walk.next_line(octets) {
+            Ok(true) => put_line(alloc, walk, octets, base, style, out)?,
             Ok(false) | Err(_) => return Ok(()),
         }
     }
@@ -48,9 +46,9 @@ pub fn find(
     refusal: Refusal,
     style: &Style<'_>,
 ) -> Result<Option<Found>, NoMemory> {
-    let mut walk = Walk::new(alloc, style.rule, ty, octets, false);
+    let mut walk = Walk::new(alloc, style.rule, ty);
     for _ in 0..=octets.len() {
-        match walk.next_line() {
+        match walk.next_line(octets) {
             Ok(true) => {
                 if refusal == Refusal::NotCanonical && !walk.line().notes.is_empty() {
                     return of_note(alloc, &walk, style);

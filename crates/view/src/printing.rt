@@ -34,10 +34,12 @@ impl Style<'_> {
     }
 }
 
-/// Appends the line of an encoding to which a walk has gone, before whose value `base` octets of the input stand.
+/// Appends the line of an encoding to which a walk over these octets has gone, before which `base` octets of the input
+/// stand.
 pub fn put_line(
     alloc: Global,
     walk: &Walk<'_>,
+    octets: &[u8],
     base: u64,
     style: &Style<'_>,
     out: &mut String,
@@ -46,11 +48,11 @@ pub fn put_line(
     put_place(base, line, style.columns, out)?;
     match line.what {
         What::End => out.push_str("end of contents")?,
-        What::Parts | What::Leaf(_) | What::Segment(_) => put_name(walk, line, style, out)?,
+        What::Parts | What::Leaf | What::Segment => put_name(walk, line, style, out)?,
     }
     match line.what {
-        What::Leaf(contents) | What::Segment(contents) => {
-            put_value(alloc, line, contents, style, out)?;
+        What::Leaf | What::Segment => {
+            put_value(alloc, line, line.contents_in(octets), style, out)?;
         }
         What::Parts | What::End => {}
     }
@@ -118,7 +120,7 @@ fn put_value(
 ) -> Result<(), NoMemory> {
     let node = line.part.node;
     let (shown, omitted) = split_shown(node, contents, style);
-    if let What::Segment(_) = line.what {
+    if let What::Segment = line.what {
         out.push_str(" segment  ")?;
         put_string(node, shown, out)?;
     } else {

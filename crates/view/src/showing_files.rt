@@ -16,6 +16,7 @@ use std::alloc::Global;
 use std::io::Write;
 use std::string::String;
 use types::{Refusal, WellTyped};
+use walking::Walk;
 
 /// What the values of all files are printed by.
 #[derive(Drop)]
@@ -105,13 +106,15 @@ impl<D: FileSystem> Showing<'_, D> {
     }
 
     fn lines<'b, W>(&'b self, out: &'b mut W) -> ValueLines<'b, W> {
+        let style = self.style();
         ValueLines {
             alloc: self.alloc,
             ty: self.ty,
-            style: self.style(),
+            style,
             form: self.form,
             out,
             done: 0,
+            walk: Walk::new(self.alloc, style.rule, self.ty),
             text: String::new(self.alloc),
         }
     }

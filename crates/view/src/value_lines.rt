@@ -10,6 +10,7 @@ use std::alloc::Global;
 use std::io::Write;
 use std::string::String;
 use types::{Value, WellTyped};
+use walking::Walk;
 
 /// Prints values.
 #[derive(Drop)]
@@ -21,6 +22,8 @@ pub struct ValueLines<'a, W> {
     pub out: &'a mut W,
     /// How many values have come.
     pub done: u64,
+    /// The walk over each value.
+    pub walk: Walk<'a>,
     /// The room of the lines before.
     pub text: String,
 }
@@ -40,7 +43,8 @@ impl<W: Write> ValueLines<'_, W> {
         }
         let mut text = self.emptied();
         let style = self.style;
-        let put = put_lines(self.alloc, self.ty, octets, at, is_taken, &style, &mut text);
+        self.walk.begin(is_taken);
+        let put = put_lines(self.alloc, &mut self.walk, octets, at, &style, &mut text);
         let lines = match put {
             Ok(()) => Ok(text),
             Err(refused) => Err(refused),
@@ -86,10 +90,10 @@ impl<W: Write> ValueLines<'_, W> {
 }
 
 impl<W: Write> Visit for ValueLines<'_, W> {
-    fn value(&mut self, octets: &[u8], at: u64, value: Value) -> Result<(), Unwanted> {
+    fn value(&mut self, octets: &[u8], at: u64, value: &Value) -> Result<(), Unwanted> {
         let printed = match self.form {
             Form::Octets(wanted) => self.print_octets(wanted, octets, at, true),
-            Form::Json { indented } => self.print_json(indented, &value),
+            Form::Json { indented } => self.print_json(indented, value),
         };
         self.done = self.done.saturating_add(1);
         printed

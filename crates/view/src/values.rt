@@ -1,15 +1,15 @@
 //! Values one after another, with the octets that each has.
 
-use berreader::{Reader, Step};
+use berreader::Reader;
 use engine::{Canonical, Rule};
 use std::alloc::Global;
-use strict::read_canonical;
+use strict::read_into;
 use types::{Refusal, Value, WellTyped};
 
 /// What is done with each value.
 pub trait Visit {
     /// Takes a value, its octets, and how many octets of the input stand before them. Err where no more is wanted.
-    fn value(&mut self, octets: &[u8], at: u64, value: Value) -> Result<(), Unwanted>;
+    fn value(&mut self, octets: &[u8], at: u64, value: &Value) -> Result<(), Unwanted>;
 }
 
 /// The output takes no more, or memory ran out.
@@ -37,6 +37,8 @@ pub struct Values<'a> {
     from: Rule,
     ty: &'a WellTyped,
     reader: Reader<'a>,
+    // the value that came last, into whose room the next one goes
+    slot: Option<Value>,
     begun: Vec<u8>,
     at: u64,
     done: u64,
@@ -50,6 +52,7 @@ impl<'a> Values<'a> {
             from,
             ty,
             reader: Reader::new(alloc, ty),
+            slot: None,
             begun: Vec::new(alloc),
             at: 0,
             done: 0,
@@ -79,10 +82,10 @@ impl<'a> Values<'a> {
                 return Ok(());
             }
             match self.read(rest) {
-                Ok(Step::More) => return self.keep(rest),
-                Ok(Step::Done { value, used }) => {
+                Ok(None) => return self.keep(rest),
+                Ok(Some(used)) => {
                     let (front, behind) = rest.split_at(used.min(rest.len()));
-                    self.hand_on(front, value, visit)?;
+                    self.hand_on(front, visit)?;
                     rest = behind;
                 }
                 Err(refusal) => {
@@ -102,66 +105,69 @@ impl<'a> Values<'a> {
         }
     }
 
-    // Reads what stands at the front of a piece, by the rule.
-    fn read(&mut self, piece: &[u8]) -> Result<Step, Refusal> {
+    // Reads what stands at the front of a piece, by the rule, into the slot. Returns how many octets are the last of a
+    // value, if there is one.
+    fn read(&mut self, piece: &[u8]) -> Result<Option<usize>, Refusal> {
         match self.from {
-            Rule::Ber => self.reader.feed(piece),
+            Rule::Ber => self.feed(piece),
             Rule::Cer => self.read_strictly(Canonical::Cer, piece),
             Rule::Der => self.read_strictly(Canonical::Der, piece),
         }
     }
 
+    fn feed(&mut self, piece: &[u8]) -> Result<Option<usize>, Refusal> {
+        let used = self.reader.feed_into(piece, &mut self.slot)?;
+        Ok(if self.slot.is_some() {
+            Some(used)
+        } else {
+            None
+        })
+    }
+
     // Reads by a canonical rule: a value that is whole in the piece at once. Of any other the BER reader finds the end,
     // or the refusal.
-    fn read_strictly(&mut self, rule: Canonical, piece: &[u8]) -> Result<Step, Refusal> {
+    fn read_strictly(&mut self, rule: Canonical, piece: &[u8]) -> Result<Option<usize>, Refusal> {
         if self.begun.is_empty() {
-            match read_canonical(self.alloc, rule, self.ty, piece) {
-                Ok((value, used)) => return Ok(Step::Done { value, used }),
+            match read_into(self.alloc, rule, self.ty, piece, &mut self.slot) {
+                Ok(used) => return Ok(Some(used)),
                 Err(Refusal::NoMemory) => return Err(Refusal::NoMemory),
                 Err(_) => {}
             }
         }
-        match self.reader.feed(piece)? {
-            Step::More => Ok(Step::More),
-            Step::Done { value, used } => {
-                drop(value);
-                let value = self.judge(rule, piece.get(..used).unwrap_or(piece))?;
-                Ok(Step::Done { value, used })
-            }
-        }
+        let Some(used) = self.feed(piece)? else {
+            return Ok(None);
+        };
+        self.judge(rule, piece.get(..used).unwrap_or(piece))?;
+        Ok(Some(used))
     }
 
-    // The value of the octets that are begun and these, which BER takes.
-    fn judge(&mut self, rule: Canonical, last: &[u8]) -> Result<Value, Refusal> {
+    // Reads the value of the octets that are begun and these, which BER takes, by a canonical rule.
+    fn judge(&mut self, rule: Canonical, last: &[u8]) -> Result<(), Refusal> {
         let kept = self.begun.len();
         self.begun.extend_from_slice(last)?;
-        let read = read_canonical(self.alloc, rule, self.ty, self.begun.as_slice());
+        let octets = self.begun.as_slice();
+        let read = read_into(self.alloc, rule, self.ty, octets, &mut self.slot);
         self.begun.truncate(kept);
         match read {
-            Ok((value, _)) => Ok(value),
+            Ok(_) => Ok(()),
             Err(Refusal::NoMemory) => Err(Refusal::NoMemory),
             Err(_) => Err(Refusal::NotCanonical),
         }
     }
 
-    // Hands a value on, whose last octets these are.
-    fn hand_on<V: Visit>(
-        &mut self,
-        front: &[u8],
-        value: Value,
-        visit: &mut V,
-    ) -> Result<(), Ended> {
-        let wanted = if self.begun.is_empty() {
-            let wanted = visit.value(front, self.at, value);
-            self.at = self.at.saturating_add(front.len() as u64);
-            wanted
-        } else {
+    // Hands the value in the slot on, whose last octets these are.
+    fn hand_on<V: Visit>(&mut self, front: &[u8], visit: &mut V) -> Result<(), Ended> {
+        if !self.begun.is_empty() {
             self.keep(front)?;
-            let wanted = visit.value(self.begun.as_slice(), self.at, value);
-            self.at = self.at.saturating_add(self.begun.len() as u64);
-            self.begun.clear();
-            wanted
+        }
+        let octets = kept_or(self.begun.as_slice(), front);
+        let size = octets.len() as u64;
+        let wanted = match &self.slot {
+            Some(value) => visit.value(octets, self.at, value),
+            None => Ok(()),
         };
+        self.at = self.at.saturating_add(size);
+        self.begun.clear();
         self.done = self.done.saturating_add(1);
         match wanted {
             Ok(()) => Ok(()),
@@ -176,4 +182,9 @@ impl<'a> Values<'a> {
             Err(_) => Err(Ended::Unwanted(Unwanted::NoMemory)),
         }
     }
+}
+
+// The octets of a value: those that are kept, or those that are lent, where none are.
+fn kept_or<'a>(kept: &'a [u8], lent: &'a [u8]) -> &'a [u8] {
+    if kept.is_empty() { lent } else { kept }
 }
