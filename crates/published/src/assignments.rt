@@ -75,9 +75,20 @@ fn right_side_at(reader: &mut Reader) -> Result<Body, Stop> {
 // A type, or the use of a macro, which its name begins.
 fn type_at(reader: &mut Reader) -> Result<Body, Stop> {
     let found = whole_type_at(reader)?;
-    if reader.kind() != Kind::Upper || !matches!(reader.second(), Kind::Chars | Kind::Lower) {
-        return Ok(Body::Type(found));
+    if goes_on_as_macro(reader) {
+        rest_of_macro_use_at(reader)
+    } else {
+        Ok(Body::Type(found))
     }
+}
+
+// Whether a word of a macro's notation stands behind a name.
+fn goes_on_as_macro(reader: &Reader) -> bool {
+    reader.kind() == Kind::Upper && matches!(reader.second(), Kind::Chars | Kind::Lower)
+}
+
+// Passes the use of a macro, behind its name: a notation up to `SYNTAX`, and a type.
+fn rest_of_macro_use_at(reader: &mut Reader) -> Result<Body, Stop> {
     skip_to_word(reader, Reserved::Syntax)?;
     reader.word(Reserved::Syntax)?;
     whole_type_at(reader)?;
