@@ -104,7 +104,7 @@ fn bits(alloc: Global, written: &DefaultValue) -> Result<Option<Value>, AllocErr
     }
 }
 
-/// The same on named bits, where bits 0 at the end mean nothing (X.680 22.7).
+/// The default of a BIT STRING with named bits, where bits 0 at the end mean nothing (X.680 22.7).
 fn named_bits(alloc: Global, written: &DefaultValue) -> Result<Option<Value>, AllocError>
     ensures { (names : List NamedBitView) → IfOk result (λ found. IsStringTaken (StringType.named_bits names) (written_view written.now) found) }
 {

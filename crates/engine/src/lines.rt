@@ -37,7 +37,7 @@ impl Put for Lines<'_> {
 }
 
 impl Lines<'_> {
-    // The same into a vector without octets, in the room that it has.
+    // Puts the line of a value into a vector without octets, in the room that it has.
     fn put_first(&self, value: &Value, out: &mut Vec<u8>) -> Result<(), Refusal>
         requires conforms { Conforms (ty_view self.now.ty.now) (value_view value.now) }
         requires none { out.old.items ≡ [] }

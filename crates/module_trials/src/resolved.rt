@@ -31,7 +31,7 @@ fn told(alloc: Global, text: &str, name: &str) -> Result<String, AllocError> {
     }
 }
 
-/// The same of T in a module of these assignments, of which the first begins in column 1 of line 2.
+/// What is told of T in a module of these assignments, of which the first begins in column 1 of line 2.
 fn told_of(alloc: Global, tagging: &str, assignments: &str) -> Result<String, AllocError> {
     let text = format!(in alloc; "M DEFINITIONS {tagging} ::= BEGIN\n{assignments} END")?;
     told(alloc, text.as_str(), "T")

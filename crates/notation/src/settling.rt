@@ -70,7 +70,7 @@ impl<'a> Scope<'a> {
     }
 }
 
-/// The same, refused where there are too many nodes or levels.
+/// The weight, refused where there are too many nodes or levels.
 fn limited(weight: Weight) -> Weight
     ensures weight { (m : Tree) (form : Form) → IsWeight m form weight → IsWeight m form result }
     ensures within { result.cause ≡ Nothing → (result ≡ weight) × (weight.nodes ≤ 4_096) × (weight.levels ≤ 60) }

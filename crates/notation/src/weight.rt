@@ -73,7 +73,7 @@ impl Weight {
         }
     }
 
-    /// The same, refused for this cause too where a condition does not hold.
+    /// This weight, refused for the cause too where a condition does not hold.
     pub fn unless(self, holds: bool, cause: Cause) -> Weight
         ensures kept { IsTrue holds → result ≡ self }
         ensures refused { result.cause ≡ Nothing → IsTrue holds }

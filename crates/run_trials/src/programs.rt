@@ -44,7 +44,7 @@ pub fn check_run<R: Abort + AllocGlobal>(rt: &R, line: &Line, text: &[u8], want:
     check_run_of(rt, line, &[], text, want);
 }
 
-/// The same with a type of a module.
+/// Runs a command line with a type of a module, as `check_run` does.
 pub fn check_run_of<R: Abort + AllocGlobal>(
     rt: &R,
     line: &Line,

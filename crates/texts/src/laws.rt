@@ -2,7 +2,7 @@
 
 ghost use Rattle.texts.specs.Laws.{SameValuesHaveOneText};
 
-/// The same values have one text.
+/// Values that are the same have one text.
 pub fn same_values_have_one_text()
     ensures { SameValuesHaveOneText }
 {}

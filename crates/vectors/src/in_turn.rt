@@ -30,7 +30,7 @@ SEQUENCE OF SEQUENCE { a BOOLEAN OPTIONAL, b OCTET STRING OPTIONAL }:
 30 04 30 00 30 00              | kept | 30 80 30 80 00 00 30 80 00 00 00 00 | { { }, { } }
 ";
 
-// The same of values without components.
+// Rows of values without components, of which one follows another.
 const OTHERS: &str = "
 CHOICE { a UTF8String, b OCTET STRING, c SEQUENCE { d NULL OPTIONAL, e IA5String OPTIONAL } }:
 0C 03 61 62 63                 | kept | kept                    | a : \"abc\"

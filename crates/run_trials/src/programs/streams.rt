@@ -21,7 +21,7 @@ fn converted(
     Ok((sink.into_vec(), counted(result)))
 }
 
-// The same by single octets, on both sides.
+// What `convert` writes of a source that gives single octets to a sink that takes single octets, and its count.
 fn converted_by_octets(
     alloc: Global,
     letter: u8,
