@@ -1,6 +1,6 @@
 PREFIX ?= $(HOME)/.local
 
-.PHONY: demo examples test growths install companions try clean rt
+.PHONY: demo examples test edits growths install companions try clean rt
 
 # Converts 01 01 2a, a BOOLEAN under BER, to DER, then checks, shows and converts the values of examples/, by a
 # program that is compiled once, without a proof. examples/demo/ has the words of each run. Of the text of a
@@ -27,9 +27,15 @@ demo: rt
 examples:
 	@examples/run.sh
 
-# Passes the gate: every proof, must-fail edit, test and stored run.
+# Passes the gate: every proof, test and stored run, and the must-fail edits of crates/. Those of bench/edits/ are looked
+# at: each can still be applied.
 test: rt
+	@bench/edits.py --look
 	rt ci
+
+# Tries the must-fail edits of bench/edits/, which the gate has no time for.
+edits: rt
+	bench/edits.py
 
 # Has each growth of each call of the library refused in turn, and first those of the program where it is built. It
 # proves nothing, and takes some minutes, mostly to compile.

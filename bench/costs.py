@@ -59,18 +59,20 @@ def table(seen):
     spent = defaultdict(lambda: defaultdict(float))
     for crate, kind, seconds in seen.values():
         spent[crate][kind] += seconds
-    print("| Crate | Proof | Proof of tests | Trying edits | Edits | Tests |\n|---|---|---|---|---|---|")
+    print("| Crate | Proof | Proof of tests | Trying edits | Edits | Outside | Tests |\n|---|---|---|---|---|---|---|")
     crates = [line.split(":")[0] for line in (TOP / "crates.txt").read_text().splitlines() if ":" in line]
-    edits_of_all = tests_of_all = 0
+    edits_of_all = outside_of_all = tests_of_all = 0
     for crate in crates:
         edits = len(list((TOP / "crates" / crate / "must-fail").glob("*.edit")))
+        outside = len(list((TOP / "bench" / "edits" / crate).glob("*.edit")))
         tests = count(crate, "src/**/*.rt", "#[test]")
         edits_of_all += edits
+        outside_of_all += outside
         tests_of_all += tests
         times = " | ".join(minutes(spent[crate][kind]) for kind in KINDS)
-        print(f"| `{crate}` | {times} | {edits or 'none'} | {tests or 'none'} |")
+        print(f"| `{crate}` | {times} | {edits or 'none'} | {outside or 'none'} | {tests or 'none'} |")
     whole = " | ".join(minutes(sum(of[kind] for of in spent.values())) for kind in KINDS)
-    print(f"| all | {whole} | {edits_of_all} | {tests_of_all} |")
+    print(f"| all | {whole} | {edits_of_all} | {outside_of_all} | {tests_of_all} |")
     print(f"\nbesides: {minutes(spent[None]['rest'])}; in all: {minutes(sum(s for _, _, s in seen.values()))}")
 
 
