@@ -8,6 +8,7 @@ ghost use Rattle.types.specs.View.{ty_view};
 ghost use Rattle.contents.specs.Contents.{IsEnumerated, IsFilled};
 
 use crate::contents::read_contents;
+use crate::slots::take_bits;
 use octets::Tag;
 use primitives::{
     is_wide_integer, read_bits_in, read_boolean, read_integer, read_oid, read_oid_into,
@@ -176,12 +177,7 @@ fn fill_oid(alloc: Global, tag: Tag, contents: &[u8], slot: &mut Option<Value>) 
 fn fill_bits(alloc: Global, tag: Tag, contents: &[u8], slot: &mut Option<Value>) -> bool
     ensures { IsTrue result → IsFilled ber (Shape.string tag StringType.bit_string) contents.now slot.new }
 {
-    let room = match slot.take() {
-        Some(Value::Bits(bits)) => bits.into_octets(),
-        Some(_other) => Vec::new(alloc),
-        None => Vec::new(alloc),
-    };
-    match read_bits_in(room, contents) {
+    match read_bits_in(take_bits(alloc, slot), contents) {
         Ok(bits) => {
             *slot = Some(Value::Bits(bits));
             true

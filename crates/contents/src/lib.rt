@@ -33,4 +33,4 @@ pub use lengths::can_have_length;
 pub use parts::read_opening;
 pub use seats::{Seat, Seats, is_default, not_due, seat_due, seats_of};
 pub use segments::{Segments, read_end};
-pub use slots::{clear, empty_slots, put_chosen, take_chosen, take_list, take_slots};
+pub use slots::{clear, empty_slots, put_chosen, take_bits, take_chosen, take_list, take_slots};

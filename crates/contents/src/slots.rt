@@ -45,6 +45,15 @@ pub fn take_list(alloc: Global, slot: &mut Option<Value>) -> Vec<Value> {
     }
 }
 
+/// Takes out the vector of the bits that the slot holds, if it does; else there is an empty one. Takes no memory.
+pub fn take_bits(alloc: Global, slot: &mut Option<Value>) -> Vec<u8> {
+    match slot.take() {
+        Some(Value::Bits(bits)) => bits.into_octets(),
+        Some(_other) => Vec::new(alloc),
+        None => Vec::new(alloc),
+    }
+}
+
 /// Takes out the value of an alternative that the slot holds, if it does, and leaves its box there.
 pub fn take_chosen(slot: &mut Option<Value>) -> Option<Value> {
     match slot {

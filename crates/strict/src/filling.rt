@@ -12,9 +12,9 @@ ghost use Rattle.strict.specs.Reading.{IsRead};
 
 use crate::short::short_primitive;
 use crate::values::{has_zeros_unused, read_truth, read_value};
-use contents::fill;
+use contents::{fill, take_bits};
 use octets::Tag;
-use primitives::read_bits;
+use primitives::read_bits_in;
 use std::alloc::Global;
 use types::{Ty, Value};
 
@@ -121,7 +121,7 @@ fn fill_truth(contents: &[u8], slot: &mut Option<Value>) -> bool
 fn fill_bits(alloc: Global, contents: &[u8], slot: &mut Option<Value>) -> bool
     ensures { IsTrue result → MatchOption slot.new ⊥ (λ value. IsBitsOf (value_view value) contents.now) }
 {
-    let Ok(bits) = read_bits(alloc, contents) else {
+    let Ok(bits) = read_bits_in(take_bits(alloc, slot), contents) else {
         return false;
     };
     if !has_zeros_unused(contents) {

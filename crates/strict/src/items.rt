@@ -19,6 +19,7 @@ use crate::canonical::Canonical;
 use crate::ends::ends;
 use crate::head::{Inside, named, opened};
 use crate::parts::read_one;
+use contents::take_list;
 use octets::{MAX_ENCODING, Tag};
 use std::alloc::Global;
 use types::{Refusal, Ty, Value};
@@ -48,7 +49,8 @@ pub fn read_list(
 {
     let inside = opened(rule, tag, room, octets)?;
     let behind = &octets[inside.start..];
-    let mut items = Vec::new(alloc);
+    let mut items = take_list(alloc, slot);
+    items.clear();
     match read_items(alloc, rule, inner, &inside, behind, &mut items) {
         Ok(used) => {
             *slot = Some(Value::Items(items));
@@ -113,7 +115,8 @@ pub fn read_set_of(
 {
     let inside = opened(rule, tag, room, octets)?;
     let behind = &octets[inside.start..];
-    let mut items = Vec::new(alloc);
+    let mut items = take_list(alloc, slot);
+    items.clear();
     match read_ordered(alloc, rule, inner, &inside, behind, &mut items) {
         Ok(used) => {
             *slot = Some(Value::Items(items));
