@@ -1,277 +1,130 @@
-use crate::made::{EXPLICIT, NESTED_CHOICE, Plan, SEQUENCE, SEQUENCE_OF, SET, SET_OF, ty_of};
-use octets::Tag;
+//! Which encodings are read at once, as what, and which are left to be read step by step.
+
+use crate::given::is_read_as;
+use crate::made::{OctetsTable, check_octets};
 use std::alloc::Global;
 use std::test::Fail;
-use strings::{TextKind, TimeKind};
-use types::{Ty, Value, WellTyped};
+use types::{Value, WellTyped};
 use whole::read_whole;
 
-const ENUMERATED: Plan = Plan::Enumerated(&[2, 7]);
-
-// The type that a letter stands for.
-fn type_of(alloc: Global, letter: u8) -> Result<Ty, Fail> {
-    let plan = match letter {
-        b'b' => Plan::Boolean,
-        b'i' => Plan::Integer,
-        b'h' => Plan::TaggedInteger(31),
-        b'e' => ENUMERATED,
-        b'n' => Plan::Empty,
-        b'd' => Plan::Oid,
-        b'r' => Plan::RelativeOid,
-        b'v' => Plan::Bits,
-        b'o' => Plan::Octets,
-        b'p' => return Ok(Ty::Text(Tag::universal(19), TextKind::Printable)),
-        b't' => return Ok(Ty::Time(Tag::universal(23), TimeKind::Utc)),
-        b'x' => EXPLICIT,
-        b's' => SEQUENCE,
-        b'S' => SET,
-        b'l' => SEQUENCE_OF,
-        b'L' => SET_OF,
-        _ => NESTED_CHOICE,
-    };
-    ty_of(alloc, &plan)
-}
-
 // What is read at once, and how many octets it has.
-fn at_once(alloc: Global, letter: u8, octets: &[u8]) -> Result<Option<(Value, usize)>, Fail> {
-    let Ok(ty) = WellTyped::new(type_of(alloc, letter)?) else {
-        return Ok(None);
-    };
+fn at_once(alloc: Global, ty: &WellTyped, octets: &[u8]) -> Option<(Value, usize)> {
     let mut whole = None;
-    let found = read_whole(alloc, ty.as_type(), octets, &mut whole);
-    Ok(match (found, whole) {
-        (Some(used), Some(value)) => Some((value, used)),
-        _ => None,
-    })
+    let used = read_whole(alloc, ty.as_type(), octets, &mut whole)?;
+    Some((whole?, used))
 }
 
-// Stands for a slot that is empty.
-const NONE: i128 = -1000;
-
-// The numbers, arcs below 1,000 and octets in a value, one after another: of a BOOLEAN 1 or 0, of a BIT STRING first
-// how many bits are unused, and of a CHOICE first which alternative it is.
-fn flatten(value: &Value, numbers: &mut Vec<i128>) -> Result<(), Fail> {
-    match value {
-        Value::Boolean(truth) => numbers.push(if *truth { 1 } else { 0 })?,
-        Value::Integer(number) | Value::Enumerated(number) => numbers.push(*number)?,
-        Value::Null => {}
-        Value::Oid(arcs) | Value::RelativeOid(arcs) => {
-            for arc in arcs {
-                numbers.push((*arc % 1_000) as i128)?;
-            }
-        }
-        Value::Bits(bits) => {
-            numbers.push(i128::from(bits.unused()))?;
-            for octet in bits.octets() {
-                numbers.push(i128::from(*octet))?;
-            }
-        }
-        Value::Octets(octets) | Value::Text(octets) | Value::WideInteger(octets) => {
-            for octet in octets {
-                numbers.push(i128::from(*octet))?;
-            }
-        }
-        Value::Fields(slots) => {
-            for slot in slots {
-                match slot {
-                    Some(value) => flatten(value, numbers)?,
-                    None => numbers.push(NONE)?,
-                }
-            }
-        }
-        Value::Items(items) => {
-            for item in items {
-                flatten(item, numbers)?;
-            }
-        }
-        Value::Chosen(which, value) => {
-            numbers.push(*which as i128)?;
-            flatten(value, numbers)?;
+// Whether none of the fronts of fewer octets, of those of up to 100, is read at once.
+fn reads_no_front(alloc: Global, ty: &WellTyped, octets: &[u8], used: usize) -> bool {
+    for cut in 0..used.min(100) {
+        let (front, _) = octets.split_at(cut.min(octets.len()));
+        if at_once(alloc, ty, front).is_some() {
+            return false;
         }
     }
-    Ok(())
+    true
 }
 
-// Whether the encoding is read at once, also before other octets, as these numbers, and no front of it is.
-fn is_read(alloc: Global, letter: u8, encoding: &[u8], want: &[i128]) -> Result<bool, Fail> {
-    for cut in 0..encoding.len() {
-        if at_once(alloc, letter, &encoding[..cut])?.is_some() {
-            return Ok(false);
+struct AtOnce;
+
+impl OctetsTable for AtOnce {
+    fn holds(alloc: Global, ty: &WellTyped, octets: &[u8], others: &str) -> Result<bool, Fail> {
+        match at_once(alloc, ty, octets) {
+            Some((value, used)) => {
+                let no_front = reads_no_front(alloc, ty, octets, used);
+                Ok(no_front && is_read_as(alloc, &value, used, others)?)
+            }
+            None => Ok(others.starts_with("none: ")),
         }
     }
-    let mut octets = Vec::from_slice(alloc, encoding)?;
-    octets.extend_from_slice(&[0x00, 0x00])?;
-    let Some((value, used)) = at_once(alloc, letter, &octets)? else {
-        return Ok(false);
-    };
-    let mut numbers = Vec::new(alloc);
-    flatten(&value, &mut numbers)?;
-    Ok(used == encoding.len() && numbers.as_slice() == want)
 }
+
+// type | an encoding, and two octets behind it | how many octets are read at once, where no fewer are, and the value
+const WITHOUT_PARTS: &str = "\
+BOOLEAN | 01 01 2A 00 00 | 3 TRUE
+BOOLEAN | 01 81 01 00 00 00 | 4 FALSE
+INTEGER | 02 02 01 00 00 00 | 4 256
+INTEGER | 02 82 00 01 FF 00 00 | 5 -1
+[31]INTEGER | 9F 1F 01 05 00 00 | 4 5
+[31]INTEGER | 9F 1F 81 01 05 00 00 | 5 5
+ENUMERATED(2,7) | 0A 01 07 00 00 | 3 enum:7
+NULL | 05 00 00 00 | 2 NULL
+OID | 06 03 2A 03 04 00 00 | 5 oid:1.2.3.4
+RELATIVE-OID | 0D 02 08 01 00 00 | 4 relative:8.1
+BITS | 03 02 04 F0 00 00 | 4 bits:F0/4
+OCTETS | 04 02 41 42 00 00 | 4 octets:4142
+OCTETS | 04 81 00 00 00 | 3 octets:''
+PrintableString | 13 02 41 62 00 00 | 4 text:'Ab'
+PrintableString | 13 00 00 00 | 2 text:''
+UTCTime | 17 0D 32 36 30 31 30 31 30 30 30 30 30 30 5A 00 00 | 15 text:'260101000000Z'";
 
 #[test]
 fn values_without_parts(rt: HostRuntime) -> Result<(), Fail> {
-    // the type, an encoding, the value
-    let cases: [(u8, &[u8], &[i128]); 16] = [
-        (b'b', &[0x01, 0x01, 0x2A], &[1]),
-        (b'b', &[0x01, 0x81, 0x01, 0x00], &[0]),
-        (b'i', &[0x02, 0x02, 0x01, 0x00], &[256]),
-        (b'i', &[0x02, 0x82, 0x00, 0x01, 0xFF], &[-1]),
-        (b'h', &[0x9F, 0x1F, 0x01, 0x05], &[5]),
-        (b'h', &[0x9F, 0x1F, 0x81, 0x01, 0x05], &[5]),
-        (b'e', &[0x0A, 0x01, 0x07], &[7]),
-        (b'n', &[0x05, 0x00], &[]),
-        (b'd', &[0x06, 0x03, 0x2A, 0x03, 0x04], &[1, 2, 3, 4]),
-        (b'r', &[0x0D, 0x02, 0x08, 0x01], &[8, 1]),
-        (b'v', &[0x03, 0x02, 0x04, 0xF0], &[4, 0xF0]),
-        (b'o', &[0x04, 0x02, 0x41, 0x42], &[0x41, 0x42]),
-        (b'o', &[0x04, 0x81, 0x00], &[]),
-        (b'p', &[0x13, 0x02, 0x41, 0x62], &[0x41, 0x62]),
-        (b'p', &[0x13, 0x00], &[]),
-        (
-            b't',
-            &[
-                0x17, 0x0D, 0x32, 0x36, 0x30, 0x31, 0x30, 0x31, 0x30, 0x30, 0x30, 0x30, 0x30, 0x30,
-                0x5A,
-            ],
-            &[
-                0x32, 0x36, 0x30, 0x31, 0x30, 0x31, 0x30, 0x30, 0x30, 0x30, 0x30, 0x30, 0x5A,
-            ],
-        ),
-    ];
-    for (letter, encoding, want) in cases {
-        let read = is_read(rt.alloc(), letter, encoding, want)?;
-        assert!(rt; read, "{encoding:?}");
-    }
-    Ok(())
+    check_octets::<AtOnce>(rt.alloc(), WITHOUT_PARTS)
 }
+
+// type | an encoding, and two octets behind it | how many octets are read at once, where no fewer are, and the value
+const WITH_PARTS: &str = "\
+[1]{ INTEGER } | A1 03 02 01 05 00 00 | 5 5
+[1]{ INTEGER } | A1 80 02 01 05 00 00 00 00 | 7 5
+[1]{ INTEGER } | A1 81 03 02 01 05 00 00 | 6 5
+SEQUENCE{ INTEGER BOOLEAN? [0]INTEGER=5 } | 30 03 02 01 07 00 00 | 5 fields( 7 - - )
+SEQUENCE{ INTEGER BOOLEAN? [0]INTEGER=5 } | 30 80 02 01 07 01 01 FF 80 01 06 00 00 00 00 | 13 fields( 7 TRUE 6 )
+SEQUENCE{ INTEGER BOOLEAN? [0]INTEGER=5 } | 30 06 02 01 07 80 01 05 00 00 | 8 fields( 7 - - )
+SEQUENCE{ INTEGER BOOLEAN? [0]INTEGER=5 } | 30 06 02 01 07 80 01 06 00 00 | 8 fields( 7 - 6 )
+SET{ INTEGER BOOLEAN? [0]INTEGER=5 } | 31 06 01 01 FF 02 01 07 00 00 | 8 fields( 7 TRUE - )
+SET{ INTEGER BOOLEAN? [0]INTEGER=5 } | 31 80 80 01 05 02 01 07 00 00 00 00 | 10 fields( 7 - - )
+SET{ INTEGER BOOLEAN? [0]INTEGER=5 } | 31 09 80 01 06 01 01 00 02 01 07 00 00 | 11 fields( 7 FALSE 6 )
+SEQUENCE-OF{ INTEGER } | 30 06 02 01 01 02 01 02 00 00 | 8 items( 1 2 )
+SEQUENCE-OF{ INTEGER } | 30 80 00 00 00 00 | 4 items( )
+SEQUENCE-OF{ INTEGER } | 30 00 00 00 | 2 items( )
+SET-OF{ INTEGER } | 31 80 02 01 02 02 01 01 00 00 00 00 | 10 items( 2 1 )
+CHOICE{ INTEGER CHOICE{ BOOLEAN SEQUENCE-OF{ INTEGER } } } | 02 01 03 00 00 | 3 0( 3 )
+CHOICE{ INTEGER CHOICE{ BOOLEAN SEQUENCE-OF{ INTEGER } } } | 01 01 FF 00 00 | 3 1( 0( TRUE ) )
+CHOICE{ INTEGER CHOICE{ BOOLEAN SEQUENCE-OF{ INTEGER } } } | 30 03 02 01 09 00 00 | 5 1( 1( items( 9 ) ) )
+CHOICE{ INTEGER CHOICE{ BOOLEAN SEQUENCE-OF{ INTEGER } } } | 30 80 02 01 09 00 00 00 00 | 7 1( 1( items( 9 ) ) )";
 
 #[test]
 fn values_with_parts(rt: HostRuntime) -> Result<(), Fail> {
-    // the type, an encoding, the value
-    let cases: [(u8, &[u8], &[i128]); 18] = [
-        (b'x', &[0xA1, 0x03, 0x02, 0x01, 0x05], &[5]),
-        (b'x', &[0xA1, 0x80, 0x02, 0x01, 0x05, 0x00, 0x00], &[5]),
-        (b'x', &[0xA1, 0x81, 0x03, 0x02, 0x01, 0x05], &[5]),
-        (b's', &[0x30, 0x03, 0x02, 0x01, 0x07], &[7, NONE, NONE]),
-        (
-            b's',
-            &[
-                0x30, 0x80, 0x02, 0x01, 0x07, 0x01, 0x01, 0xFF, 0x80, 0x01, 0x06, 0x00, 0x00,
-            ],
-            &[7, 1, 6],
-        ),
-        (
-            b's',
-            &[0x30, 0x06, 0x02, 0x01, 0x07, 0x80, 0x01, 0x05],
-            &[7, NONE, NONE],
-        ),
-        (
-            b's',
-            &[0x30, 0x06, 0x02, 0x01, 0x07, 0x80, 0x01, 0x06],
-            &[7, NONE, 6],
-        ),
-        (
-            b'S',
-            &[0x31, 0x06, 0x01, 0x01, 0xFF, 0x02, 0x01, 0x07],
-            &[7, 1, NONE],
-        ),
-        (
-            b'S',
-            &[0x31, 0x80, 0x80, 0x01, 0x05, 0x02, 0x01, 0x07, 0x00, 0x00],
-            &[7, NONE, NONE],
-        ),
-        (
-            b'S',
-            &[
-                0x31, 0x09, 0x80, 0x01, 0x06, 0x01, 0x01, 0x00, 0x02, 0x01, 0x07,
-            ],
-            &[7, 0, 6],
-        ),
-        (
-            b'l',
-            &[0x30, 0x06, 0x02, 0x01, 0x01, 0x02, 0x01, 0x02],
-            &[1, 2],
-        ),
-        (b'l', &[0x30, 0x80, 0x00, 0x00], &[]),
-        (b'l', &[0x30, 0x00], &[]),
-        (
-            b'L',
-            &[0x31, 0x80, 0x02, 0x01, 0x02, 0x02, 0x01, 0x01, 0x00, 0x00],
-            &[2, 1],
-        ),
-        (b'c', &[0x02, 0x01, 0x03], &[0, 3]),
-        (b'c', &[0x01, 0x01, 0xFF], &[1, 0, 1]),
-        (b'c', &[0x30, 0x03, 0x02, 0x01, 0x09], &[1, 1, 9]),
-        (
-            b'c',
-            &[0x30, 0x80, 0x02, 0x01, 0x09, 0x00, 0x00],
-            &[1, 1, 9],
-        ),
-    ];
-    for (letter, encoding, want) in cases {
-        let read = is_read(rt.alloc(), letter, encoding, want)?;
-        assert!(rt; read, "{encoding:?}");
-    }
-    Ok(())
+    check_octets::<AtOnce>(rt.alloc(), WITH_PARTS)
 }
+
+// type | octets | none: why they are not read at once
+const NOT_READ: &str = "\
+BOOLEAN | 02 01 2A | none: another tag
+BOOLEAN | 21 01 2A | none: another form
+[1]{ INTEGER } | 81 01 05 | none: another form
+[31]INTEGER | 9F 20 01 05 | none: another tag
+CHOICE{ INTEGER CHOICE{ BOOLEAN SEQUENCE-OF{ INTEGER } } } | 04 00 | none: another tag
+OCTETS | 24 03 04 01 41 | none: a constructed string
+INTEGER | 02 02 00 01 | none: contents octets of no value
+ENUMERATED(2,7) | 0A 01 03 | none: contents octets of no value
+PrintableString | 13 01 2A | none: contents octets of no value
+BITS | 03 01 08 | none: contents octets of no value
+[1]{ INTEGER } | A1 00 | none: no encoding inside
+[1]{ INTEGER } | A1 06 02 01 05 02 01 06 | none: two encodings inside
+SEQUENCE{ INTEGER BOOLEAN? [0]INTEGER=5 } | 30 00 | none: a component is missing
+SEQUENCE{ INTEGER BOOLEAN? [0]INTEGER=5 } | 30 80 00 00 | none: a component is missing
+SEQUENCE{ INTEGER BOOLEAN? [0]INTEGER=5 } | 30 06 02 01 07 02 01 07 | none: a component stands where none may
+SEQUENCE{ INTEGER BOOLEAN? [0]INTEGER=5 } | 30 06 01 01 FF 02 01 07 | none: a component stands where none may
+SEQUENCE{ INTEGER BOOLEAN? [0]INTEGER=5 } | 30 80 02 01 07 00 01 | none: octets that are no end
+SET{ INTEGER BOOLEAN? [0]INTEGER=5 } | 31 03 01 01 FF | none: a component is missing
+SET{ INTEGER BOOLEAN? [0]INTEGER=5 } | 31 06 02 01 07 02 01 07 | none: a component stands where none may
+SET{ INTEGER BOOLEAN? [0]INTEGER=5 } | 31 06 02 01 07 04 01 41 | none: a component stands where none may
+SEQUENCE-OF{ INTEGER } | 30 80 02 01 07 01 00 | none: octets that are no end
+SEQUENCE-OF{ INTEGER } | 30 05 02 01 07 00 00 | none: octets that are no end";
 
 #[test]
 fn what_is_not_read(rt: HostRuntime) -> Result<(), Fail> {
-    // the type, octets
-    let cases: [(u8, &[u8]); 22] = [
-        // another tag, another form
-        (b'b', &[0x02, 0x01, 0x2A]),
-        (b'b', &[0x21, 0x01, 0x2A]),
-        (b'x', &[0x81, 0x01, 0x05]),
-        (b'h', &[0x9F, 0x20, 0x01, 0x05]),
-        (b'c', &[0x04, 0x00]),
-        // a constructed string
-        (b'o', &[0x24, 0x03, 0x04, 0x01, 0x41]),
-        // contents octets of no value
-        (b'i', &[0x02, 0x02, 0x00, 0x01]),
-        (b'e', &[0x0A, 0x01, 0x03]),
-        (b'p', &[0x13, 0x01, 0x2A]),
-        (b'v', &[0x03, 0x01, 0x08]),
-        // no encoding inside an explicit tag, and two
-        (b'x', &[0xA1, 0x00]),
-        (b'x', &[0xA1, 0x06, 0x02, 0x01, 0x05, 0x02, 0x01, 0x06]),
-        // a component is missing, and one stands where none may
-        (b's', &[0x30, 0x00]),
-        (b's', &[0x30, 0x80, 0x00, 0x00]),
-        (b's', &[0x30, 0x06, 0x02, 0x01, 0x07, 0x02, 0x01, 0x07]),
-        (b's', &[0x30, 0x06, 0x01, 0x01, 0xFF, 0x02, 0x01, 0x07]),
-        (b'S', &[0x31, 0x03, 0x01, 0x01, 0xFF]),
-        (b'S', &[0x31, 0x06, 0x02, 0x01, 0x07, 0x02, 0x01, 0x07]),
-        (b'S', &[0x31, 0x06, 0x02, 0x01, 0x07, 0x04, 0x01, 0x41]),
-        // octets that are no end
-        (b's', &[0x30, 0x80, 0x02, 0x01, 0x07, 0x00, 0x01]),
-        (b'l', &[0x30, 0x80, 0x02, 0x01, 0x07, 0x01, 0x00]),
-        (b'l', &[0x30, 0x05, 0x02, 0x01, 0x07, 0x00, 0x00]),
-    ];
-    for (letter, octets) in cases {
-        let read = at_once(rt.alloc(), letter, octets)?;
-        assert_eq!(rt; read, None, "{octets:?}");
-    }
-    Ok(())
+    check_octets::<AtOnce>(rt.alloc(), NOT_READ)
 }
+
+// type | octets | how many of them are read at once, and the value, or none and why
+const LONGEST: &str = "\
+OCTETS | 04 83 0F FF FB 41*1048571 00 00 | 1048576 octets:41*1048571
+OCTETS | 04 83 0F FF FC 41*1048572 | none: longer than any that is read at once";
 
 #[test]
 fn the_limit(rt: HostRuntime) -> Result<(), Fail> {
-    // how many contents octets an OCTET STRING has, and how many octets of it are read at once
-    let cases: [(usize, Option<usize>); 2] = [(1_048_571, Some(1_048_576)), (1_048_572, None)];
-    for (count, want) in cases {
-        let low = if count == 1_048_571 { 0xFB } else { 0xFC };
-        let mut octets = Vec::from_slice(rt.alloc(), &[0x04, 0x83, 0x0F, 0xFF, low])?;
-        octets.reserve(count)?;
-        for _ in 0..count {
-            octets.push(0x41)?;
-        }
-        let used = match at_once(rt.alloc(), b'o', &octets)? {
-            Some((_, used)) => Some(used),
-            None => None,
-        };
-        assert_eq!(rt; used, want, "{count}");
-    }
-    Ok(())
+    check_octets::<AtOnce>(rt.alloc(), LONGEST)
 }

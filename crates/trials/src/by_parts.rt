@@ -4,116 +4,95 @@ mod alternatives;
 mod holdings;
 mod leaves;
 
+use crate::rows::{Table, check, four, numbered, octets_of, pair_of, prints};
 use contents::{Frame, named, not_due, read_end, read_head_tag, read_opening};
-use octets::{Class, MAX_ENCODING, Tag};
-use types::{Refusal, Ty};
+use octets::{MAX_ENCODING, Tag};
+use std::alloc::Global;
+use std::test::Fail;
+use types::Refusal;
 
-fn octet_string() -> Ty {
-    Ty::Octets(Tag::universal(4))
+struct Read;
+
+impl Table for Read {
+    fn holds(alloc: Global, row: &str) -> Result<bool, Fail> {
+        let (what, place, octets, want) = four(row)?;
+        let (end, taken) = pair_of(place)?;
+        let octets = octets_of(alloc, octets)?;
+        if end > MAX_ENCODING {
+            return Ok(false);
+        }
+        match what {
+            "tag" => prints(alloc, &numbered(read_head_tag(end, taken, &octets)), want),
+            "opening" => prints(alloc, &numbered(read_opening(end, taken, &octets)), want),
+            _ => {
+                let definite = what == "definite end";
+                let ended = read_end(Frame { definite, end }, taken, &octets);
+                Ok(prints(alloc, &numbered(ended), want)? && (definite || what == "indefinite end"))
+            }
+        }
+    }
 }
 
-fn boolean() -> Ty {
-    Ty::Boolean(Tag::universal(1))
-}
+// what is read | the end of what holds it, and how many octets stand before it | octets |
+// the tag, whether the encoding is constructed and how many octets the tag has, or the refusal's number
+const TAGS: &str = "\
+tag            | 10 5 | A1 03          | Ok((Tag { class: Context, number: 1 }, true, 1))
+tag            | 10 5 | 00             | Ok((Tag { class: Universal, number: 0 }, false, 1))
+tag            | 8 5  | 1F 81 00       | Ok((Tag { class: Universal, number: 128 }, false, 3))
+tag            | 7 5  | 1F 81 00       | Err(11)
+tag            | 5 5  | 02             | Err(11)
+tag            | 6 5  | ''             | Err(1)
+tag            | 10 5 | 1F 80          | Err(2)
+tag            | 10 5 | 3F FF FF FF 7F | Ok((Tag { class: Universal, number: 268435455 }, true, 5))
+tag            | 10 5 | 1F 81 80 80 80 | Err(2)";
 
 #[test]
-fn any_tags(rt: HostRuntime) {
-    let context = Tag {
-        class: Class::Context,
-        number: 1,
-    };
-    // (end, octets before it), octets, the tag, whether it is constructed and how many octets it has
-    let cases: [((usize, usize), &[u8], Result<(Tag, bool, usize), u8>); 9] = [
-        ((10, 5), &[0xA1, 0x03], Ok((context, true, 1))),
-        ((10, 5), &[0x00], Ok((Tag::universal(0), false, 1))),
-        (
-            (8, 5),
-            &[0x1F, 0x81, 0x00],
-            Ok((Tag::universal(128), false, 3)),
-        ),
-        ((7, 5), &[0x1F, 0x81, 0x00], Err(11)),
-        ((5, 5), &[0x02], Err(11)),
-        ((6, 5), &[], Err(1)),
-        ((10, 5), &[0x1F, 0x80], Err(2)),
-        (
-            (10, 5),
-            &[0x3F, 0xFF, 0xFF, 0xFF, 0x7F],
-            Ok((Tag::universal(268_435_455), true, 5)),
-        ),
-        ((10, 5), &[0x1F, 0x81, 0x80, 0x80, 0x80], Err(2)),
-    ];
-    for ((end, taken), octets, want) in cases {
-        let found = match read_head_tag(end, taken, octets) {
-            Ok(found) => Ok(found),
-            Err(refusal) => Err(refusal.number()),
-        };
-        assert_eq!(rt; found, want, "at {octets:?}");
-    }
+fn any_tags(rt: HostRuntime) -> Result<(), Fail> {
+    check::<Read>(rt.alloc(), TAGS)
 }
 
-// What the length octets of a constructed encoding open, or the refusal's number.
-fn opened(end: usize, taken: usize, octets: &[u8]) -> Option<Result<(usize, Frame), u8>> {
-    if end > MAX_ENCODING {
-        return None;
-    }
-    match read_opening(end, taken, octets) {
-        Ok(found) => Some(Ok(found)),
-        Err(refusal) => Some(Err(refusal.number())),
-    }
-}
+// what is read | the end of what holds it, and how many octets stand before it | octets |
+// how many length octets there are, and the form and end of the contents
+const OPENINGS: &str = "\
+opening        | 10 5 | 03             | Ok((1, Frame { definite: true, end: 9 }))
+opening        | 10 5 | 04             | Ok((1, Frame { definite: true, end: 10 }))
+opening        | 10 5 | 05             | Err(11)
+opening        | 10 5 | 81 03          | Ok((2, Frame { definite: true, end: 10 }))
+opening        | 10 5 | 80             | Ok((1, Frame { definite: false, end: 8 }))
+opening        | 8 5  | 80             | Ok((1, Frame { definite: false, end: 6 }))
+opening        | 7 5  | 80             | Err(11)
+opening        | 10 5 | ''             | Err(1)
+opening        | 10 5 | FF             | Err(4)";
 
 #[test]
-fn openings(rt: HostRuntime) {
-    // (end, octets before it), octets, how many length octets there are, and the form and end of the contents
-    let cases: [((usize, usize), &[u8], Result<(usize, bool, usize), u8>); 9] = [
-        ((10, 5), &[0x03], Ok((1, true, 9))),
-        ((10, 5), &[0x04], Ok((1, true, 10))),
-        ((10, 5), &[0x05], Err(11)),
-        ((10, 5), &[0x81, 0x03], Ok((2, true, 10))),
-        ((10, 5), &[0x80], Ok((1, false, 8))),
-        ((8, 5), &[0x80], Ok((1, false, 6))),
-        ((7, 5), &[0x80], Err(11)),
-        ((10, 5), &[], Err(1)),
-        ((10, 5), &[0xFF], Err(4)),
-    ];
-    for ((end, taken), octets, want) in cases {
-        let want = match want {
-            Ok((used, definite, end)) => Ok((used, Frame { definite, end })),
-            Err(number) => Err(number),
-        };
-        let found = opened(end, taken, octets);
-        assert_eq!(rt; found, Some(want), "at {octets:?}");
-    }
+fn openings(rt: HostRuntime) -> Result<(), Fail> {
+    check::<Read>(rt.alloc(), OPENINGS)
 }
 
+// what is read | the end of what holds it, and how many octets stand before it | octets | how many octets the end has
+const ENDS: &str = "\
+definite end   | 9 9  | 04             | Ok(Some(0))
+definite end   | 9 5  | 00 00          | Ok(None)
+indefinite end | 9 5  | 00 00 04       | Ok(Some(2))
+indefinite end | 9 9  | 00 00          | Ok(Some(2))
+indefinite end | 9 10 | 00 00          | Err(5)
+indefinite end | 9 5  | 00 01          | Err(5)
+indefinite end | 9 5  | 00             | Err(1)
+indefinite end | 9 5  | ''             | Err(1)
+indefinite end | 9 5  | 04 00          | Ok(None)";
+
 #[test]
-fn ends(rt: HostRuntime) {
-    // (whether the form is definite, the end, octets before it), octets, how many octets the end has
-    let cases: [((bool, usize, usize), &[u8], Result<Option<usize>, u8>); 9] = [
-        ((true, 9, 9), &[0x04], Ok(Some(0))),
-        ((true, 9, 5), &[0x00, 0x00], Ok(None)),
-        ((false, 9, 5), &[0x00, 0x00, 0x04], Ok(Some(2))),
-        ((false, 9, 9), &[0x00, 0x00], Ok(Some(2))),
-        ((false, 9, 10), &[0x00, 0x00], Err(5)),
-        ((false, 9, 5), &[0x00, 0x01], Err(5)),
-        ((false, 9, 5), &[0x00], Err(1)),
-        ((false, 9, 5), &[], Err(1)),
-        ((false, 9, 5), &[0x04, 0x00], Ok(None)),
-    ];
-    for ((definite, end, taken), octets, want) in cases {
-        let found = match read_end(Frame { definite, end }, taken, octets) {
-            Ok(found) => Ok(found),
-            Err(refusal) => Err(refusal.number()),
-        };
-        assert_eq!(rt; found, want, "at {octets:?}");
-    }
+fn ends(rt: HostRuntime) -> Result<(), Fail> {
+    check::<Read>(rt.alloc(), ENDS)
 }
 
 #[test]
 fn names_of_refusals(rt: HostRuntime) {
-    assert_eq!(rt; named(true, Refusal::TooLong), Refusal::Length);
-    assert_eq!(rt; named(false, Refusal::TooLong), Refusal::TooLong);
-    assert_eq!(rt; named(true, Refusal::Truncated), Refusal::Truncated);
-    assert_eq!(rt; not_due(Tag::universal(0)), Refusal::EndOfContents);
-    assert_eq!(rt; not_due(Tag::universal(2)), Refusal::Identifier);
+    let inside = named(true, Refusal::TooLong) == Refusal::Length;
+    let outside = named(false, Refusal::TooLong) == Refusal::TooLong;
+    let another = named(true, Refusal::Truncated) == Refusal::Truncated;
+    assert_eq!(rt; (inside, outside, another), (true, true, true));
+    let end = not_due(Tag::universal(0)) == Refusal::EndOfContents;
+    let other = not_due(Tag::universal(2)) == Refusal::Identifier;
+    assert_eq!(rt; (end, other), (true, true));
 }

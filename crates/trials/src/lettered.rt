@@ -1,20 +1,9 @@
+//! Which contents octets character strings and times have.
+
+use crate::rows::{Table, check, is_yes, octets_of, three};
 use std::alloc::Global;
 use std::test::Fail;
 use strings::{TextKind, TimeKind, allowed, is_time};
-
-/// The octets that a column of a table spells: those of the characters between `'`, or those of pairs of digits.
-pub fn octets_of(alloc: Global, column: &str) -> Result<Vec<u8>, Fail> {
-    let mut octets = Vec::new(alloc);
-    match column.split_once('\'') {
-        Some((_, text)) => octets.extend_from_slice(text.trim_end_matches('\'').as_bytes())?,
-        None => {
-            for pair in column.trim().split(' ') {
-                octets.push(u8::from_str_radix(pair, 16)?)?;
-            }
-        }
-    }
-    Ok(octets)
-}
 
 /// The type of a name.
 pub fn kind_of(name: &str) -> Result<TextKind, Fail> {
@@ -29,7 +18,22 @@ pub fn kind_of(name: &str) -> Result<TextKind, Fail> {
     })
 }
 
-// type | contents octets | allowed
+struct Strings;
+
+impl Table for Strings {
+    fn holds(alloc: Global, row: &str) -> Result<bool, Fail> {
+        let (name, contents, want) = three(row)?;
+        let contents = octets_of(alloc, contents)?;
+        let found = match name {
+            "GeneralizedTime" => is_time(TimeKind::Generalized, &contents),
+            "UTCTime" => is_time(TimeKind::Utc, &contents),
+            _ => allowed(kind_of(name)?, &contents),
+        };
+        Ok(found == is_yes(want)?)
+    }
+}
+
+// type | contents octets | whether the type has them
 const CHARACTER_STRINGS: &str = "\
 UTF8String | '' | yes
 NumericString | '' | yes
@@ -72,108 +76,81 @@ BMPString | DF FF | no
 BMPString | D8 00 DC 00 | no
 BMPString | 00 41 D8 00 | no";
 
-// Whether a row of the table holds.
-fn is_text_row(alloc: Global, row: &str) -> Result<bool, Fail> {
-    let (name, columns) = row.split_once(" | ").ok_or("one column")?;
-    let (contents, want) = columns.split_once(" | ").ok_or("two columns")?;
-    let contents = octets_of(alloc, contents)?;
-    Ok(allowed(kind_of(name)?, contents.as_slice()) == (want == "yes"))
-}
-
 #[test]
 fn character_strings(rt: HostRuntime) -> Result<(), Fail> {
-    for row in CHARACTER_STRINGS.lines() {
-        assert!(rt; is_text_row(rt.alloc(), row)?, "{row}");
-    }
-    Ok(())
+    check::<Strings>(rt.alloc(), CHARACTER_STRINGS)
 }
 
-// contents octets | a GeneralizedTime
+// type | contents octets | whether the type has them
 const GENERALIZED_TIMES: &str = "\
-'20240229120000Z' | yes
-'20000229000000Z' | yes
-'00000229000000Z' | yes
-'20230229120000Z' | no
-'19000229000000Z' | no
-'20240230000000Z' | no
-'20240131000000Z' | yes
-'20240430000000Z' | yes
-'20240431000000Z' | no
-'20241231000000Z' | yes
-'20241232000000Z' | no
-'20240400000000Z' | no
-'20240001000000Z' | no
-'20241301000000Z' | no
-'99991231235959Z' | yes
-'20240101235959.05Z' | yes
-'20240101000000.000000000001Z' | yes
-'20240101000000.123456789012Z' | yes
-'20240101000000.1234567890123Z' | no
-'20240101000000.50Z' | no
-'20240101000000.0Z' | no
-'20240101000000.Z' | no
-'20240101000000,5Z' | no
-'20240101000000.5' | no
-'20240101000000.5.5Z' | no
-'20240101000000.5ZZ' | no
-'20240101240000Z' | no
-'20240101230000Z' | yes
-'20240101006000Z' | no
-'20240101000060Z' | no
-'202401010000Z' | no
-'20240101000000' | no
-'20240101000000z' | no
-'20240101000000+0000' | no
-'20240101000000Z ' | no
-' 20240101000000Z' | no
-'2024010100000:Z' | no
-'2024010100000/Z' | no
-'20240101000000Z\0' | no
-'240229120000Z' | no
-'' | no
-'Z' | no
-'2024' | no";
-
-// contents octets | a UTCTime
-const UTC_TIMES: &str = "\
-'240229120000Z' | yes
-'000229000000Z' | yes
-'991231235959Z' | yes
-'230229120000Z' | no
-'2402291200Z' | no
-'240229120000.5Z' | no
-'20240229120000Z' | no
-'240431000000Z' | no
-'240229120000' | no
-'240229120000z' | no
-'240229120000+0000' | no
-'240229240000Z' | no
-'240229126000Z' | no
-'240229120060Z' | no
-'' | no";
-
-// Whether a row of a table of times holds.
-fn is_time_row(alloc: Global, kind: TimeKind, row: &str) -> Result<bool, Fail> {
-    let (contents, want) = row.split_once(" | ").ok_or("one column")?;
-    let contents = octets_of(alloc, contents)?;
-    Ok(is_time(kind, contents.as_slice()) == (want == "yes"))
-}
+GeneralizedTime | '20240229120000Z' | yes
+GeneralizedTime | '20000229000000Z' | yes
+GeneralizedTime | '00000229000000Z' | yes
+GeneralizedTime | '20230229120000Z' | no
+GeneralizedTime | '19000229000000Z' | no
+GeneralizedTime | '20240230000000Z' | no
+GeneralizedTime | '20240131000000Z' | yes
+GeneralizedTime | '20240430000000Z' | yes
+GeneralizedTime | '20240431000000Z' | no
+GeneralizedTime | '20241231000000Z' | yes
+GeneralizedTime | '20241232000000Z' | no
+GeneralizedTime | '20240400000000Z' | no
+GeneralizedTime | '20240001000000Z' | no
+GeneralizedTime | '20241301000000Z' | no
+GeneralizedTime | '99991231235959Z' | yes
+GeneralizedTime | '20240101235959.05Z' | yes
+GeneralizedTime | '20240101000000.000000000001Z' | yes
+GeneralizedTime | '20240101000000.123456789012Z' | yes
+GeneralizedTime | '20240101000000.1234567890123Z' | no
+GeneralizedTime | '20240101000000.50Z' | no
+GeneralizedTime | '20240101000000.0Z' | no
+GeneralizedTime | '20240101000000.Z' | no
+GeneralizedTime | '20240101000000,5Z' | no
+GeneralizedTime | '20240101000000.5' | no
+GeneralizedTime | '20240101000000.5.5Z' | no
+GeneralizedTime | '20240101000000.5ZZ' | no
+GeneralizedTime | '20240101240000Z' | no
+GeneralizedTime | '20240101230000Z' | yes
+GeneralizedTime | '20240101006000Z' | no
+GeneralizedTime | '20240101000060Z' | no
+GeneralizedTime | '202401010000Z' | no
+GeneralizedTime | '20240101000000' | no
+GeneralizedTime | '20240101000000z' | no
+GeneralizedTime | '20240101000000+0000' | no
+GeneralizedTime | '20240101000000Z ' | no
+GeneralizedTime | ' 20240101000000Z' | no
+GeneralizedTime | '2024010100000:Z' | no
+GeneralizedTime | '2024010100000/Z' | no
+GeneralizedTime | '20240101000000Z\0' | no
+GeneralizedTime | '240229120000Z' | no
+GeneralizedTime | '' | no
+GeneralizedTime | 'Z' | no
+GeneralizedTime | '2024' | no";
 
 #[test]
 fn generalized_times(rt: HostRuntime) -> Result<(), Fail> {
-    for row in GENERALIZED_TIMES.lines() {
-        assert!(rt;
-            is_time_row(rt.alloc(), TimeKind::Generalized, row)?,
-            "{row}"
-        );
-    }
-    Ok(())
+    check::<Strings>(rt.alloc(), GENERALIZED_TIMES)
 }
+
+// type | contents octets | whether the type has them
+const UTC_TIMES: &str = "\
+UTCTime | '240229120000Z' | yes
+UTCTime | '000229000000Z' | yes
+UTCTime | '991231235959Z' | yes
+UTCTime | '230229120000Z' | no
+UTCTime | '2402291200Z' | no
+UTCTime | '240229120000.5Z' | no
+UTCTime | '20240229120000Z' | no
+UTCTime | '240431000000Z' | no
+UTCTime | '240229120000' | no
+UTCTime | '240229120000z' | no
+UTCTime | '240229120000+0000' | no
+UTCTime | '240229240000Z' | no
+UTCTime | '240229126000Z' | no
+UTCTime | '240229120060Z' | no
+UTCTime | '' | no";
 
 #[test]
 fn utc_times(rt: HostRuntime) -> Result<(), Fail> {
-    for row in UTC_TIMES.lines() {
-        assert!(rt; is_time_row(rt.alloc(), TimeKind::Utc, row)?, "{row}");
-    }
-    Ok(())
+    check::<Strings>(rt.alloc(), UTC_TIMES)
 }

@@ -1,237 +1,192 @@
-//! Types and values made in code, from plans that tables can hold.
+//! Types from their notation: words with one space between them.
+//!
+//! A type without parts is a word: `BOOLEAN`, `INTEGER`, `NULL`, `OID`, `RELATIVE-OID`, `BITS`, `OCTETS`,
+//! `ENUMERATED(1,3)` for one of these numbers, or the name of a character string or a time; before it may stand the
+//! tag that it has in place of its universal one, as `[3]NULL` or `[UNIVERSAL.0]NULL`. One with parts stands between a
+//! word that ends with `{` and the word `}`: `SEQUENCE{`, `SET{`, `CHOICE{`, `SEQUENCE-OF{`, `SET-OF{` or, for an
+//! explicit tag, `[3]{`. The last word of a component ends with `?` where it may be absent, and with `=` and a value
+//! where that is its default; `_` stands there for a space. A word that ends with `*` and a number stands there as many
+//! times.
 
-use octets::{Class, Tag};
-use primitives::Bits;
+use crate::given::value_between;
+use crate::lettered::kind_of;
+use crate::rows::{not_so, octets_of, rows_of, tag_of, three, times_of};
+use octets::Tag;
 use std::alloc::Global;
 use std::test::Fail;
-use strings::{TextKind, TimeKind};
-use types::{Alternative, Field, Item, Name, Presence, Ty, Value, WellTyped};
+use strings::TimeKind;
+use types::{Alternative, Field, Item, Presence, Ty, WellTyped};
 
-/// A type. Where no tag is planned it has its universal one.
-#[cycle(plans)]
-#[derive(Drop)]
-pub enum Plan {
-    Boolean,
-    Integer,
-    /// The items' numbers.
-    Enumerated(&'static [i128]),
-    /// NULL.
-    Empty,
-    Oid,
-    RelativeOid,
-    Bits,
-    Octets,
-    Text(TextKind),
-    Time(TimeKind),
-    /// INTEGER with a context-specific tag.
-    TaggedInteger(u32),
-    /// NULL with another tag.
-    Tagged(Class, u32),
-    Sequence(&'static [Part]),
-    Set(&'static [Part]),
-    SequenceOf(&'static Plan),
-    SetOf(&'static Plan),
-    Choice(&'static [Plan]),
-    Explicit(Class, u32, &'static Plan),
+/// The type of a notation, which keeps the rules.
+pub fn typed(alloc: Global, text: &str) -> Result<WellTyped, Fail> {
+    Ok(WellTyped::new(ty_of(alloc, text)?)?)
 }
 
-/// A component.
-#[cycle(plans)]
-#[derive(Drop)]
-pub enum Part {
-    Required(Plan),
-    Optional(Plan),
-    Default(Plan, Given),
+/// What a table shows whose rows begin with a type and octets.
+pub trait OctetsTable {
+    /// Whether a row holds of this type, of these octets and of the columns behind them.
+    fn holds(alloc: Global, ty: &WellTyped, octets: &[u8], others: &str) -> Result<bool, Fail>;
 }
 
-/// A value.
-#[derive(Drop)]
-pub enum Given {
-    Boolean(bool),
-    Integer(i128),
-    Enumerated(i128),
-    /// NULL.
-    Empty,
-    Oid(&'static [u128]),
-    RelativeOid(&'static [u128]),
-    /// Octets and how many bits of the last are unused.
-    Bits(&'static [u8], u8),
-    Octets(&'static [u8]),
-    Text(&'static [u8]),
-    Fields(&'static [Option<Given>]),
-    Items(&'static [Given]),
-    Chosen(usize, &'static Given),
-}
-
-const COMPONENTS: [Part; 3] = [
-    Part::Required(Plan::Integer),
-    Part::Optional(Plan::Boolean),
-    Part::Default(Plan::TaggedInteger(0), Given::Integer(5)),
-];
-
-/// SEQUENCE { INTEGER, BOOLEAN OPTIONAL, [0] IMPLICIT INTEGER DEFAULT 5 }
-pub const SEQUENCE: Plan = Plan::Sequence(&COMPONENTS);
-
-/// SET { INTEGER, BOOLEAN OPTIONAL, [0] IMPLICIT INTEGER DEFAULT 5 }
-pub const SET: Plan = Plan::Set(&COMPONENTS);
-
-/// SEQUENCE OF INTEGER
-pub const SEQUENCE_OF: Plan = Plan::SequenceOf(&Plan::Integer);
-
-/// SET OF INTEGER
-pub const SET_OF: Plan = Plan::SetOf(&Plan::Integer);
-
-/// [1] EXPLICIT INTEGER
-pub const EXPLICIT: Plan = Plan::Explicit(Class::Context, 1, &Plan::Integer);
-
-/// CHOICE { INTEGER, CHOICE { BOOLEAN, SEQUENCE OF INTEGER } }
-pub const NESTED_CHOICE: Plan = Plan::Choice(&[
-    Plan::Integer,
-    Plan::Choice(&[Plan::Boolean, SEQUENCE_OF]),
-]);
-
-/// The tag of class context-specific.
-pub fn context(number: u32) -> Tag {
-    let class = Class::Context;
-    Tag { class, number }
-}
-
-/// The type that is planned, which keeps the rules.
-pub fn typed(alloc: Global, plan: &Plan) -> Result<WellTyped, Fail> {
-    Ok(WellTyped::new(ty_of(alloc, plan)?)?)
-}
-
-/// The type that is planned. Components, alternatives and items have the names `first`, `second`, `third`
-/// and then `next`.
-#[cycle(making)]
-pub fn ty_of(alloc: Global, plan: &Plan) -> Result<Ty, Fail> {
-    Ok(match plan {
-        Plan::Boolean => Ty::Boolean(Tag::universal(1)),
-        Plan::Integer => Ty::Integer(Tag::universal(2)),
-        Plan::Enumerated(numbers) => Ty::Enumerated(Tag::universal(10), items_of(alloc, numbers)?),
-        Plan::Empty => Ty::Null(Tag::universal(5)),
-        Plan::Oid => Ty::Oid(Tag::universal(6)),
-        Plan::RelativeOid => Ty::RelativeOid(Tag::universal(13)),
-        Plan::Bits => Ty::Bits(Tag::universal(3)),
-        Plan::Octets => Ty::Octets(Tag::universal(4)),
-        Plan::Text(kind) => Ty::Text(Tag::universal(12), *kind),
-        Plan::Time(kind) => Ty::Time(Tag::universal(24), *kind),
-        Plan::TaggedInteger(number) => Ty::Integer(context(*number)),
-        Plan::Tagged(class, number) => {
-            let (class, number) = (*class, *number);
-            Ty::Null(Tag { class, number })
+/// Fails at the first row that does not hold, and where there is none.
+pub fn check_octets<T: OctetsTable>(alloc: Global, table: &str) -> Result<(), Fail> {
+    for row in rows_of(table)? {
+        if !row_holds::<T>(alloc, row)? {
+            return Err(not_so(row));
         }
-        Plan::Sequence(parts) => Ty::Sequence(Tag::universal(16), fields_of(alloc, parts)?),
-        Plan::Set(parts) => Ty::Set(Tag::universal(17), fields_of(alloc, parts)?),
-        Plan::SequenceOf(inner) => {
-            Ty::SequenceOf(Tag::universal(16), Box::new(alloc, ty_of(alloc, inner)?)?)
+    }
+    Ok(())
+}
+
+fn row_holds<T: OctetsTable>(alloc: Global, row: &str) -> Result<bool, Fail> {
+    let (ty, octets, others) = three(row)?;
+    let ty = typed(alloc, ty)?;
+    let octets = octets_of(alloc, octets)?;
+    T::holds(alloc, &ty, &octets, others)
+}
+
+/// The type of a notation. All components, alternatives and items have one name.
+pub fn ty_of(alloc: Global, text: &str) -> Result<Ty, Fail> {
+    let mut parts = Vec::new(alloc);
+    let mut open = Vec::new(alloc);
+    for word in text.split(' ') {
+        let (word, times) = times_of(word)?;
+        for _ in 0..times {
+            take_word(alloc, word, &mut parts, &mut open)?;
         }
-        Plan::SetOf(inner) => Ty::SetOf(Tag::universal(17), Box::new(alloc, ty_of(alloc, inner)?)?),
-        Plan::Choice(plans) => Ty::Choice(alternatives_of(alloc, plans)?),
-        Plan::Explicit(class, number, inner) => {
-            let (class, number) = (*class, *number);
-            Ty::Explicit(
-                Tag { class, number },
-                Box::new(alloc, ty_of(alloc, inner)?)?,
-            )
+    }
+    if !open.is_empty() {
+        return Err("a type without an end".into());
+    }
+    only(parts)
+}
+
+// Takes a word: `parts` are those of all types that are open, and `open` has of each the word that it begins with and
+// how many parts stand before its own.
+fn take_word<'a>(
+    alloc: Global,
+    word: &'a str,
+    parts: &mut Vec<Field>,
+    open: &mut Vec<(&'a str, usize)>,
+) -> Result<(), Fail> {
+    if let Some(begun) = word.strip_suffix('{') {
+        return Ok(open.push((begun, parts.len()))?);
+    }
+    let part = part_of(alloc, word, parts, open)?;
+    Ok(parts.push(part)?)
+}
+
+// The part that ends with a word.
+fn part_of(
+    alloc: Global,
+    word: &str,
+    parts: &mut Vec<Field>,
+    open: &mut Vec<(&str, usize)>,
+) -> Result<Field, Fail> {
+    if let Some(bare) = word.strip_suffix('?') {
+        return Ok(Field::optional(alloc, "a", ended(alloc, bare, parts, open)?)?);
+    }
+    match word.split_once('=') {
+        Some((bare, value)) => {
+            let value = value_between(alloc, value, '_')?;
+            Ok(Field::default(alloc, "a", ended(alloc, bare, parts, open)?, value)?)
         }
+        None => Ok(Field::required(alloc, "a", ended(alloc, word, parts, open)?)?),
+    }
+}
+
+// The type that ends with a word without the sign of a component.
+fn ended(
+    alloc: Global,
+    word: &str,
+    parts: &mut Vec<Field>,
+    open: &mut Vec<(&str, usize)>,
+) -> Result<Ty, Fail> {
+    if word != "}" {
+        return without_parts(alloc, word);
+    }
+    let (begun, before) = open.pop().ok_or("an end of no type")?;
+    let own = parts.split_off(before.min(parts.len()))?;
+    with_parts(alloc, begun, own)
+}
+
+// The type with parts that begins with this word.
+fn with_parts(alloc: Global, begun: &str, parts: Vec<Field>) -> Result<Ty, Fail> {
+    Ok(match begun {
+        "SEQUENCE" => Ty::sequence(parts),
+        "SET" => Ty::set(parts),
+        "SEQUENCE-OF" => Ty::sequence_of(alloc, only(parts)?)?,
+        "SET-OF" => Ty::set_of(alloc, only(parts)?)?,
+        "CHOICE" => Ty::choice(alternatives_of(alloc, parts)?),
+        _ => match tagged(begun)? {
+            Some((tag, "")) => only(parts)?.explicit(alloc, tag)?,
+            _ => return Err("no type with parts".into()),
+        },
     })
 }
 
-// The name of what stands behind so many.
-fn name_behind(alloc: Global, before: usize) -> Result<Name, Fail> {
-    let name = match before {
-        0 => "first",
-        1 => "second",
-        2 => "third",
-        _ => "next",
+// The tag between brackets at the front of a word, where one stands there, and what stands behind it.
+fn tagged(word: &str) -> Result<Option<(Tag, &str)>, Fail> {
+    let Some((tag, behind)) = word.split_once(']') else {
+        return Ok(None);
     };
-    Ok(Name::new(alloc, name)?)
+    let tag = tag.strip_prefix('[').ok_or("a tag without a beginning")?;
+    Ok(Some((tag_of(tag)?, behind)))
 }
 
-fn items_of(alloc: Global, numbers: &[i128]) -> Result<Vec<Item>, Fail> {
-    let mut items = Vec::new(alloc);
-    for number in numbers {
-        let name = name_behind(alloc, items.len())?;
-        let number = *number;
-        items.push(Item { name, number })?;
+// The type of the one part, which is no component.
+fn only(mut parts: Vec<Field>) -> Result<Ty, Fail> {
+    let part = parts.pop().ok_or("no part")?;
+    match (part.presence, parts.is_empty()) {
+        (Presence::Required, true) => Ok(part.ty),
+        _ => Err("more than one part, or the sign of a component".into()),
     }
-    Ok(items)
 }
 
-#[cycle(making)]
-fn alternatives_of(alloc: Global, plans: &[Plan]) -> Result<Vec<Alternative>, Fail> {
+fn alternatives_of(alloc: Global, parts: Vec<Field>) -> Result<Vec<Alternative>, Fail> {
     let mut alternatives = Vec::new(alloc);
-    for plan in plans {
-        let ty = ty_of(alloc, plan)?;
-        let name = name_behind(alloc, alternatives.len())?;
-        alternatives.push(Alternative { name, ty })?;
+    for part in parts {
+        let Field { name, ty, presence } = part;
+        match presence {
+            Presence::Required => alternatives.push(Alternative { name, ty })?,
+            _ => return Err("the sign of a component at an alternative".into()),
+        }
     }
     Ok(alternatives)
 }
 
-#[cycle(making)]
-fn fields_of(alloc: Global, parts: &[Part]) -> Result<Vec<Field>, Fail> {
-    let mut fields = Vec::new(alloc);
-    for part in parts {
-        let (ty, presence) = match part {
-            Part::Required(plan) => (ty_of(alloc, plan)?, Presence::Required),
-            Part::Optional(plan) => (ty_of(alloc, plan)?, Presence::Optional),
-            Part::Default(plan, given) => {
-                let value = value_of(alloc, given)?;
-                (ty_of(alloc, plan)?, Presence::Default(value))
-            }
-        };
-        let name = name_behind(alloc, fields.len())?;
-        fields.push(Field { name, ty, presence })?;
+// The type without parts that a word names.
+fn without_parts(alloc: Global, word: &str) -> Result<Ty, Fail> {
+    match tagged(word)? {
+        Some((tag, bare)) => Ok(untagged(alloc, bare)?.implicit(alloc, tag)?),
+        None => untagged(alloc, word),
     }
-    Ok(fields)
 }
 
-/// The value that is given.
-#[cycle(giving)]
-pub fn value_of(alloc: Global, given: &Given) -> Result<Value, Fail> {
-    Ok(match given {
-        Given::Boolean(truth) => Value::Boolean(*truth),
-        Given::Integer(number) => Value::Integer(*number),
-        Given::Enumerated(number) => Value::Enumerated(*number),
-        Given::Empty => Value::Null,
-        Given::Oid(arcs) => Value::Oid(Vec::from_slice(alloc, arcs)?),
-        Given::RelativeOid(arcs) => Value::RelativeOid(Vec::from_slice(alloc, arcs)?),
-        Given::Bits(octets, unused) => bits_of(Vec::from_slice(alloc, octets)?, *unused)?,
-        Given::Octets(octets) => Value::Octets(Vec::from_slice(alloc, octets)?),
-        Given::Text(octets) => Value::Text(Vec::from_slice(alloc, octets)?),
-        Given::Fields(slots) => Value::Fields(slots_of(alloc, slots)?),
-        Given::Items(items) => Value::Items(values_of(alloc, items)?),
-        Given::Chosen(which, inner) => {
-            Value::Chosen(*which, Box::new(alloc, value_of(alloc, inner)?)?)
-        }
+fn untagged(alloc: Global, word: &str) -> Result<Ty, Fail> {
+    Ok(match word {
+        "BOOLEAN" => Ty::boolean(),
+        "INTEGER" => Ty::integer(),
+        "NULL" => Ty::null(),
+        "OID" => Ty::oid(),
+        "RELATIVE-OID" => Ty::relative_oid(),
+        "BITS" => Ty::bits(),
+        "OCTETS" => Ty::octets(),
+        "GeneralizedTime" => Ty::time(TimeKind::Generalized),
+        "UTCTime" => Ty::time(TimeKind::Utc),
+        _ => match word.strip_prefix("ENUMERATED(") {
+            Some(numbers) => Ty::enumerated(items_of(alloc, numbers)?),
+            None => Ty::text(kind_of(word)?),
+        },
     })
 }
 
-/// The bits of octets but the last unused ones.
-pub fn bits_of(octets: Vec<u8>, unused: u8) -> Result<Value, Fail> {
-    Ok(Value::Bits(Bits::new(octets, unused).ok_or("too many bits unused")?))
-}
-
-#[cycle(giving)]
-fn values_of(alloc: Global, given: &[Given]) -> Result<Vec<Value>, Fail> {
-    let mut values = Vec::new(alloc);
-    for item in given {
-        values.push(value_of(alloc, item)?)?;
+// The items of an ENUMERATED, whose numbers stand before `)`.
+fn items_of(alloc: Global, numbers: &str) -> Result<Vec<Item>, Fail> {
+    let numbers = numbers.strip_suffix(')').ok_or("items without an end")?;
+    let mut items = Vec::new(alloc);
+    for number in numbers.split(',') {
+        items.push(Item::new(alloc, "a", number.parse::<i128>()?)?)?;
     }
-    Ok(values)
-}
-
-#[cycle(giving)]
-fn slots_of(alloc: Global, given: &[Option<Given>]) -> Result<Vec<Option<Value>>, Fail> {
-    let mut slots = Vec::new(alloc);
-    for slot in given {
-        let value = match slot {
-            None => None,
-            Some(value) => Some(value_of(alloc, value)?),
-        };
-        slots.push(value)?;
-    }
-    Ok(slots)
+    Ok(items)
 }

@@ -1,280 +1,230 @@
+//! Contents octets of the types without parts, as BER reads them.
+
+use crate::given::is_value;
+use crate::rows::{Table, check, four, octets_of};
 use primitives::{
     Bits, Fault, put_bits, put_boolean, put_integer, put_null, put_oid, put_relative_oid,
     read_bits, read_boolean, read_integer, read_null, read_oid, read_relative_oid,
 };
 use std::alloc::Global;
 use std::test::Fail;
+use types::Value;
 
-#[test]
-fn boolean_contents(rt: HostRuntime) {
-    // (contents octets, value under BER)
-    let cases: [(&[u8], Option<bool>); 5] = [
-        (&[], None),
-        (&[0x00], Some(false)),
-        (&[0x2A], Some(true)),
-        (&[0xFF], Some(true)),
-        (&[0xFF, 0x00], None),
-    ];
-    for (contents, value) in cases {
-        assert_eq!(rt; read_boolean(contents), value, "at {contents:?}");
+// Reads contents octets of a type whose values take no memory, and writes the value; none where they have none.
+fn plain(name: &str, contents: &[u8], out: &mut Vec<u8>) -> Result<Option<Value>, Fail> {
+    match name {
+        "BOOLEAN" => {
+            let Some(truth) = read_boolean(contents) else {
+                return Ok(None);
+            };
+            put_boolean(out, truth)?;
+            Ok(Some(Value::Boolean(truth)))
+        }
+        "NULL" => {
+            let Some(()) = read_null(contents) else {
+                return Ok(None);
+            };
+            put_null(out)?;
+            Ok(Some(Value::Null))
+        }
+        _ => {
+            let Some(number) = read_integer(contents) else {
+                return Ok(None);
+            };
+            put_integer(out, number)?;
+            Ok(Some(Value::Integer(number)))
+        }
     }
 }
 
-#[test]
-fn null_contents(rt: HostRuntime) {
-    assert_eq!(rt; read_null(&[]), Some(()));
-    assert_eq!(rt; read_null(&[0x00]), None);
-}
-
-#[test]
-fn integer_contents(rt: HostRuntime) {
-    // (contents octets, number)
-    let cases: [(&[u8], Option<i128>); 16] = [
-        (&[], None),
-        (&[0x00], Some(0)),
-        (&[0xFF], Some(-1)),
-        (&[0x80], Some(-128)),
-        (&[0x7F], Some(127)),
-        (&[0x00, 0x80], Some(128)),
-        (&[0xFF, 0x7F], Some(-129)),
-        (&[0x01, 0x00], Some(256)),
-        (&[0x00, 0x7F], None),
-        (&[0x00, 0x01], None),
-        (&[0xFF, 0x80], None),
-        (&[0xFF, 0xFF], None),
-        (
-            &[
-                0x80, 0x00, 0x00, 0x00, 0x00, 0x00, 0x00, 0x00, 0x00, 0x00, 0x00, 0x00, 0x00, 0x00,
-                0x00, 0x00,
-            ],
-            Some(-170141183460469231731687303715884105728),
-        ),
-        (
-            &[
-                0x7F, 0xFF, 0xFF, 0xFF, 0xFF, 0xFF, 0xFF, 0xFF, 0xFF, 0xFF, 0xFF, 0xFF, 0xFF, 0xFF,
-                0xFF, 0xFF,
-            ],
-            Some(170141183460469231731687303715884105727),
-        ),
-        // 2^127, and -2^127 - 1
-        (
-            &[
-                0x00, 0x80, 0x00, 0x00, 0x00, 0x00, 0x00, 0x00, 0x00, 0x00, 0x00, 0x00, 0x00, 0x00,
-                0x00, 0x00, 0x00,
-            ],
-            None,
-        ),
-        (
-            &[
-                0xFF, 0x7F, 0xFF, 0xFF, 0xFF, 0xFF, 0xFF, 0xFF, 0xFF, 0xFF, 0xFF, 0xFF, 0xFF, 0xFF,
-                0xFF, 0xFF, 0xFF,
-            ],
-            None,
-        ),
-    ];
-    for (contents, number) in cases {
-        assert_eq!(rt; read_integer(contents), number, "at {contents:?}");
+// None where contents octets have no value.
+fn no_value(fault: Fault) -> Result<Option<Value>, Fail> {
+    match fault {
+        Fault::Contents => Ok(None),
+        Fault::NoMemory => Err("no memory".into()),
     }
 }
 
-// Whether the number is written so.
-fn is_written(alloc: Global, number: i128, want: &[u8]) -> Result<bool, Fail> {
-    let mut out = Vec::new(alloc);
-    put_integer(&mut out, number)?;
-    Ok(out.as_slice() == want)
-}
-
-#[test]
-fn written_integer_contents(rt: HostRuntime) -> Result<(), Fail> {
-    // (number, its contents octets)
-    let cases: [(i128, &[u8]); 9] = [
-        (0, &[0x00]),
-        (-1, &[0xFF]),
-        (127, &[0x7F]),
-        (128, &[0x00, 0x80]),
-        (-128, &[0x80]),
-        (-129, &[0xFF, 0x7F]),
-        (256, &[0x01, 0x00]),
-        (
-            170141183460469231731687303715884105727,
-            &[
-                0x7F, 0xFF, 0xFF, 0xFF, 0xFF, 0xFF, 0xFF, 0xFF, 0xFF, 0xFF, 0xFF, 0xFF, 0xFF, 0xFF,
-                0xFF, 0xFF,
-            ],
-        ),
-        (
-            -170141183460469231731687303715884105728,
-            &[
-                0x80, 0x00, 0x00, 0x00, 0x00, 0x00, 0x00, 0x00, 0x00, 0x00, 0x00, 0x00, 0x00, 0x00,
-                0x00, 0x00,
-            ],
-        ),
-    ];
-    for (number, want) in cases {
-        assert!(rt; is_written(rt.alloc(), number, want)?, "of {number}");
+// The same of a type whose values take memory.
+fn held(
+    alloc: Global,
+    name: &str,
+    contents: &[u8],
+    out: &mut Vec<u8>,
+) -> Result<Option<Value>, Fail> {
+    match name {
+        "OID" => match read_oid(alloc, contents) {
+            Ok(arcs) => {
+                put_oid(out, &arcs)?;
+                Ok(Some(Value::Oid(arcs)))
+            }
+            Err(fault) => no_value(fault),
+        },
+        "RELATIVE-OID" => match read_relative_oid(alloc, contents) {
+            Ok(arcs) => {
+                put_relative_oid(out, &arcs)?;
+                Ok(Some(Value::RelativeOid(arcs)))
+            }
+            Err(fault) => no_value(fault),
+        },
+        "BITS" => match read_bits(alloc, contents) {
+            Ok(bits) => {
+                put_bits(out, &bits)?;
+                Ok(Some(Value::Bits(bits)))
+            }
+            Err(fault) => no_value(fault),
+        },
+        _ => Err("a type without a name".into()),
     }
-    Ok(())
 }
+
+// Whether this was read, and written behind the one octet that was there.
+fn is_done(
+    alloc: Global,
+    found: &Value,
+    out: &[u8],
+    value: &str,
+    written: &str,
+) -> Result<bool, Fail> {
+    let mut want = Vec::from_slice(alloc, &[0x07])?;
+    want.extend_from_slice(&octets_of(alloc, written)?)?;
+    Ok(out == want.as_slice() && is_value(alloc, found, value)?)
+}
+
+struct Contents;
+
+impl Table for Contents {
+    fn holds(alloc: Global, row: &str) -> Result<bool, Fail> {
+        let (name, contents, value, written) = four(row)?;
+        let contents = octets_of(alloc, contents)?;
+        let mut out = Vec::from_slice(alloc, &[0x07])?;
+        let read = match name {
+            "BOOLEAN" | "NULL" | "INTEGER" => plain(name, &contents, &mut out)?,
+            _ => held(alloc, name, &contents, &mut out)?,
+        };
+        match read {
+            Some(found) => is_done(alloc, &found, &out, value, written),
+            None => Ok(value == "none" && written == "-"),
+        }
+    }
+}
+
+// type | contents octets | the value, or `none` | the contents octets that are written of it
+const BOOLEANS_AND_NULL: &str = "\
+BOOLEAN | '' | none | -
+BOOLEAN | 00 | FALSE | 00
+BOOLEAN | 2A | TRUE | FF
+BOOLEAN | FF | TRUE | FF
+BOOLEAN | FF 00 | none | -
+NULL | '' | NULL | ''
+NULL | 00 | none | -";
 
 #[test]
-fn written_boolean_and_null_contents(rt: HostRuntime) -> Result<(), Fail> {
-    let mut out = Vec::new(rt.alloc());
-    put_boolean(&mut out, true)?;
-    put_null(&mut out)?;
-    put_boolean(&mut out, false)?;
-    assert_eq!(rt; out.as_slice(), [0xFF, 0x00].as_slice());
-    Ok(())
+fn boolean_and_null_contents(rt: HostRuntime) -> Result<(), Fail> {
+    check::<Contents>(rt.alloc(), BOOLEANS_AND_NULL)
 }
 
-// Whether the octets are read as these arcs and written so.
-fn is_oid(alloc: Global, contents: &[u8], arcs: &[u128]) -> Result<bool, Fail> {
-    let read = read_oid(alloc, contents)?;
-    let mut out = Vec::new(alloc);
-    put_oid(&mut out, &read)?;
-    Ok(read.as_slice() == arcs && out.as_slice() == contents)
+// type | contents octets | the value, or `none` | the contents octets that are written of it
+const INTEGERS: &str = "\
+INTEGER | '' | none | -
+INTEGER | 00 | 0 | 00
+INTEGER | FF | -1 | FF
+INTEGER | 80 | -128 | 80
+INTEGER | 7F | 127 | 7F
+INTEGER | 00 80 | 128 | 00 80
+INTEGER | FF 7F | -129 | FF 7F
+INTEGER | 01 00 | 256 | 01 00
+INTEGER | 00 7F | none | -
+INTEGER | 00 01 | none | -
+INTEGER | FF 80 | none | -
+INTEGER | FF FF | none | -
+INTEGER | 80 00*15 | -170141183460469231731687303715884105728 | 80 00*15
+INTEGER | 7F FF*15 | 170141183460469231731687303715884105727 | 7F FF*15
+INTEGER | 00 80 00*15 | none | -
+INTEGER | FF 7F FF*15 | none | -";
+
+#[test]
+fn integer_contents(rt: HostRuntime) -> Result<(), Fail> {
+    check::<Contents>(rt.alloc(), INTEGERS)
 }
+
+// type | contents octets | the value, or `none` | the contents octets that are written of it
+const OIDS: &str = "\
+OID | 2A | oid:1.2 | 2A
+OID | 81 34 03 | oid:2.100.3 | 81 34 03
+OID | 88 37 03 | oid:2.999.3 | 88 37 03
+OID | 00 | oid:0.0 | 00
+OID | 27 | oid:0.39 | 27
+OID | 4F | oid:1.39 | 4F
+OID | 50 | oid:2.0 | 50
+OID | 78 | oid:2.40 | 78
+OID | 2A 86 48 86 F7 0D | oid:1.2.840.113549 | 2A 86 48 86 F7 0D
+OID | 7F 81 00 | oid:2.47.128 | 7F 81 00
+OID | 01*128 | oid:0.1*128 | 01*128
+OID | 83 FF*17 7F | oid:2.340282366920938463463374607431768211375 | 83 FF*17 7F
+OID | '' | none | -
+OID | 81 | none | -
+OID | 80 | none | -
+OID | 80 01 | none | -
+OID | 2A 81 | none | -
+OID | 80 81 34 03 | none | -
+OID | 84 80*17 00 | none | -
+OID | 01*129 | none | -";
 
 #[test]
 fn oid_contents(rt: HostRuntime) -> Result<(), Fail> {
-    // (contents octets, arcs)
-    let cases: [(&[u8], &[u128]); 9] = [
-        (&[0x2A], &[1, 2]),
-        (&[0x81, 0x34, 0x03], &[2, 100, 3]),
-        (&[0x88, 0x37, 0x03], &[2, 999, 3]),
-        (&[0x00], &[0, 0]),
-        (&[0x27], &[0, 39]),
-        (&[0x4F], &[1, 39]),
-        (&[0x50], &[2, 0]),
-        (&[0x78], &[2, 40]),
-        (&[0x2A, 0x86, 0x48, 0x86, 0xF7, 0x0D], &[1, 2, 840, 113_549]),
-    ];
-    for (contents, arcs) in cases {
-        assert!(rt; is_oid(rt.alloc(), contents, arcs)?, "at {contents:?}");
-    }
-    Ok(())
+    check::<Contents>(rt.alloc(), OIDS)
 }
 
-// Whether the octets are read as these arcs and written so.
-fn is_relative_oid(alloc: Global, contents: &[u8], arcs: &[u128]) -> Result<bool, Fail> {
-    let read = read_relative_oid(alloc, contents)?;
-    let mut out = Vec::new(alloc);
-    put_relative_oid(&mut out, &read)?;
-    Ok(read.as_slice() == arcs && out.as_slice() == contents)
-}
+// type | contents octets | the value, or `none` | the contents octets that are written of it
+const RELATIVE_OIDS: &str = "\
+RELATIVE-OID | 2A | relative:42 | 2A
+RELATIVE-OID | 81 34 03 | relative:180.3 | 81 34 03
+RELATIVE-OID | 88 37 03 | relative:1079.3 | 88 37 03
+RELATIVE-OID | 00 | relative:0 | 00
+RELATIVE-OID | 27 | relative:39 | 27
+RELATIVE-OID | 4F | relative:79 | 4F
+RELATIVE-OID | 50 | relative:80 | 50
+RELATIVE-OID | 78 | relative:120 | 78
+RELATIVE-OID | 2A 86 48 86 F7 0D | relative:42.840.113549 | 2A 86 48 86 F7 0D
+RELATIVE-OID | 7F 81 00 | relative:127.128 | 7F 81 00
+RELATIVE-OID | 01*128 | relative:1*128 | 01*128
+RELATIVE-OID | 83 FF*17 7F | relative:340282366920938463463374607431768211455 | 83 FF*17 7F
+RELATIVE-OID | '' | none | -
+RELATIVE-OID | 81 | none | -
+RELATIVE-OID | 80 | none | -
+RELATIVE-OID | 80 01 | none | -
+RELATIVE-OID | 2A 81 | none | -
+RELATIVE-OID | 80 81 34 03 | none | -
+RELATIVE-OID | 84 80*17 00 | none | -
+RELATIVE-OID | 01*129 | none | -";
 
 #[test]
 fn relative_oid_contents(rt: HostRuntime) -> Result<(), Fail> {
-    // (contents octets, arcs)
-    let cases: [(&[u8], &[u128]); 4] = [
-        (&[0x81, 0x34, 0x03], &[180, 3]),
-        (&[0x00], &[0]),
-        (&[0x7F, 0x81, 0x00], &[127, 128]),
-        (
-            &[
-                0x83, 0xFF, 0xFF, 0xFF, 0xFF, 0xFF, 0xFF, 0xFF, 0xFF, 0xFF, 0xFF, 0xFF, 0xFF, 0xFF,
-                0xFF, 0xFF, 0xFF, 0xFF, 0x7F,
-            ],
-            &[0xFFFF_FFFF_FFFF_FFFF_FFFF_FFFF_FFFF_FFFF],
-        ),
-    ];
-    for (contents, arcs) in cases {
-        assert!(rt;
-            is_relative_oid(rt.alloc(), contents, arcs)?,
-            "at {contents:?}"
-        );
-    }
-    Ok(())
+    check::<Contents>(rt.alloc(), RELATIVE_OIDS)
 }
 
-#[test]
-fn no_oid_contents(rt: HostRuntime) {
-    // contents octets that are of no value
-    let cases: [&[u8]; 8] = [
-        &[],
-        &[0x81],
-        &[0x80],
-        &[0x80, 0x01],
-        &[0x2A, 0x81],
-        &[0x80, 0x81, 0x34, 0x03],
-        // a subidentifier of 2^128
-        &[
-            0x84, 0x80, 0x80, 0x80, 0x80, 0x80, 0x80, 0x80, 0x80, 0x80, 0x80, 0x80, 0x80, 0x80,
-            0x80, 0x80, 0x80, 0x80, 0x00,
-        ],
-        // 129 subidentifiers
-        &[1; 129],
-    ];
-    for contents in cases {
-        assert_eq!(rt;
-            read_oid(rt.alloc(), contents).err(),
-            Some(Fault::Contents),
-            "at {contents:?}"
-        );
-        let relative = read_relative_oid(rt.alloc(), contents).err();
-        assert_eq!(rt; relative, Some(Fault::Contents), "at {contents:?}");
-    }
-    assert!(rt; read_oid(rt.alloc(), &[1; 128]).is_ok());
-}
-
-// Whether the octets are read as these with so many unused bits, and written with them.
-fn is_bits(alloc: Global, contents: &[u8], octets: &[u8], unused: u8) -> Result<bool, Fail> {
-    let bits = read_bits(alloc, contents)?;
-    let mut want = vec![in alloc; unused]?;
-    want.extend_from_slice(octets)?;
-    let mut out = Vec::new(alloc);
-    put_bits(&mut out, &bits)?;
-    Ok(bits.octets() == octets && bits.unused() == unused && out.as_slice() == want.as_slice())
-}
+// type | contents octets | the value, or `none` | the contents octets that are written of it
+const BIT_STRINGS: &str = "\
+BITS | 00 | bits:''/0 | 00
+BITS | 00 00 | bits:00/0 | 00 00
+BITS | 04 F0 | bits:F0/4 | 04 F0
+BITS | 04 FF | bits:F0/4 | 04 F0
+BITS | 07 FF 80 | bits:FF80/7 | 07 FF 80
+BITS | 07 FF FF | bits:FF80/7 | 07 FF 80
+BITS | 01 FF FF | bits:FFFE/1 | 01 FF FE
+BITS | 00 FF FF | bits:FFFF/0 | 00 FF FF
+BITS | '' | none | -
+BITS | 01 | none | -
+BITS | 07 | none | -
+BITS | 08 00 | none | -
+BITS | 08 00 00 | none | -
+BITS | 80 | none | -
+BITS | FF 00 | none | -";
 
 #[test]
 fn bit_string_contents(rt: HostRuntime) -> Result<(), Fail> {
-    // (contents octets, octets of the value, unused bits)
-    let cases: [(&[u8], &[u8], u8); 8] = [
-        (&[0x00], &[], 0),
-        (&[0x00, 0x00], &[0x00], 0),
-        (&[0x04, 0xF0], &[0xF0], 4),
-        (&[0x04, 0xFF], &[0xF0], 4),
-        (&[0x07, 0xFF, 0x80], &[0xFF, 0x80], 7),
-        (&[0x07, 0xFF, 0xFF], &[0xFF, 0x80], 7),
-        (&[0x01, 0xFF, 0xFF], &[0xFF, 0xFE], 1),
-        (&[0x00, 0xFF, 0xFF], &[0xFF, 0xFF], 0),
-    ];
-    for (contents, octets, unused) in cases {
-        assert!(rt;
-            is_bits(rt.alloc(), contents, octets, unused)?,
-            "at {contents:?}"
-        );
-    }
-    Ok(())
-}
-
-#[test]
-fn no_bit_string_contents(rt: HostRuntime) {
-    // contents octets that are of no value
-    let cases: [&[u8]; 7] = [
-        &[],
-        &[0x01],
-        &[0x07],
-        &[0x08, 0x00],
-        &[0x08, 0x00, 0x00],
-        &[0x80],
-        &[0xFF, 0x00],
-    ];
-    for contents in cases {
-        assert_eq!(rt;
-            read_bits(rt.alloc(), contents),
-            Err(Fault::Contents),
-            "at {contents:?}"
-        );
-    }
-}
-
-#[test]
-fn equal_bits(rt: HostRuntime) -> Result<(), Fail> {
-    let four = Bits::new(vec![in rt.alloc(); 0xF0]?, 4);
-    assert_eq!(rt; four, Bits::new(vec![in rt.alloc(); 0xFF]?, 4));
-    assert_ne!(rt; four, Bits::new(vec![in rt.alloc(); 0xF0]?, 3));
-    assert_ne!(rt; four, Bits::new(vec![in rt.alloc(); 0xE0]?, 4));
-    assert_eq!(rt; Bits::new(Vec::new(rt.alloc()), 1), None);
+    check::<Contents>(rt.alloc(), BIT_STRINGS)?;
+    assert!(rt; Bits::new(Vec::new(rt.alloc()), 1).is_none());
     Ok(())
 }

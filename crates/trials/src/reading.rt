@@ -2,342 +2,205 @@
 
 ghost use Rattle.std.specs.Prelude.{◌≤◌};
 
+use crate::given::comes_to;
+use crate::made::{OctetsTable, check_octets, typed};
+use crate::rows::{not_so, numbered, octets_of, prints, rows_of, three};
 use berreader::{Reader, Step, read};
-use octets::{Class, Tag};
 use std::alloc::Global;
+use std::iter::once;
 use std::test::Fail;
-use strings::{TextKind, TimeKind};
-use types::{Refusal, Ty, Value, WellTyped};
+use types::{Refusal, Value, WellTyped};
 
-fn octet_string() -> Ty {
-    Ty::Octets(Tag::universal(4))
-}
+// What is read: a value and how many octets it has, or the refusal.
+type Read = Result<(Value, usize), Refusal>;
 
-fn bit_string() -> Ty {
-    Ty::Bits(Tag::universal(3))
-}
-
-// What was read of the octets: how many there are, what a string holds, and how many bits are unused.
-#[derive(Drop)]
-struct Answer<'a> {
-    used: usize,
-    octets: &'a [u8],
-    unused: u8,
-}
-
-fn is_answer(read: &Result<(Value, usize), Refusal>, want: &Answer) -> bool {
-    match read {
-        Ok((Value::Octets(octets), used)) => {
-            *used == want.used && octets.as_slice() == want.octets && want.unused == 0
-        }
-        Ok((Value::Text(octets), used)) => {
-            *used == want.used && octets.as_slice() == want.octets && want.unused == 0
-        }
-        Ok((Value::Bits(bits), used)) => {
-            *used == want.used && bits.octets() == want.octets && bits.unused() == want.unused
-        }
-        Ok((_, _)) => false,
-        Err(_) => false,
-    }
-}
-
-// SEQUENCE OF [1] OCTET STRING
-fn tagged_strings(alloc: Global) -> Result<Ty, Fail> {
-    let class = Class::Context;
-    let string = Ty::Octets(Tag::universal(4));
-    let tagged = Ty::Explicit(Tag { class, number: 1 }, Box::new(alloc, string)?);
-    Ok(Ty::SequenceOf(Tag::universal(16), Box::new(alloc, tagged)?))
-}
-
-// Two items, 41 and 42 43, the second in two segments; behind them another value begins.
-const TWO_STRINGS: &[u8] = &[
-    0x30, 0x80, 0xA1, 0x03, 0x04, 0x01, 0x41, 0xA1, 0x80, 0x24, 0x80, 0x04, 0x02, 0x42, 0x43, 0x04,
-    0x00, 0x00, 0x00, 0x00, 0x00, 0x00, 0x00, 0x30, 0x02,
-];
-
-// What pieces come to: the first value that is whole and how many octets it has, or the refusal.
-type Come = Result<Option<(Value, usize)>, Refusal>;
-
-// Feeds pieces of so many octets.
-fn feed_all(reader: &mut Reader<'_>, octets: &[u8], size: usize) -> Come
+// Feeds the first octets in one piece, and the others in pieces of so many, up to the end of the first value.
+fn feed_all(reader: &mut Reader<'_>, first: &[u8], others: &[u8], size: usize) -> Read
     requires { 1 ≤ size }
 {
     let mut before = 0_usize;
-    for piece in octets.chunks(size) {
+    for piece in once(first).chain(others.chunks(size)) {
         match reader.feed(piece)? {
             Step::More => before = before.saturating_add(piece.len()),
-            Step::Done { value, used } => return Ok(Some((value, before.saturating_add(used)))),
+            Step::Done { value, used } => return Ok((value, before.saturating_add(used))),
         }
     }
-    Ok(None)
+    Err(Refusal::Truncated)
 }
 
-// What `read` answers, where octets that are missing are no refusal.
-fn read_whole(alloc: Global, ty: &WellTyped, octets: &[u8]) -> Come {
-    match read(alloc, ty, octets) {
-        Ok(found) => Ok(Some(found)),
-        Err(Refusal::Truncated) => Ok(None),
-        Err(refusal) => Err(refusal),
-    }
+// Whether so many octets in one piece, and the others in pieces of this size, come to what was read, and leave nothing
+// begun behind a value.
+fn comes_so(mut reader: Reader<'_>, octets: &[u8], cut: usize, size: usize, want: &Read) -> bool
+    requires { 1 ≤ size }
+{
+    let (first, others) = octets.split_at(cut.min(octets.len()));
+    let read = feed_all(&mut reader, first, others, size);
+    read == *want && (read.is_err() || reader.finish() == Ok(()))
 }
 
-// Whether the octets come to the same in one piece, in two, and in pieces of one to three octets, as `read`
-// answers.
-fn comes_as_read(alloc: Global, ty: &WellTyped, octets: &[u8]) -> bool {
-    let want = read_whole(alloc, ty, octets);
-    for size in 1..=3 {
-        if feed_all(&mut Reader::new(alloc, ty), octets, size) != want {
+// Whether the octets come to what was read in pieces of each size, and in two pieces.
+fn comes_as_read(alloc: Global, ty: &WellTyped, octets: &[u8], want: &Read) -> bool {
+    for size in 1..=25 {
+        if !comes_so(Reader::new(alloc, ty), octets, size, size, want) {
             return false;
         }
     }
     for cut in 0..octets.len() {
-        if feed_cut(&mut Reader::new(alloc, ty), octets, cut) != want {
+        if !comes_so(Reader::new(alloc, ty), octets, cut, 100, want) {
             return false;
         }
     }
     true
 }
 
-// Feeds the octets in two pieces.
-fn feed_cut(reader: &mut Reader<'_>, octets: &[u8], cut: usize) -> Come {
-    let (first, second) = octets.split_at(cut.min(octets.len()));
-    if let Step::Done { value, used } = reader.feed(first)? {
-        return Ok(Some((value, used)));
-    }
-    match reader.feed(second)? {
-        Step::More => Ok(None),
-        Step::Done { value, used } => Ok(Some((value, first.len().saturating_add(used)))),
+// Whether an octet completes nothing and leaves a value begun.
+fn is_within(reader: &mut Reader<'_>, octet: u8) -> bool {
+    match reader.feed(&[octet]) {
+        Ok(Step::More) => reader.finish() == Err(Refusal::Truncated),
+        _ => false,
     }
 }
 
-// The value of two items.
-fn two_strings(alloc: Global) -> Result<Value, Fail> {
-    let mut items = Vec::new(alloc);
-    items.push(Value::Octets(Vec::from_slice(alloc, &[0x41])?))?;
-    items.push(Value::Octets(Vec::from_slice(alloc, &[0x42, 0x43])?))?;
-    Ok(Value::Items(items))
-}
-
-#[test]
-fn pieces_of_each_size(rt: HostRuntime) -> Result<(), Fail> {
-    let alloc = rt.alloc();
-    let ty = WellTyped::new(tagged_strings(alloc)?)?;
-    let want = Ok(Some((two_strings(alloc)?, 23)));
-    for size in 1..=TWO_STRINGS.len() {
-        let mut reader = Reader::new(alloc, &ty);
-        assert!(rt;
-            feed_all(&mut reader, TWO_STRINGS, size) == want,
-            "in pieces of {size}"
-        );
-        assert_eq!(rt; reader.finish(), Ok(()), "in pieces of {size}");
-    }
-    assert!(rt; comes_as_read(alloc, &ty, TWO_STRINGS));
-    Ok(())
-}
-
-// Feeds octets, and puts down how many of them complete a value, 0 where they complete none, or the refusal's
-// number behind 100.
-fn told(reader: &mut Reader<'_>, octets: &[u8]) -> usize {
-    match reader.feed(octets) {
-        Ok(Step::More) => 0,
-        Ok(Step::Done { used, .. }) => used,
-        Err(refusal) => 100 + refusal.number() as usize,
-    }
-}
-
-#[test]
-fn values_one_behind_another(rt: HostRuntime) -> Result<(), Fail> {
-    let ty = WellTyped::new(Ty::Integer(Tag::universal(2)))?;
-    let mut reader = Reader::new(rt.alloc(), &ty);
-    // 1, 2, the front of 300
-    let octets = [0x02, 0x01, 0x01, 0x02, 0x81, 0x01, 0x02, 0x02, 0x02, 0x01];
-    assert_eq!(rt; told(&mut reader, &octets), 3);
-    assert_eq!(rt; told(&mut reader, &octets[3..]), 4);
-    assert_eq!(rt; told(&mut reader, &octets[7..]), 0);
-    assert_eq!(rt; reader.finish(), Err(Refusal::Truncated));
-    assert_eq!(rt; told(&mut reader, &[]), 0);
-    assert!(rt; feed_all(&mut reader, &[0x2C, 0x02], 2) == Ok(Some((Value::Integer(300), 1))));
-    assert_eq!(rt; reader.finish(), Ok(()));
-    Ok(())
-}
-
-#[test]
-fn empty_pieces(rt: HostRuntime) -> Result<(), Fail> {
-    let ty = WellTyped::new(Ty::Null(Tag::universal(5)))?;
-    let mut reader = Reader::new(rt.alloc(), &ty);
-    assert_eq!(rt; told(&mut reader, &[]), 0);
-    assert_eq!(rt; reader.finish(), Ok(()));
-    assert_eq!(rt; told(&mut reader, &[0x05]), 0);
-    assert_eq!(rt; told(&mut reader, &[]), 0);
-    assert_eq!(rt; reader.finish(), Err(Refusal::Truncated));
-    assert_eq!(rt; told(&mut reader, &[0x00]), 1);
-    assert_eq!(rt; told(&mut reader, &[]), 0);
-    assert_eq!(rt; reader.finish(), Ok(()));
-    Ok(())
-}
-
-#[test]
-fn refusals_are_repeated(rt: HostRuntime) -> Result<(), Fail> {
-    let ty = WellTyped::new(tagged_strings(rt.alloc())?)?;
-    let mut reader = Reader::new(rt.alloc(), &ty);
-    assert_eq!(rt; told(&mut reader, &[0x30, 0x80, 0xA1]), 0);
-    assert_eq!(rt; told(&mut reader, &[0x00, 0x00, 0x00]), 104);
-    assert_eq!(rt; told(&mut reader, &[]), 104);
-    assert_eq!(rt; told(&mut reader, TWO_STRINGS), 104);
-    assert_eq!(rt; reader.finish(), Err(Refusal::Length));
-    Ok(())
-}
-
-// Feeds octet by octet, and puts down what the last comes to, if each before it completes nothing and leaves a value
-// begun.
-fn told_at_last(reader: &mut Reader<'_>, octets: &[u8]) -> Option<usize> {
+// What the last octet comes to, where each before it is within the value.
+fn told_at_last(reader: &mut Reader<'_>, octets: &[u8]) -> Option<Result<Step, Refusal>> {
     let (last, front) = octets.split_last()?;
     for octet in front {
-        if told(reader, &[*octet]) != 0 || reader.finish() != Err(Refusal::Truncated) {
+        if !is_within(reader, *octet) {
             return None;
         }
     }
-    Some(told(reader, &[*last]))
+    Some(reader.feed(&[*last]))
 }
 
-#[test]
-fn strings_that_pieces_cut(rt: HostRuntime) -> Result<(), Fail> {
-    let alloc = rt.alloc();
-    let visible = Ty::Text(Tag::universal(26), TextKind::Visible);
-    // (type, octets, the string's octets, how many bits of the last are unused)
-    let cases: [(Ty, &[u8], &[u8], u8); 5] = [
-        (
-            octet_string(),
-            &[
-                0x24, 0x80, 0x24, 0x06, 0x04, 0x01, 0x41, 0x04, 0x01, 0x42, 0x24, 0x80, 0x04, 0x02,
-                0x43, 0x44, 0x00, 0x00, 0x04, 0x00, 0x00, 0x00,
-            ],
-            b"ABCD",
-            0,
-        ),
-        (
-            octet_string(),
-            &[
-                0x24, 0x0F, 0x24, 0x80, 0x24, 0x03, 0x04, 0x01, 0x41, 0x00, 0x00, 0x24, 0x04, 0x04,
-                0x02, 0x42, 0x43,
-            ],
-            b"ABC",
-            0,
-        ),
-        (
-            bit_string(),
-            &[
-                0x23, 0x80, 0x03, 0x03, 0x00, 0xAA, 0xBB, 0x23, 0x80, 0x03, 0x02, 0x00, 0xCC, 0x00,
-                0x00, 0x23, 0x04, 0x03, 0x02, 0x04, 0xFF, 0x00, 0x00,
-            ],
-            &[0xAA, 0xBB, 0xCC, 0xF0],
-            4,
-        ),
-        (
-            bit_string(),
-            &[0x23, 0x08, 0x03, 0x02, 0x00, 0xAA, 0x03, 0x02, 0x07, 0x80],
-            &[0xAA, 0x80],
-            7,
-        ),
-        (
-            visible,
-            &[
-                0x3A, 0x80, 0x04, 0x01, 0x4A, 0x24, 0x80, 0x04, 0x01, 0x6F, 0x00, 0x00, 0x00, 0x00,
-            ],
-            b"Jo",
-            0,
-        ),
-    ];
-    for (ty, octets, want, unused) in cases {
-        let ty = WellTyped::new(ty)?;
-        let answer = Answer {
-            used: octets.len(),
-            octets: want,
-            unused,
-        };
-        assert!(rt;
-            is_answer(&read(alloc, &ty, octets), &answer),
-            "at {octets:?}"
-        );
-        assert!(rt; comes_as_read(alloc, &ty, octets), "at {octets:?}");
-        let last = told_at_last(&mut Reader::new(alloc, &ty), octets);
-        assert_eq!(rt; last, Some(1), "at {octets:?}");
+// Whether the last octet completes the value that was read, or is refused as it was.
+fn ends_so(last: Option<Result<Step, Refusal>>, read: &Read) -> bool {
+    match (last, read) {
+        (Some(Ok(Step::Done { value, used: 1 })), Ok((want, _))) => value == *want,
+        (Some(Err(refusal)), Err(want)) => refusal == *want,
+        _ => false,
     }
-    Ok(())
 }
+
+// Whether octets come to the same in pieces as at once.
+fn is_the_same(alloc: Global, ty: &WellTyped, octets: &[u8], read: &Read) -> bool {
+    let used = match read {
+        Ok((_, used)) => *used,
+        Err(_) => octets.len(),
+    };
+    let (value, _) = octets.split_at(used.min(octets.len()));
+    let last = told_at_last(&mut Reader::new(alloc, ty), value);
+    ends_so(last, read) && comes_as_read(alloc, ty, octets, read)
+}
+
+struct Cut;
+
+impl OctetsTable for Cut {
+    fn holds(alloc: Global, ty: &WellTyped, octets: &[u8], others: &str) -> Result<bool, Fail> {
+        let read = read(alloc, ty, octets);
+        Ok(is_the_same(alloc, ty, octets, &read) && comes_to(alloc, &read, others)?)
+    }
+}
+
+// type | octets | how many of them are read, and the value
+const VALUES: &str = "\
+SEQUENCE-OF{ [1]{ OCTETS } } | 3080 A103040141 A1802480 04024243 0400 0000 0000 0000 3002 | 23 items( octets:41 octets:4243 )
+OCTETS | 24 80 24 06 04 01 41 04 01 42 24 80 04 02 43 44 00 00 04 00 00 00 | 22 octets:'ABCD'
+OCTETS | 24 0F 24 80 24 03 04 01 41 00 00 24 04 04 02 42 43 | 17 octets:'ABC'
+BITS | 23 80 03 03 00 AA BB 23 80 03 02 00 CC 00 00 23 04 03 02 04 FF 00 00 | 23 bits:AABBCCF0/4
+BITS | 23 08 03 02 00 AA 03 02 07 80 | 10 bits:AA80/7
+VisibleString | 3A 80 04 01 4A 24 80 04 01 6F 00 00 00 00 | 14 text:'Jo'";
+
+#[test]
+fn values_in_pieces_of_each_size(rt: HostRuntime) -> Result<(), Fail> {
+    check_octets::<Cut>(rt.alloc(), VALUES)
+}
+
+// type | octets | the refusal of the last one
+const REFUSED_AT_LAST: &str = "\
+OCTETS | 24 80 04 01 41 1A | refused 2
+OCTETS | 24 80 04 01 41 04 80 | refused 3
+OCTETS | 24 05 04 01 41 04 01 | refused 4
+OCTETS | 24 80 04 01 41 00 01 | refused 5
+OCTETS | 24 80 24 03 04 01 41 00 01 | refused 5
+BITS | 23 80 03 02 04 F0 03 | refused 6
+VisibleString | 3A 80 04 01 4A 04 01 7F 00 00 | refused 7
+UTCTime | 37 06 04 01 32 04 01 34 | refused 7
+OCTETS | 24 80 04 01 41 04 83 0F FF F5 | refused 11";
 
 #[test]
 fn refusals_in_strings_that_pieces_cut(rt: HostRuntime) -> Result<(), Fail> {
-    let alloc = rt.alloc();
-    let visible = Ty::Text(Tag::universal(26), TextKind::Visible);
-    // (type, octets, what the last of them is told)
-    let cases: [(Ty, &[u8], usize); 9] = [
-        (octet_string(), &[0x24, 0x80, 0x04, 0x01, 0x41, 0x1A], 102),
-        (
-            octet_string(),
-            &[0x24, 0x80, 0x04, 0x01, 0x41, 0x04, 0x80],
-            103,
-        ),
-        (
-            octet_string(),
-            &[0x24, 0x05, 0x04, 0x01, 0x41, 0x04, 0x01],
-            104,
-        ),
-        (
-            octet_string(),
-            &[0x24, 0x80, 0x04, 0x01, 0x41, 0x00, 0x01],
-            105,
-        ),
-        (
-            octet_string(),
-            &[0x24, 0x80, 0x24, 0x03, 0x04, 0x01, 0x41, 0x00, 0x01],
-            105,
-        ),
-        (
-            bit_string(),
-            &[0x23, 0x80, 0x03, 0x02, 0x04, 0xF0, 0x03],
-            106,
-        ),
-        (
-            visible,
-            &[0x3A, 0x80, 0x04, 0x01, 0x4A, 0x04, 0x01, 0x7F, 0x00, 0x00],
-            107,
-        ),
-        (
-            Ty::Time(Tag::universal(23), TimeKind::Utc),
-            &[0x37, 0x06, 0x04, 0x01, 0x32, 0x04, 0x01, 0x34],
-            107,
-        ),
-        (
-            octet_string(),
-            &[0x24, 0x80, 0x04, 0x01, 0x41, 0x04, 0x83, 0x0F, 0xFF, 0xF5],
-            111,
-        ),
-    ];
-    for (ty, octets, want) in cases {
-        let ty = WellTyped::new(ty)?;
-        assert!(rt; comes_as_read(alloc, &ty, octets), "at {octets:?}");
-        let last = told_at_last(&mut Reader::new(alloc, &ty), octets);
-        assert_eq!(rt; last, Some(want), "at {octets:?}");
+    check_octets::<Cut>(rt.alloc(), REFUSED_AT_LAST)
+}
+
+// Whether a row of a table of pieces holds.
+fn is_told(alloc: Global, reader: &mut Reader<'_>, row: &str) -> Result<bool, Fail> {
+    let (piece, told, end) = three(row)?;
+    let step = numbered(reader.feed(&octets_of(alloc, piece)?));
+    Ok(prints(alloc, &step, told)? && prints(alloc, &numbered(reader.finish()), end)?)
+}
+
+// Fails at the first row that does not hold, of pieces that come one behind another.
+fn all_told(alloc: Global, reader: &mut Reader<'_>, rows: &str) -> Result<(), Fail> {
+    for row in rows_of(rows)? {
+        if !is_told(alloc, reader, row)? {
+            return Err(not_so(row));
+        }
     }
     Ok(())
 }
 
+fn check_script(alloc: Global, ty: &str, rows: &str) -> Result<(), Fail> {
+    let ty = typed(alloc, ty)?;
+    all_told(alloc, &mut Reader::new(alloc, &ty), rows)
+}
+
+// a piece, of the numbers 1, 2 and 300 | what it comes to | what the end of the input would come to behind it
+const NUMBERS: &str = "\
+02 01 01 02 81 01 02 02 02 01 | Ok(Done { value: Integer(1), used: 3 }) | Ok(())
+02 81 01 02 02 02 01 | Ok(Done { value: Integer(2), used: 4 }) | Ok(())
+02 02 01 | Ok(More) | Err(1)
+''       | Ok(More) | Err(1)
+2C 02    | Ok(Done { value: Integer(300), used: 1 }) | Ok(())";
+
+#[test]
+fn values_one_behind_another(rt: HostRuntime) -> Result<(), Fail> {
+    check_script(rt.alloc(), "INTEGER", NUMBERS)
+}
+
+// a piece | what it comes to | what the end of the input would come to behind it
+const EMPTY_PIECES: &str = "\
+'' | Ok(More) | Ok(())
+05 | Ok(More) | Err(1)
+'' | Ok(More) | Err(1)
+00 | Ok(Done { value: Null, used: 1 }) | Ok(())
+'' | Ok(More) | Ok(())";
+
+#[test]
+fn empty_pieces(rt: HostRuntime) -> Result<(), Fail> {
+    check_script(rt.alloc(), "NULL", EMPTY_PIECES)
+}
+
+// a piece | what it comes to | what the end of the input would come to behind it
+const REFUSED: &str = "\
+30 80 A1 | Ok(More) | Err(1)
+00 00 00 | Err(4) | Err(4)
+''       | Err(4) | Err(4)
+30 80 A1 03 04 01 41 A1 80 24 80 04 02 42 43 04 00 00 00 00 00 00 00 30 02 | Err(4) | Err(4)";
+
+#[test]
+fn refusals_are_repeated(rt: HostRuntime) -> Result<(), Fail> {
+    check_script(rt.alloc(), "SEQUENCE-OF{ [1]{ OCTETS } }", REFUSED)
+}
+
+// a piece | what it comes to | what the end of the input would come to behind it
+const WITHIN: &str = "\
+24 80    | Ok(More) | Err(1)
+04 01 41 | Ok(More) | Err(1)
+24 80    | Ok(More) | Err(1)
+00 00    | Ok(More) | Err(1)
+00 00    | Ok(Done { value: Octets([65]), used: 2 }) | Ok(())";
+
 #[test]
 fn no_value_ends_within_a_string(rt: HostRuntime) -> Result<(), Fail> {
-    let ty = WellTyped::new(octet_string())?;
-    let mut reader = Reader::new(rt.alloc(), &ty);
-    let pieces: [&[u8]; 4] = [
-        &[0x24, 0x80],
-        &[0x04, 0x01, 0x41],
-        &[0x24, 0x80],
-        &[0x00, 0x00],
-    ];
-    for piece in pieces {
-        assert_eq!(rt; told(&mut reader, piece), 0, "at {piece:?}");
-        assert_eq!(rt; reader.finish(), Err(Refusal::Truncated), "at {piece:?}");
-    }
-    assert_eq!(rt; told(&mut reader, &[0x00, 0x00]), 2);
-    assert_eq!(rt; reader.finish(), Ok(()));
-    Ok(())
+    check_script(rt.alloc(), "OCTETS", WITHIN)
 }

@@ -1,22 +1,29 @@
-use octets::Tag;
+//! Texts of values that are longer than any encoding.
+
+use crate::given::{ValuesTable, check_values};
+use crate::rows::octets_of;
+use std::alloc::Global;
 use std::test::Fail;
 use texts::show;
-use types::{Ty, Value, WellTyped, conforms};
+use types::{Value, WellTyped, conforms};
 
-// Its encodings are longer than the longest that is read or written.
+// type | a value whose encodings are longer than the longest that is read or written | the octets of its text
+const LONG: &str = "\
+OCTETS | octets:AB*1048577 | 27 4142*1048577 27 48";
+
+struct Shown;
+
+impl ValuesTable for Shown {
+    fn holds(alloc: Global, ty: &WellTyped, value: &Value, others: &str) -> Result<bool, Fail> {
+        if !conforms(ty.as_type(), value) {
+            return Ok(false);
+        }
+        let text = show(alloc, ty, value)?;
+        Ok(text.as_bytes() == octets_of(alloc, others)?.as_slice())
+    }
+}
+
 #[test]
 fn a_value_of_any_length(rt: HostRuntime) -> Result<(), Fail> {
-    let alloc = rt.alloc();
-    let ty = WellTyped::new(Ty::Octets(Tag::universal(4)))?;
-    let mut octets = Vec::new(alloc);
-    for _ in 0..1_048_577 {
-        octets.push(0xAB)?;
-    }
-    let value = Value::Octets(octets);
-    assert!(rt; conforms(ty.as_type(), &value));
-    let text = show(alloc, &ty, &value)?;
-    assert_eq!(rt; text.len(), 2_097_157);
-    assert!(rt; text.starts_with("'ABAB"));
-    assert!(rt; text.ends_with("ABAB'H"));
-    Ok(())
+    check_values::<Shown>(rt.alloc(), LONG)
 }

@@ -1,59 +1,62 @@
 //! Alternatives of a CHOICE, by the tag that an encoding begins with.
 
-use super::{boolean, octet_string};
+use crate::given::value_of;
+use crate::made::typed;
+use crate::rows::{Table, check, tag_of, three};
 use contents::{begins, is_node, node_of, node_within, wrap};
 use octets::Tag;
 use std::alloc::Global;
 use std::test::Fail;
-use types::{Alternative, Name, Ty, Value, WellTyped};
+use types::{Ty, WellTyped};
 
-fn alternative(alloc: Global, name: &str, ty: Ty) -> Result<Alternative, Fail> {
-    let name = Name::new(alloc, name)?;
-    Ok(Alternative { name, ty })
-}
-
-// CHOICE { a NULL, b CHOICE { a OCTET STRING, b BOOLEAN } }
-fn choice(alloc: Global) -> Result<Ty, Fail> {
-    let mut within = Vec::new(alloc);
-    within.push(alternative(alloc, "a", octet_string())?)?;
-    within.push(alternative(alloc, "b", boolean())?)?;
-    let mut alternatives = Vec::new(alloc);
-    alternatives.push(alternative(alloc, "a", Ty::Null(Tag::universal(5)))?)?;
-    alternatives.push(alternative(alloc, "b", Ty::Choice(within))?)?;
-    Ok(Ty::Choice(alternatives))
-}
-
-#[test]
-fn nodes(rt: HostRuntime) -> Result<(), Fail> {
-    let ty = choice(rt.alloc())?;
-    // (tag number, whether an encoding begins so)
-    let cases: [(u32, bool); 5] = [(5, true), (4, true), (1, true), (2, false), (0, false)];
-    for (number, want) in cases {
-        let tag = Tag::universal(number);
-        assert_eq!(rt; begins(&ty, tag), want, "at {number}");
-        let found = match node_of(&ty, tag) {
-            Some(node) => is_node(node) && node.tag() == Some(tag),
-            None => false,
-        };
-        assert_eq!(rt; found, want, "at {number}");
-        if begins(&ty, tag) {
-            assert!(rt; node_within(&ty, tag).is_some(), "at {number}");
-        }
-    }
-    assert!(rt; !is_node(&ty));
-    Ok(())
-}
-
-#[test]
-fn wrapped(rt: HostRuntime) -> Result<(), Fail> {
-    let alloc = rt.alloc();
-    let Ok(ty) = WellTyped::new(choice(alloc)?) else {
-        assert!(rt; false);
-        return Ok(());
+// Whether the node of the encodings that begin with the tag is found, and is no CHOICE.
+fn has_node(ty: &Ty, tag: Tag) -> bool {
+    let found = match node_of(ty, tag) {
+        Some(node) => is_node(node) && node.tag() == Some(tag),
+        None => false,
     };
-    let value = wrap(alloc, ty.as_type(), Tag::universal(1), Value::Boolean(true))?;
-    let within = Value::Chosen(1, Box::new(alloc, Value::Boolean(true))?);
-    let want = Value::Chosen(1, Box::new(alloc, within)?);
-    assert!(rt; value == want);
-    Ok(())
+    found && begins(ty, tag) && node_within(ty, tag).is_some()
+}
+
+// Whether the value of the node, in its alternatives, is this one.
+fn is_wrapped(
+    alloc: Global,
+    ty: &WellTyped,
+    tag: Tag,
+    value: &str,
+    want: &str,
+) -> Result<bool, Fail> {
+    let value = value_of(alloc, value)?;
+    let wrapped = wrap(alloc, ty.as_type(), tag, value)?;
+    Ok(wrapped == value_of(alloc, want)?)
+}
+
+// a tag of an encoding of the CHOICE | the value of its node | the value of the CHOICE; `none` where none begins so
+const NODES: &str = "\
+UNIVERSAL.5 | NULL      | 0( NULL )
+UNIVERSAL.4 | octets:41 | 1( 0( octets:41 ) )
+UNIVERSAL.1 | TRUE      | 1( 1( TRUE ) )
+UNIVERSAL.2 | none      | none
+UNIVERSAL.0 | none      | none";
+
+struct Nodes;
+
+impl Table for Nodes {
+    fn holds(alloc: Global, row: &str) -> Result<bool, Fail> {
+        let (tag, value, want) = three(row)?;
+        let tag = tag_of(tag)?;
+        let ty = typed(alloc, "CHOICE{ NULL CHOICE{ OCTETS BOOLEAN } }")?;
+        if is_node(ty.as_type()) {
+            return Ok(false);
+        }
+        if want == "none" {
+            return Ok(!begins(ty.as_type(), tag) && node_of(ty.as_type(), tag).is_none());
+        }
+        Ok(has_node(ty.as_type(), tag) && is_wrapped(alloc, &ty, tag, value, want)?)
+    }
+}
+
+#[test]
+fn nodes_and_wrapped_values(rt: HostRuntime) -> Result<(), Fail> {
+    check::<Nodes>(rt.alloc(), NODES)
 }

@@ -1,182 +1,109 @@
 //! What open encodings hold of their parts.
 
-use crate::made::context;
-use contents::holding_of;
-use octets::{Class, Tag};
+use crate::given::{is_value, value_of};
+use crate::made::ty_of;
+use crate::rows::{Table, check, four, is_refused, is_yes, tag_of};
+use contents::{Holding, holding_of};
 use std::alloc::Global;
 use std::test::Fail;
-use types::{Field, Name, Presence, Ty, Value};
+use types::Refusal;
 
-const END: Tag = Tag {
-    class: Class::Universal,
-    number: 0,
-};
-
-// Components of type INTEGER with the tags [0], [1] and so on: `r` must stand, `o` may be absent, and
-// `d` has the default 5.
-fn components(alloc: Global, presences: &[u8]) -> Result<Vec<Field>, Fail> {
-    let mut fields = Vec::new(alloc);
-    let mut number = 0;
-    for letter in presences {
-        let presence = match letter {
-            b'o' => Presence::Optional,
-            b'd' => Presence::Default(Value::Integer(5)),
-            _ => Presence::Required,
-        };
-        let name = Name::new(alloc, "a")?;
-        let ty = Ty::Integer(context(number));
-        fields.push(Field { name, ty, presence })?;
-        if number < 100 {
-            number += 1;
+// Puts the parts of a column into what holds them, to the first that is refused.
+fn put_parts(alloc: Global, held: &mut Holding<'_>, column: &str) -> Result<Option<Refusal>, Fail> {
+    if column == "none" {
+        return Ok(None);
+    }
+    for part in column.split(' ') {
+        let (tag, value) = part.split_once('=').ok_or("a part without a value")?;
+        match held.due(tag_of(tag)?) {
+            Ok((which, _)) => held.put(which, value_of(alloc, value)?)?,
+            Err(refusal) => return Ok(Some(refusal)),
         }
     }
-    Ok(fields)
+    Ok(None)
 }
 
-// What comes of the parts whose tags come in this order, each with the value 5 or, from 8 on, with 7:
-// the slots of the value, or the number of the refusal; an absent slot is 0.
-fn outcome(alloc: Global, ty: &Ty, tags: &[u8], definite: bool) -> Result<Vec<i128>, Fail> {
-    let mut told = Vec::new(alloc);
-    let Ok(Some(held)) = holding_of(alloc, ty) else {
-        told.push(-100)?;
-        return Ok(told);
-    };
-    let mut holding = held;
-    for tag in tags {
-        let number = (*tag % 8) as u32;
-        let tag_of_part = if *tag == 255 { END } else { context(number) };
-        match holding.due(tag_of_part) {
-            Ok((which, _)) => {
-                let value = Value::Integer(if *tag < 8 { 5 } else { 7 });
-                holding.put(which, value)?;
-            }
-            Err(refusal) => {
-                told.push(-(refusal.number() as i128))?;
-                return Ok(told);
-            }
-        }
-    }
-    // a list is the same whether it is fitted or not
-    match holding.into_value(definite, definite) {
-        Ok(Value::Fields(slots)) => {
-            for slot in &slots {
-                told.push(number_in(slot))?;
-            }
-        }
-        Ok(Value::Items(items)) => {
-            for item in &items {
-                told.push(number_of(item))?;
-            }
-        }
-        Ok(value) => told.push(number_of(&value))?,
-        Err(refusal) => told.push(-(refusal.number() as i128))?,
-    }
-    Ok(told)
-}
+struct Parts;
 
-fn number_in(slot: &Option<Value>) -> i128 {
-    match slot {
-        Some(value) => number_of(value),
-        None => 0,
+impl Table for Parts {
+    fn holds(alloc: Global, row: &str) -> Result<bool, Fail> {
+        let (ty, parts, definite, want) = four(row)?;
+        let definite = is_yes(definite)?;
+        let ty = ty_of(alloc, ty)?;
+        let mut held = holding_of(alloc, &ty)?.ok_or("a type without parts")?;
+        if let Some(refusal) = put_parts(alloc, &mut held, parts)? {
+            return is_refused(refusal, want);
+        }
+        // a list is the same whether it is fitted or not
+        match held.into_value(definite, definite) {
+            Ok(value) => is_value(alloc, &value, want),
+            Err(refusal) => is_refused(refusal, want),
+        }
     }
 }
 
-fn number_of(value: &Value) -> i128 {
-    match value {
-        Value::Integer(number) => *number,
-        _ => -200,
-    }
-}
+// type | the tags of the parts that come, each with its value | whether the form is definite | the value or the refusal
+const SEQUENCES: &str = "\
+SEQUENCE{ } | none | yes | fields( )
+SEQUENCE{ } | 0=5 | yes | refused 2
+SEQUENCE{ } | UNIVERSAL.0=7 | yes | refused 2
+SEQUENCE{ [0]INTEGER [1]INTEGER } | 0=5 1=7 | yes | fields( 5 7 )
+SEQUENCE{ [0]INTEGER [1]INTEGER } | 0=5 | yes | refused 8
+SEQUENCE{ [0]INTEGER [1]INTEGER } | 1=5 | yes | refused 8
+SEQUENCE{ [0]INTEGER [1]INTEGER } | 2=5 | yes | refused 2
+SEQUENCE{ [0]INTEGER [1]INTEGER } | UNIVERSAL.0=7 | yes | refused 5
+SEQUENCE{ [0]INTEGER [1]INTEGER } | 0=5 1=5 UNIVERSAL.0=7 | yes | refused 2
+SEQUENCE{ [0]INTEGER [1]INTEGER } | 0=5 0=5 | yes | refused 2
+SEQUENCE{ [0]INTEGER? [1]INTEGER? [2]INTEGER } | 2=5 | yes | fields( - - 5 )
+SEQUENCE{ [0]INTEGER? [1]INTEGER? [2]INTEGER } | 1=5 2=5 | yes | fields( - 5 5 )
+SEQUENCE{ [0]INTEGER? [1]INTEGER? [2]INTEGER } | 1=5 0=5 | yes | refused 2
+SEQUENCE{ [0]INTEGER [1]INTEGER? } | 0=5 UNIVERSAL.0=7 | yes | refused 5
+SEQUENCE{ [0]INTEGER=5 [1]INTEGER=5 [2]INTEGER? } | 0=5 1=7 | yes | fields( - 7 - )
+SEQUENCE{ [0]INTEGER=5 [1]INTEGER=5 [2]INTEGER? } | none | yes | fields( - - - )
+SEQUENCE{ [0]INTEGER [1]INTEGER? [2]INTEGER=5 } | 0=7 2=7 | yes | fields( 7 - 7 )";
 
 #[test]
 fn sequences(rt: HostRuntime) -> Result<(), Fail> {
-    // (components, the tags that come, slots or the refusal)
-    let cases: [(&[u8], &[u8], &[i128]); 17] = [
-        (b"", &[], &[]),
-        (b"", &[0], &[-2]),
-        (b"", &[255], &[-2]),
-        (b"rr", &[0, 9], &[5, 7]),
-        (b"rr", &[0], &[-8]),
-        (b"rr", &[1], &[-8]),
-        (b"rr", &[2], &[-2]),
-        (b"rr", &[255], &[-5]),
-        (b"rr", &[0, 1, 255], &[-2]),
-        (b"rr", &[0, 0], &[-2]),
-        (b"oor", &[2], &[0, 0, 5]),
-        (b"oor", &[1, 2], &[0, 5, 5]),
-        (b"oor", &[1, 0], &[-2]),
-        (b"ro", &[0, 255], &[-5]),
-        (b"ddo", &[0, 9], &[0, 7, 0]),
-        (b"ddo", &[], &[0, 0, 0]),
-        (b"rod", &[8, 10], &[7, 0, 7]),
-    ];
-    for (presences, tags, want) in cases {
-        let fields = components(rt.alloc(), presences)?;
-        let ty = Ty::Sequence(context(30), fields);
-        let told = outcome(rt.alloc(), &ty, tags, true)?;
-        assert_eq!(rt; told.as_slice(), want, "at {presences:?} {tags:?}");
-    }
-    Ok(())
+    check::<Parts>(rt.alloc(), SEQUENCES)
 }
+
+// type | the tags of the parts that come, each with its value | whether the form is definite | the value or the refusal
+const SETS: &str = "\
+SET{ } | none | yes | fields( )
+SET{ } | 0=5 | yes | refused 2
+SET{ } | UNIVERSAL.0=7 | yes | refused 2
+SET{ [0]INTEGER [1]INTEGER } | 0=5 1=7 | yes | fields( 5 7 )
+SET{ [0]INTEGER [1]INTEGER } | 1=7 0=5 | yes | fields( 5 7 )
+SET{ [0]INTEGER [1]INTEGER } | 1=5 | yes | refused 8
+SET{ [0]INTEGER [1]INTEGER } | 1=5 1=5 | yes | refused 9
+SET{ [0]INTEGER [1]INTEGER } | 1=5 2=5 | yes | refused 2
+SET{ [0]INTEGER [1]INTEGER } | 1=5 UNIVERSAL.0=7 | yes | refused 5
+SET{ [0]INTEGER [1]INTEGER } | 1=5 0=5 UNIVERSAL.0=7 | yes | refused 2
+SET{ [0]INTEGER [1]INTEGER [2]INTEGER } | 1=7 0=5 2=7 | yes | fields( 5 7 7 )
+SET{ [0]INTEGER? [1]INTEGER=5 [2]INTEGER } | 2=5 | yes | fields( - - 5 )
+SET{ [0]INTEGER? [1]INTEGER=5 [2]INTEGER } | 1=5 1=5 | yes | refused 9
+SET{ [0]INTEGER? [1]INTEGER=5 [2]INTEGER } | 1=7 2=5 | yes | fields( - 7 5 )";
 
 #[test]
 fn sets(rt: HostRuntime) -> Result<(), Fail> {
-    // (components, the tags that come, slots or the refusal)
-    let cases: [(&[u8], &[u8], &[i128]); 14] = [
-        (b"", &[], &[]),
-        (b"", &[0], &[-2]),
-        (b"", &[255], &[-2]),
-        (b"rr", &[0, 9], &[5, 7]),
-        (b"rr", &[9, 0], &[5, 7]),
-        (b"rrr", &[9, 0, 10], &[5, 7, 7]),
-        (b"rr", &[1], &[-8]),
-        (b"rr", &[1, 1], &[-9]),
-        (b"rr", &[1, 2], &[-2]),
-        (b"rr", &[1, 255], &[-5]),
-        (b"rr", &[1, 0, 255], &[-2]),
-        (b"odr", &[2], &[0, 0, 5]),
-        (b"odr", &[1, 1], &[-9]),
-        (b"odr", &[9, 2], &[0, 7, 5]),
-    ];
-    for (presences, tags, want) in cases {
-        let fields = components(rt.alloc(), presences)?;
-        let ty = Ty::Set(context(30), fields);
-        let told = outcome(rt.alloc(), &ty, tags, true)?;
-        assert_eq!(rt; told.as_slice(), want, "at {presences:?} {tags:?}");
-    }
-    Ok(())
+    check::<Parts>(rt.alloc(), SETS)
 }
+
+// type | the tags of the parts that come, each with its value | whether the form is definite | the value or the refusal
+const OTHERS: &str = "\
+SET-OF{ [1]INTEGER } | none | no | items( )
+SET-OF{ [1]INTEGER } | 1=7 1=5 1=7 | no | items( 7 5 7 )
+SET-OF{ [1]INTEGER } | 1=5 0=5 | no | refused 2
+SET-OF{ [1]INTEGER } | 1=5 UNIVERSAL.0=7 | no | refused 5
+[30]{ [1]INTEGER } | none | yes | refused 4
+[30]{ [1]INTEGER } | none | no | refused 5
+[30]{ [1]INTEGER } | 1=7 | yes | 7
+[30]{ [1]INTEGER } | 0=5 | yes | refused 2
+[30]{ [1]INTEGER } | UNIVERSAL.0=7 | yes | refused 5
+[30]{ [1]INTEGER } | 1=5 1=5 | yes | refused 2
+[30]{ [1]INTEGER } | 1=5 UNIVERSAL.0=7 | yes | refused 2";
 
 #[test]
 fn items_and_explicit_tags(rt: HostRuntime) -> Result<(), Fail> {
-    let inner = Box::new(rt.alloc(), Ty::Integer(context(1)))?;
-    let list = Ty::SetOf(context(30), inner);
-    // (tags, the items or the refusal)
-    let cases: [(&[u8], &[i128]); 4] = [
-        (&[], &[]),
-        (&[9, 1, 9], &[7, 5, 7]),
-        (&[1, 0], &[-2]),
-        (&[1, 255], &[-5]),
-    ];
-    for (tags, want) in cases {
-        let told = outcome(rt.alloc(), &list, tags, false)?;
-        assert_eq!(rt; told.as_slice(), want, "at {tags:?}");
-    }
-    let inner = Box::new(rt.alloc(), Ty::Integer(context(1)))?;
-    let tagged = Ty::Explicit(context(30), inner);
-    // (tags, whether the form is definite, the value or the refusal)
-    let cases: [(&[u8], bool, &[i128]); 7] = [
-        (&[], true, &[-4]),
-        (&[], false, &[-5]),
-        (&[9], true, &[7]),
-        (&[0], true, &[-2]),
-        (&[255], true, &[-5]),
-        (&[1, 1], true, &[-2]),
-        (&[1, 255], true, &[-2]),
-    ];
-    for (tags, definite, want) in cases {
-        let told = outcome(rt.alloc(), &tagged, tags, definite)?;
-        assert_eq!(rt; told.as_slice(), want, "at {tags:?}");
-    }
-    Ok(())
+    check::<Parts>(rt.alloc(), OTHERS)
 }

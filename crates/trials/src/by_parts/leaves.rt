@@ -6,13 +6,13 @@ ghost use Rattle.types.specs.View.{ty_view};
 ghost use Rattle.contents.specs.Joined.{IsStringOf};
 ghost use Rattle.contents.specs.Segments.{IsSound};
 
-use super::{boolean, octet_string};
+use crate::given::comes_to;
+use crate::made::{OctetsTable, check_octets};
+use crate::rows::{pair_of, two};
 use contents::{Kind, Segments, begin_string, not_due, read_head_tag, read_leaf};
 use octets::{Class, MAX_ENCODING, Tag};
-use primitives::Bits;
 use std::alloc::Global;
 use std::test::Fail;
-use strings::TextKind;
 use types::{Refusal, Ty, Value, WellTyped};
 
 const OCTET_STRING: Tag = Tag {
@@ -63,134 +63,89 @@ fn segments_of(
     Ok((segments.joined.into_value(node)?, at))
 }
 
-// Reads a part behind `taken` octets of what ends at `end`: how many octets it has, or the refusal's number.
+// Reads a part behind `taken` octets of what ends at `end`: its value, and how many octets it has. None where the type
+// has parts, or the end passes the limit.
 fn part(
     alloc: Global,
-    ty: Ty,
+    ty: &WellTyped,
     (levels, end, taken): (usize, usize, usize),
     octets: &[u8],
-) -> Option<Result<usize, u8>> {
-    let Ok(ty) = WellTyped::new(ty) else {
-        return None;
-    };
+) -> Option<Result<(Value, usize), Refusal>> {
     let node = ty.as_type();
     if !node.has_no_parts() || end > MAX_ENCODING {
         return None;
     }
     let (tag, constructed, identifier) = match read_head_tag(end, taken, octets) {
         Ok(found) => found,
-        Err(refusal) => return Some(Err(refusal.number())),
+        Err(refusal) => return Some(Err(refusal)),
     };
     if tag != leaf_tag(node) {
-        return Some(Err(not_due(tag).number()));
+        return Some(Err(not_due(tag)));
     }
-    let read = if constructed {
-        match begin_string(alloc, node, identifier, end, taken, levels, octets) {
-            Ok((kind, segments, used)) => {
-                match segments_of(segments, kind, node, &octets[used..]) {
-                    Ok((_, more)) => Ok(used + more),
-                    Err(refusal) => Err(refusal),
-                }
-            }
-            Err(refusal) => Err(refusal),
-        }
-    } else {
-        match read_leaf(alloc, node, identifier, end, taken, false, octets) {
-            Ok((_, used)) => Ok(used),
-            Err(refusal) => Err(refusal),
-        }
+    if !constructed {
+        return Some(read_leaf(alloc, node, identifier, end, taken, false, octets));
+    }
+    let begun = begin_string(alloc, node, identifier, end, taken, levels, octets);
+    let (kind, segments, used) = match begun {
+        Ok(begun) => begun,
+        Err(refusal) => return Some(Err(refusal)),
     };
-    match read {
-        Ok(used) => Some(Ok(used)),
-        Err(refusal) => Some(Err(refusal.number())),
+    match segments_of(segments, kind, node, &octets[used..]) {
+        Ok((value, more)) => Some(Ok((value, used + more))),
+        Err(refusal) => Some(Err(refusal)),
     }
 }
+
+struct Leaf;
+
+impl OctetsTable for Leaf {
+    fn holds(alloc: Global, ty: &WellTyped, octets: &[u8], others: &str) -> Result<bool, Fail> {
+        let (place, want) = two(others)?;
+        let (levels, place) = place.split_once(' ').ok_or("one number")?;
+        let (end, taken) = pair_of(place)?;
+        let place = (levels.parse::<usize>()?, end, taken);
+        match part(alloc, ty, place, octets) {
+            Some(read) => comes_to(alloc, &read, want),
+            None => Err("a type with parts, or an end past the limit".into()),
+        }
+    }
+}
+
+// type | octets | levels, end, and octets before | how many octets the part has and its value, or the refusal
+const PARTS: &str = "\
+OCTETS  | 04 03 41 42 43 | 0 10 5 | 5 octets:414243
+OCTETS  | 04 03 41 42 43 | 0 9 5  | refused 11
+OCTETS  | 04 02 41 42 43 | 0 10 5 | 4 octets:4142
+OCTETS  | 04 03 41 42    | 0 10 5 | refused 1
+OCTETS  | 04             | 0 7 5  | refused 1
+OCTETS  | 04             | 0 6 5  | refused 11
+OCTETS  | 04             | 0 5 5  | refused 11
+OCTETS  | ''             | 0 5 5  | refused 11
+OCTETS  | 24 00          | 0 10 5 | refused 10
+OCTETS  | 24 00          | 1 10 5 | 2 octets:''
+OCTETS  | 24 02 24 00    | 1 10 5 | refused 10
+OCTETS  | 24 02 24 00    | 2 10 5 | 4 octets:''
+OCTETS  | 24 80 00 00    | 1 9 5  | 4 octets:''
+OCTETS  | 24 80 00 00    | 1 8 5  | refused 11
+OCTETS  | 24 80 04 02 41 | 1 10 5 | refused 11
+OCTETS  | 24 02 04 01 41 | 1 20 5 | refused 4
+OCTETS  | 1F 81 00       | 1 6 5  | refused 11
+BOOLEAN | 01 05          | 0 6 5  | refused 11
+BOOLEAN | 01 05          | 0 7 5  | refused 6
+BOOLEAN | 21 00          | 0 8 5  | refused 3";
 
 #[test]
-fn parts(rt: HostRuntime) {
-    // (levels, end, octets before it), octets, how many octets the part has or the refusal's number
-    let cases: [((usize, usize, usize), &[u8], Result<usize, u8>); 17] = [
-        ((0, 10, 5), &[0x04, 0x03, 0x41, 0x42, 0x43], Ok(5)),
-        ((0, 9, 5), &[0x04, 0x03, 0x41, 0x42, 0x43], Err(11)),
-        ((0, 10, 5), &[0x04, 0x02, 0x41, 0x42, 0x43], Ok(4)),
-        ((0, 10, 5), &[0x04, 0x03, 0x41, 0x42], Err(1)),
-        ((0, 7, 5), &[0x04], Err(1)),
-        ((0, 6, 5), &[0x04], Err(11)),
-        ((0, 5, 5), &[0x04], Err(11)),
-        ((0, 5, 5), &[], Err(11)),
-        ((0, 10, 5), &[0x24, 0x00], Err(10)),
-        ((1, 10, 5), &[0x24, 0x00], Ok(2)),
-        ((1, 10, 5), &[0x24, 0x02, 0x24, 0x00], Err(10)),
-        ((2, 10, 5), &[0x24, 0x02, 0x24, 0x00], Ok(4)),
-        ((1, 9, 5), &[0x24, 0x80, 0x00, 0x00], Ok(4)),
-        ((1, 8, 5), &[0x24, 0x80, 0x00, 0x00], Err(11)),
-        ((1, 10, 5), &[0x24, 0x80, 0x04, 0x02, 0x41], Err(11)),
-        ((1, 20, 5), &[0x24, 0x02, 0x04, 0x01, 0x41], Err(4)),
-        ((1, 6, 5), &[0x1F, 0x81, 0x00], Err(11)),
-    ];
-    for (place, octets, want) in cases {
-        let found = part(rt.alloc(), octet_string(), place, octets);
-        assert_eq!(rt; found, Some(want), "{place:?} at {octets:?}");
-    }
-    // the length octets are judged as far as they stand within
-    assert_eq!(rt;
-        part(rt.alloc(), boolean(), (0, 6, 5), &[0x01, 0x05]),
-        Some(Err(11))
-    );
-    assert_eq!(rt;
-        part(rt.alloc(), boolean(), (0, 7, 5), &[0x01, 0x05]),
-        Some(Err(6))
-    );
-    assert_eq!(rt;
-        part(rt.alloc(), boolean(), (0, 8, 5), &[0x21, 0x00]),
-        Some(Err(3))
-    );
+fn parts(rt: HostRuntime) -> Result<(), Fail> {
+    check_octets::<Leaf>(rt.alloc(), PARTS)
 }
 
-// The value of a constructed string.
-fn string(alloc: Global, ty: Ty, octets: &[u8]) -> Option<Value> {
-    let Ok(ty) = WellTyped::new(ty) else {
-        return None;
-    };
-    let node = ty.as_type();
-    if !node.has_no_parts() {
-        return None;
-    }
-    let Ok((tag, true, identifier)) = read_head_tag(MAX_ENCODING, 0, octets) else {
-        return None;
-    };
-    if tag != leaf_tag(node) {
-        return None;
-    }
-    match begin_string(alloc, node, identifier, MAX_ENCODING, 0, 64, octets) {
-        Ok((kind, segments, used)) => {
-            match segments_of(segments, kind, node, &octets[used..]) {
-                Ok((value, _)) => Some(value),
-                Err(_) => None,
-            }
-        }
-        Err(_) => None,
-    }
-}
+// type | octets | levels, end, and octets before | how many octets the part has and its value, or the refusal
+const SEGMENTS: &str = "\
+OCTETS  | 24 80 04 01 41 04 01 42 00 00 | 64 1048576 0 | 10 octets:4142
+BITS    | 23 09 03 03 00 AA BB 03 02 04 F0 | 64 1048576 0 | 11 bits:AABBF0/4
+VisibleString | 3A 06 04 01 4A 04 01 6F | 64 1048576 0 | 8 text:'Jo'";
 
 #[test]
 fn joined_segments(rt: HostRuntime) -> Result<(), Fail> {
-    let alloc = rt.alloc();
-    let octets = [0x24, 0x80, 0x04, 0x01, 0x41, 0x04, 0x01, 0x42, 0x00, 0x00];
-    let want = Value::Octets(Vec::from_slice(alloc, b"AB")?);
-    assert!(rt; string(alloc, octet_string(), &octets) == Some(want));
-    let octets = [
-        0x23, 0x09, 0x03, 0x03, 0x00, 0xAA, 0xBB, 0x03, 0x02, 0x04, 0xF0,
-    ];
-    let bits = Bits::new(Vec::from_slice(alloc, &[0xAA, 0xBB, 0xF0])?, 4);
-    let Some(Value::Bits(found)) = string(alloc, Ty::Bits(Tag::universal(3)), &octets) else {
-        assert!(rt; false);
-        return Ok(());
-    };
-    assert!(rt; Some(found) == bits);
-    let octets = [0x3A, 0x06, 0x04, 0x01, 0x4A, 0x04, 0x01, 0x6F];
-    let visible = Ty::Text(Tag::universal(26), TextKind::Visible);
-    let want = Value::Text(Vec::from_slice(alloc, b"Jo")?);
-    assert!(rt; string(alloc, visible, &octets) == Some(want));
-    Ok(())
+    check_octets::<Leaf>(rt.alloc(), SEGMENTS)
 }

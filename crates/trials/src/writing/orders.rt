@@ -1,186 +1,87 @@
 //! Values that are the same, and values in order.
 
-use crate::made::Part::{Default, Required};
-use crate::made::Plan::{
-    Bits, Boolean, Choice, Empty, Explicit, Integer, Octets, Oid, Sequence, SequenceOf, Set, SetOf,
-};
-use crate::made::{Given, Plan, typed, value_of};
+use crate::given::{ValuesTable, check_values, is_value, value_of};
+use crate::rows::{is_yes, two};
 use canon::{order, same};
-use octets::Class::Context;
+use octets::NoMemory;
+use std::alloc::Global;
 use std::test::Fail;
-use types::conforms;
+use types::{Value, WellTyped, conforms};
 
-const ONE: Given = Given::Integer(1);
+// Whether two values, which conform to the type, are the same, and whether they are equal in order.
+fn compared(
+    alloc: Global,
+    ty: &WellTyped,
+    value: &Value,
+    other: &Value,
+) -> Result<Option<(bool, bool)>, NoMemory> {
+    if !conforms(ty.as_type(), value) || !conforms(ty.as_type(), other) {
+        return Ok(None);
+    }
+    let same = same(alloc, ty, value, other)?;
+    let first = order(alloc, ty, value)?;
+    Ok(Some((same, first == order(alloc, ty, other)?)))
+}
 
-const TWO: Given = Given::Integer(2);
+// type | a value | another | whether they are the same
+const SAME: &str = "\
+SET-OF{ INTEGER } | items( 5 3 5 ) | items( 3 5 5 ) | yes
+SET-OF{ INTEGER } | items( 3 5 5 ) | items( 3 3 5 ) | no
+SET-OF{ INTEGER } | items( 3 ) | items( 3 3 ) | no
+SET-OF{ INTEGER } | items( ) | items( ) | yes
+SEQUENCE-OF{ INTEGER } | items( 1 2 ) | items( 2 1 ) | no
+SET-OF{ SET-OF{ INTEGER } } | items( items( 1 2 ) items( 3 ) ) | items( items( 3 ) items( 2 1 ) ) | yes
+SET-OF{ SET-OF{ INTEGER } } | items( items( 1 2 ) items( 3 ) ) | items( items( 3 1 ) items( 2 ) ) | no
+SEQUENCE{ SET-OF{ INTEGER } [0]{ INTEGER }=1 } | fields( items( 2 1 ) - ) | fields( items( 1 2 ) - ) | yes
+SEQUENCE{ SET-OF{ INTEGER } [0]{ INTEGER }=1 } | fields( items( 2 1 ) - ) | fields( items( 1 2 ) 2 ) | no
+BITS | bits:F0/4 | bits:FF/4 | yes
+BITS | bits:F0/4 | bits:F0/3 | no
+BITS | bits:F0/4 | bits:E0/4 | no";
 
-const THREE: Given = Given::Integer(3);
+struct Same;
 
-const FIVE: Given = Given::Integer(5);
-
-const NUMBERS: Plan = SetOf(&Integer);
-
-const SETS: Plan = SetOf(&SetOf(&Integer));
-
-const PARTS: Plan = Sequence(&[
-    Required(SetOf(&Integer)),
-    Default(Explicit(Context, 0, &Integer), ONE),
-]);
-
-const BOTH: Plan = Set(&[Required(SetOf(&Integer)), Required(Boolean)]);
-
-const EITHER: Plan = Choice(&[Empty, Explicit(Context, 0, &SetOf(&Octets))]);
-
-// (type, a value, another, whether they are the same)
-const SAME: [(Plan, Given, Given, bool); 9] = [
-    (
-        NUMBERS,
-        Given::Items(&[FIVE, THREE, FIVE]),
-        Given::Items(&[THREE, FIVE, FIVE]),
-        true,
-    ),
-    (
-        NUMBERS,
-        Given::Items(&[THREE, FIVE, FIVE]),
-        Given::Items(&[THREE, THREE, FIVE]),
-        false,
-    ),
-    (
-        NUMBERS,
-        Given::Items(&[THREE]),
-        Given::Items(&[THREE, THREE]),
-        false,
-    ),
-    (NUMBERS, Given::Items(&[]), Given::Items(&[]), true),
-    (
-        SequenceOf(&Integer),
-        Given::Items(&[ONE, TWO]),
-        Given::Items(&[TWO, ONE]),
-        false,
-    ),
-    (
-        SETS,
-        Given::Items(&[Given::Items(&[ONE, TWO]), Given::Items(&[THREE])]),
-        Given::Items(&[Given::Items(&[THREE]), Given::Items(&[TWO, ONE])]),
-        true,
-    ),
-    (
-        SETS,
-        Given::Items(&[Given::Items(&[ONE, TWO]), Given::Items(&[THREE])]),
-        Given::Items(&[Given::Items(&[THREE, ONE]), Given::Items(&[TWO])]),
-        false,
-    ),
-    (
-        PARTS,
-        Given::Fields(&[Some(Given::Items(&[TWO, ONE])), None]),
-        Given::Fields(&[Some(Given::Items(&[ONE, TWO])), None]),
-        true,
-    ),
-    (
-        PARTS,
-        Given::Fields(&[Some(Given::Items(&[TWO, ONE])), None]),
-        Given::Fields(&[Some(Given::Items(&[ONE, TWO])), Some(TWO)]),
-        false,
-    ),
-];
-
-// (type, a value, the same in order)
-const ORDERED: [(Plan, Given, Given); 13] = [
-    (Boolean, Given::Boolean(true), Given::Boolean(true)),
-    (Integer, Given::Integer(-7), Given::Integer(-7)),
-    (
-        Octets,
-        Given::Octets(&[0x02, 0x01]),
-        Given::Octets(&[0x02, 0x01]),
-    ),
-    (
-        Bits,
-        Given::Bits(&[0x02, 0xF8], 3),
-        Given::Bits(&[0x02, 0xF8], 3),
-    ),
-    (Bits, Given::Bits(&[], 0), Given::Bits(&[], 0)),
-    (Oid, Given::Oid(&[2, 100, 3]), Given::Oid(&[2, 100, 3])),
-    (
-        NUMBERS,
-        Given::Items(&[FIVE, THREE, FIVE]),
-        Given::Items(&[THREE, FIVE, FIVE]),
-    ),
-    // 02 01 FF stands before 02 02 01 00
-    (
-        NUMBERS,
-        Given::Items(&[Given::Integer(256), Given::Integer(-1), ONE]),
-        Given::Items(&[ONE, Given::Integer(-1), Given::Integer(256)]),
-    ),
-    (
-        SequenceOf(&Integer),
-        Given::Items(&[TWO, ONE]),
-        Given::Items(&[TWO, ONE]),
-    ),
-    (
-        SETS,
-        Given::Items(&[
-            Given::Items(&[THREE, ONE]),
-            Given::Items(&[TWO]),
-            Given::Items(&[]),
-        ]),
-        Given::Items(&[
-            Given::Items(&[]),
-            Given::Items(&[TWO]),
-            Given::Items(&[ONE, THREE]),
-        ]),
-    ),
-    (
-        PARTS,
-        Given::Fields(&[Some(Given::Items(&[TWO, ONE])), Some(THREE)]),
-        Given::Fields(&[Some(Given::Items(&[ONE, TWO])), Some(THREE)]),
-    ),
-    (
-        BOTH,
-        Given::Fields(&[Some(Given::Items(&[TWO, ONE])), Some(Given::Boolean(false))]),
-        Given::Fields(&[Some(Given::Items(&[ONE, TWO])), Some(Given::Boolean(false))]),
-    ),
-    (
-        EITHER,
-        Given::Chosen(
-            1,
-            &Given::Items(&[Given::Octets(&[0x00, 0x00]), Given::Octets(&[0xFF])]),
-        ),
-        Given::Chosen(
-            1,
-            &Given::Items(&[Given::Octets(&[0xFF]), Given::Octets(&[0x00, 0x00])]),
-        ),
-    ),
-];
+impl ValuesTable for Same {
+    fn holds(alloc: Global, ty: &WellTyped, value: &Value, others: &str) -> Result<bool, Fail> {
+        let (other, want) = two(others)?;
+        let want = is_yes(want)?;
+        let other = value_of(alloc, other)?;
+        Ok(compared(alloc, ty, value, &other)? == Some((want, want)))
+    }
+}
 
 #[test]
 fn the_order_of_a_set_of_does_not_matter(rt: HostRuntime) -> Result<(), Fail> {
-    let alloc = rt.alloc();
-    for (row, (plan, given, other, want)) in SAME.iter().enumerate() {
-        let ty = typed(alloc, plan)?;
-        let value = value_of(alloc, given)?;
-        let other = value_of(alloc, other)?;
-        assert!(rt; conforms(ty.as_type(), &value));
-        assert!(rt; conforms(ty.as_type(), &other));
-        assert_eq!(rt; same(alloc, &ty, &value, &other)?, *want, "row {row}");
-        let first = order(alloc, &ty, &value)?;
-        let second = order(alloc, &ty, &other)?;
-        assert_eq!(rt; first == second, *want, "row {row}");
+    check_values::<Same>(rt.alloc(), SAME)
+}
+
+// type | a value | the same in order. The encoding 02 01 FF stands before 02 02 01 00
+const ORDERED: &str = "\
+BOOLEAN | TRUE | TRUE
+INTEGER | -7 | -7
+OCTETS | octets:0201 | octets:0201
+BITS | bits:02F8/3 | bits:02F8/3
+BITS | bits:''/0 | bits:''/0
+OID | oid:2.100.3 | oid:2.100.3
+SET-OF{ INTEGER } | items( 5 3 5 ) | items( 3 5 5 )
+SET-OF{ INTEGER } | items( 256 -1 1 ) | items( 1 -1 256 )
+SEQUENCE-OF{ INTEGER } | items( 2 1 ) | items( 2 1 )
+SET-OF{ SET-OF{ INTEGER } } | items( items( 3 1 ) items( 2 ) items( ) ) | items( items( ) items( 2 ) items( 1 3 ) )
+SEQUENCE{ SET-OF{ INTEGER } [0]{ INTEGER }=1 } | fields( items( 2 1 ) 3 ) | fields( items( 1 2 ) 3 )
+SET{ SET-OF{ INTEGER } BOOLEAN } | fields( items( 2 1 ) FALSE ) | fields( items( 1 2 ) FALSE )
+CHOICE{ NULL [0]{ SET-OF{ OCTETS } } } | 1( items( octets:0000 octets:FF ) ) | 1( items( octets:FF octets:0000 ) )";
+
+struct Ordered;
+
+impl ValuesTable for Ordered {
+    fn holds(alloc: Global, ty: &WellTyped, value: &Value, others: &str) -> Result<bool, Fail> {
+        if !conforms(ty.as_type(), value) {
+            return Ok(false);
+        }
+        is_value(alloc, &order(alloc, ty, value)?, others)
     }
-    Ok(())
 }
 
 #[test]
 fn items_are_put_in_order(rt: HostRuntime) -> Result<(), Fail> {
-    let alloc = rt.alloc();
-    for (row, (plan, given, want)) in ORDERED.iter().enumerate() {
-        let ty = typed(alloc, plan)?;
-        let value = value_of(alloc, given)?;
-        assert!(rt; conforms(ty.as_type(), &value));
-        assert_eq!(rt;
-            order(alloc, &ty, &value)?,
-            value_of(alloc, want)?,
-            "row {row}"
-        );
-    }
-    Ok(())
+    check_values::<Ordered>(rt.alloc(), ORDERED)
 }
