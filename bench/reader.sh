@@ -19,7 +19,7 @@ readonly work
 trap 'rm -rf "$work"' EXIT
 
 mkdir -p "$work/crates/reader/src"
-for crate in octets primitives strings names types contents whole berreader; do
+for crate in octets primitives strings names types encoding_parts berslice berreader; do
     cp -r "$top/crates/$crate" "$work/crates"
 done
 cp "$top/bench/reader/main.txt" "$work/crates/reader/src/main.rt"
@@ -29,9 +29,9 @@ primitives: octets
 strings: simdutf8
 names:
 types: octets primitives strings names
-contents: octets primitives strings types smallvec
-whole: octets primitives strings types contents
-berreader: octets primitives strings types contents whole smallvec
+encoding_parts: octets primitives strings types smallvec
+berslice: octets primitives strings types encoding_parts
+berreader: octets primitives strings types encoding_parts berslice smallvec
 reader: octets strings types berreader
 END
 cd "$work/crates/reader"

@@ -19,7 +19,7 @@ readonly work
 trap 'rm -rf "$work"' EXIT
 
 mkdir -p "$work/crates/resolving/src"
-for crate in octets primitives strings names types lexis syntax builtin notation; do
+for crate in octets primitives strings names types lexis syntax builtin_types notation; do
     cp -r "$top/crates/$crate" "$work/crates"
 done
 cp "$top/bench/resolving/main.txt" "$work/crates/resolving/src/main.rt"
@@ -31,8 +31,8 @@ lexis:
 names:
 types: octets primitives strings names
 syntax: lexis names
-builtin: lexis syntax octets primitives strings types indexmap
-notation: lexis syntax octets primitives strings types builtin indexmap
+builtin_types: lexis syntax octets primitives strings types indexmap
+notation: lexis syntax octets primitives strings types builtin_types indexmap
 resolving: notation types
 END
 cd "$work/crates/resolving"

@@ -10,7 +10,7 @@ use Rattle.types.specs.Encoding.{IsAccepted, IsSomeAccepted, most_nested}
 use Rattle.types.specs.Same.{IsSame}
 use Rattle.types.specs.WellFormed.{IsWellFormed}
 use Rattle.types.proofs.EncodingLemmas.{encoding_unique}
-use Rattle.contents.specs.Parts.{IsPartWithin}
+use Rattle.encoding_parts.specs.Parts.{IsPartWithin}
 
 -- two accepted encodings at the front are one, and so are their values
 pub record IsOnly (shape : Shape) (v w : Val) (n used : ℕ) : Type 0 where

@@ -8,13 +8,13 @@ use Rattle.types.specs.Shape.{Val}
 use Rattle.types.specs.View.{ty_view, value_view}
 use Rattle.types.specs.declared.value.Value.{Value}
 use Rattle.berreader.specs.declared.cursor.Cursor.{Cursor}
-use Rattle.contents.specs.declared.frame.Frame.{Frame}
+use Rattle.encoding_parts.specs.declared.frame.Frame.{Frame}
 use Rattle.berreader.specs.declared.nest.Nest.{Nest}
 use Rattle.berreader.specs.declared.nest.OpenString.{OpenString}
-use Rattle.contents.specs.Completing.{Opens}
+use Rattle.encoding_parts.specs.Completing.{Opens}
 use Rattle.berreader.specs.Items as items
 use Rattle.berreader.specs.Nest as nests
-use Rattle.contents.specs.Segments as segments
+use Rattle.encoding_parts.specs.Segments as segments
 use Rattle.berreader.specs.Stack.{layers_of}
 use Rattle.berreader.specs.Cursor.{ends_in, octets_in, taken_by, taken_of, with_string, AreTaken, CanFinish, HasPassed, HasTaken, IsSoundCursor, IsSoundIn, IsStep, IsTaken, IsWhole}
 use Rattle.berreader.specs.Strings.{IsClosed, IsFound, IsOpenedString, IsSoundString, IsString}

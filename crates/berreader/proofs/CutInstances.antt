@@ -9,8 +9,8 @@ use Rattle.octets.proofs.FrontLemmas.{HasFront-from_parts}
 use Rattle.octets.proofs.IdentifierLemmas.{identifier_unique}
 use Rattle.octets.proofs.LengthLemmas.{length_unique}
 use Rattle.types.specs.Shape.{Shape, SimpleType}
-use Rattle.contents.specs.Cut.{IsCutBehind}
-use Rattle.contents.specs.Parts.{IsNodeFor}
+use Rattle.encoding_parts.specs.Cut.{IsCutBehind}
+use Rattle.encoding_parts.specs.Parts.{IsNodeFor}
 use Rattle.berreader.specs.Cut.{IsCutNext}
 
 abbrev universal : ℕ → Tag

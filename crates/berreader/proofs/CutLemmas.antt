@@ -7,9 +7,9 @@ use Rattle.octets.specs.Identifier.{IsIdentifier, IsSomeIdentifier}
 use Rattle.types.specs.Leaf.{IsLeaf}
 use Rattle.types.specs.Shape.{Shape}
 use Rattle.types.specs.View.{ty_view}
-use Rattle.contents.specs.Cut.{IsEndCut, IsIdentifierCut, IsLengthCut, IsPartCut}
-use Rattle.contents.specs.Head.{IsReadTag}
-use Rattle.contents.proofs.CutLemmas.{constructed_cut, end_cut_within, part_within, string_within}
+use Rattle.encoding_parts.specs.Cut.{IsEndCut, IsIdentifierCut, IsLengthCut, IsPartCut}
+use Rattle.encoding_parts.specs.Head.{IsReadTag}
+use Rattle.encoding_parts.proofs.CutLemmas.{constructed_cut, end_cut_within, part_within, string_within}
 use Rattle.berreader.specs.declared.cursor.Cursor.{Cursor}
 use Rattle.berreader.specs.declared.nest.Nest.{Nest}
 use Rattle.berreader.specs.declared.nest.Next.{Next}

@@ -11,8 +11,8 @@ use Rattle.types.specs.View.{value_view}
 use Rattle.types.proofs.ApartInstances.{of_no_octets}
 use Rattle.berreader.specs.declared.pieces.Pieces.{Pieces}
 use Rattle.berreader.specs.declared.reader.Step as answer
-use Rattle.contents.specs.Parts.{IsPartWithin}
-use Rattle.contents.proofs.StepLemmas.{opening_some}
+use Rattle.encoding_parts.specs.Parts.{IsPartWithin}
+use Rattle.encoding_parts.proofs.StepLemmas.{opening_some}
 use Rattle.berreader.specs.Cut.{IsCut}
 use Rattle.berreader.specs.Nest.{end_inside, CanComplete, StandsAt}
 use Rattle.berreader.specs.Stack.{Layer, layers_of}

@@ -10,9 +10,9 @@ use Rattle.types.specs.Shape.{Shape, Val}
 use Rattle.types.specs.View.{value_view}
 use Rattle.types.specs.Weight.{weight_of}
 use Rattle.types.specs.WellFormed.{nodes_of}
-use Rattle.contents.specs.declared.frame.Frame.{Frame}
+use Rattle.encoding_parts.specs.declared.frame.Frame.{Frame}
 use Rattle.berreader.specs.declared.pieces.Pieces.{Pieces}
-use Rattle.contents.specs.Completing.{IsOpening}
+use Rattle.encoding_parts.specs.Completing.{IsOpening}
 use Rattle.berreader.specs.Feeding.{HasBeenFed, IsDone, IsFed, shape_of}
 use Rattle.berreader.specs.Nest.{IsDueInside, StandsAt, levels_inside}
 use Rattle.berreader.specs.Stack.{Layer, layers_of}

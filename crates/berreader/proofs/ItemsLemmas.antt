@@ -6,10 +6,10 @@ use Rattle.std.proofs.lemmas.List.Folds.{concat-append}
 use Rattle.octets.proofs.FrontLemmas.{front_of_more}
 use Rattle.types.specs.Shape.{Val, Shape}
 use Rattle.types.specs.View.{ty_view}
-use Rattle.contents.specs.declared.frame.Frame.{Frame}
-use Rattle.contents.specs.Completing.{IsEndOf}
-use Rattle.contents.specs.Parts.{Parts, IsPart, IsPartOf, ArePartsOf, AreItemsCome, Holds}
-use Rattle.contents.proofs.StepLemmas.{end_alone}
+use Rattle.encoding_parts.specs.declared.frame.Frame.{Frame}
+use Rattle.encoding_parts.specs.Completing.{IsEndOf}
+use Rattle.encoding_parts.specs.Parts.{Parts, IsPart, IsPartOf, ArePartsOf, AreItemsCome, Holds}
+use Rattle.encoding_parts.proofs.StepLemmas.{end_alone}
 use Rattle.berreader.specs.declared.nest.Nest.{Nest}
 use Rattle.berreader.specs.Items.{HasMoreItems, AreItemsInside, AreTaken}
 use Rattle.berreader.specs.Nest.{CanEnd, CanFollow, CanComplete, HasTaken, IsBegun, StandsAt, levels_inside, levels_left}

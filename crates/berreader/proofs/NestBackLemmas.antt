@@ -5,17 +5,17 @@ use Rattle.octets.specs.declared.tag.Tag.{Tag}
 use Rattle.octets.specs.Rule.{ber}
 use Rattle.types.specs.Shape.{Val, Shape}
 use Rattle.types.specs.Encoding.{IsAccepted, most_nested}
-use Rattle.contents.specs.declared.frame.Frame.{Frame}
-use Rattle.contents.specs.Completing.{IsEndOf, IsOpening}
-use Rattle.contents.specs.Parts.{IsPartOf, IsNodeFor, ArePartsOf, AreNone, IsGoodType, IsValueOf, IsWrapped}
+use Rattle.encoding_parts.specs.declared.frame.Frame.{Frame}
+use Rattle.encoding_parts.specs.Completing.{IsEndOf, IsOpening}
+use Rattle.encoding_parts.specs.Parts.{IsPartOf, IsNodeFor, ArePartsOf, AreNone, IsGoodType, IsValueOf, IsWrapped}
 use Rattle.berreader.specs.Stack.{Layer, with_which}
 use Rattle.berreader.specs.Nest.{StandsAt, IsDueInside, IsDueNext, IsComeInside, AreSound, AreInside, levels_inside, levels_left, end_inside}
-use Rattle.contents.proofs.ChoiceLemmas.{node_good, node_own}
-use Rattle.contents.proofs.CompletingLemmas.{constructed_of_frame}
+use Rattle.encoding_parts.proofs.ChoiceLemmas.{node_good, node_own}
+use Rattle.encoding_parts.proofs.CompletingLemmas.{constructed_of_frame}
 use Rattle.berreader.proofs.PartsDueLemmas.{due_good}
-use Rattle.contents.proofs.PartsOpenLemmas.{none_holds, parts_good}
-use Rattle.contents.proofs.PartsPutLemmas.{put_holds, put_good, put_parts_of}
-use Rattle.contents.proofs.PartsValueLemmas.{value_encodes}
+use Rattle.encoding_parts.proofs.PartsOpenLemmas.{none_holds, parts_good}
+use Rattle.encoding_parts.proofs.PartsPutLemmas.{put_holds, put_good, put_parts_of}
+use Rattle.encoding_parts.proofs.PartsValueLemmas.{value_encodes}
 
 -- which part is open changes nothing of what has come
 pub stands_which : (shape : Shape) (layers : List Layer) (which : ℕ) (octets : List ℕ) → StandsAt shape layers octets → StandsAt shape (with_which layers which) octets

@@ -15,23 +15,23 @@ use Rattle.types.specs.Leaf.{IsLeaf}
 use Rattle.types.specs.Order.{BeginsWith}
 use Rattle.types.specs.Encoding.{IsEncoding, standing, most_nested}
 use Rattle.types.proofs.BeginningLemmas.{begins_once}
-use Rattle.contents.specs.declared.frame.Frame.{Frame}
-use Rattle.contents.specs.Completing.{IsEndOf, IsOpening}
-use Rattle.contents.specs.Head.{IsReadTag, IsExtentWithin}
-use Rattle.contents.specs.Parts.{Parts, IsPart, IsPartOf, CanFill, IsNodeFor, IsNodeForOneOf, ArePartsOf, AreNone, IsGoodType, IsPartWithin}
+use Rattle.encoding_parts.specs.declared.frame.Frame.{Frame}
+use Rattle.encoding_parts.specs.Completing.{IsEndOf, IsOpening}
+use Rattle.encoding_parts.specs.Head.{IsReadTag, IsExtentWithin}
+use Rattle.encoding_parts.specs.Parts.{Parts, IsPart, IsPartOf, CanFill, IsNodeFor, IsNodeForOneOf, ArePartsOf, AreNone, IsGoodType, IsPartWithin}
 use Rattle.berreader.specs.Stack.{Layer, with_which}
 use Rattle.berreader.specs.Nest.{CanEnd, CanFollow, CanComplete, levels_inside, levels_left, end_inside, EndsInside, IsDueNext, IsNext, AreSound, IsComeInside}
-use Rattle.contents.proofs.ChoiceLemmas.{node_encoding}
-use Rattle.contents.proofs.CompletingLemmas.{framed}
-use Rattle.contents.specs.Segments.{BeginsAboveZero, EndsAt}
-use Rattle.contents.proofs.DepthLemmas.{deeper}
-use Rattle.contents.proofs.EndLemmas.{begins_above}
+use Rattle.encoding_parts.proofs.ChoiceLemmas.{node_encoding}
+use Rattle.encoding_parts.proofs.CompletingLemmas.{framed}
+use Rattle.encoding_parts.specs.Segments.{BeginsAboveZero, EndsAt}
+use Rattle.encoding_parts.proofs.DepthLemmas.{deeper}
+use Rattle.encoding_parts.proofs.EndLemmas.{begins_above}
 use Rattle.berreader.proofs.PartsBeginLemmas.{part_above, part_begins, parts_apart}
 use Rattle.berreader.proofs.PartsDueLemmas.{due_once}
 use Rattle.berreader.proofs.PartsForthLemmas.{fill_step}
-use Rattle.contents.proofs.PartsOpenLemmas.{IsOpened, opens, none_at_zero}
-use Rattle.contents.proofs.PartsPutLemmas.{put_fills}
-use Rattle.contents.proofs.StepLemmas.{end_alone, opening_unique, extent_of_opening}
+use Rattle.encoding_parts.proofs.PartsOpenLemmas.{IsOpened, opens, none_at_zero}
+use Rattle.encoding_parts.proofs.PartsPutLemmas.{put_fills}
+use Rattle.encoding_parts.proofs.StepLemmas.{end_alone, opening_unique, extent_of_opening}
 
 contents_fit : (f : Frame) (place : ℕ) (mark : List ℕ) → IsEndOf f place mark → place ≤ f.end
 contents_fit f place mark (inl e) = omega (arith, e.there)

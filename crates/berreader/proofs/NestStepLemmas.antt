@@ -15,21 +15,21 @@ use Rattle.types.specs.Leaf.{tag_of, IsLeaf}
 use Rattle.types.specs.Order.{BeginsWith}
 use Rattle.types.specs.WellFormed.{nodes_of, IsNodeWithin}
 use Rattle.types.specs.Encoding.{most_nested}
-use Rattle.contents.specs.declared.frame.Frame.{Frame}
+use Rattle.encoding_parts.specs.declared.frame.Frame.{Frame}
 use Rattle.berreader.specs.declared.nest.Nest.{Nest}
 use Rattle.berreader.specs.declared.nest.Next.{Next}
-use Rattle.contents.specs.Completing.{IsEndOf, Opens, IsOpening}
-use Rattle.contents.specs.Head.{IsReadTag, IsTagWithin}
-use Rattle.contents.specs.Holding.{IsNode}
-use Rattle.contents.specs.Parts.{Parts, IsPartOf, IsNodeFor, ArePartsOf, AreNone, IsGoodType, IsValueOf, IsPartWithin, IsWrapped}
+use Rattle.encoding_parts.specs.Completing.{IsEndOf, Opens, IsOpening}
+use Rattle.encoding_parts.specs.Head.{IsReadTag, IsTagWithin}
+use Rattle.encoding_parts.specs.HeldParts.{IsNode}
+use Rattle.encoding_parts.specs.Parts.{Parts, IsPartOf, IsNodeFor, ArePartsOf, AreNone, IsGoodType, IsValueOf, IsPartWithin, IsWrapped}
 use Rattle.berreader.specs.Stack.{Layer, layers_of, with_which, IsCounted, IsPutInside}
 use Rattle.berreader.specs.Nest.{CanFollow, CanComplete, StandsAt, CanFinish, HasTaken, IsTaken, IsWhole, IsStep, IsSoundNest, IsReadNext, IsNext, IsDueInside, IsComeInside, HasCome, IsLast, IsCome, EndsInside, IsEndInside, IsInside, AreInside, AreSound, levels_inside, levels_left, end_inside}
-use Rattle.contents.specs.Segments.{EndsAt}
-use Rattle.contents.proofs.ChoiceLemmas.{begins_node, node_good, node_own}
+use Rattle.encoding_parts.specs.Segments.{EndsAt}
+use Rattle.encoding_parts.proofs.ChoiceLemmas.{begins_node, node_good, node_own}
 use Rattle.berreader.proofs.PartsBeginLemmas.{part_above, part_begins}
 use Rattle.berreader.proofs.PartsForthLemmas.{fill_end}
-use Rattle.contents.proofs.ReadingLemmas.{opening_read}
-use Rattle.contents.proofs.StepLemmas.{identifier_some, opening_fits, opens_below, opens_room}
+use Rattle.encoding_parts.proofs.ReadingLemmas.{opening_read}
+use Rattle.encoding_parts.proofs.StepLemmas.{identifier_some, opening_fits, opens_below, opens_room}
 use Rattle.berreader.proofs.NestLemmas.{IsSomeNext, IsOpenNext, next_part, next_of, next_node, begins_more, front_of_next, open_next, own_tag, HasOwnTag, after_open, after_part, after_come, at_end, length_which}
 use Rattle.berreader.proofs.NestBackLemmas.{stands_which, stands_opened, stands_come, stands_closed, whole_accepted, ends_room, sound_which, inside_which, end_which, due_which, good_next, end_within, sound_opened, sound_come, inside_come, count_come}
 

@@ -7,7 +7,7 @@ use Rattle.types.specs.FirstTags.{first_tags}
 use Rattle.types.specs.Order.{BeginsWithOneOf}
 use Rattle.types.proofs.NestingLemmas.{IsAboveZero, nested_above, nested_unique}
 use Rattle.types.proofs.BeginningLemmas.{encoding_begins}
-use Rattle.contents.specs.Parts.{IsPart, IsPartOf}
+use Rattle.encoding_parts.specs.Parts.{IsPart, IsPartOf}
 
 -- a part is told from end-of-contents octets
 pub part_above : (levels : ℕ) (type : Shape) (octets : List ℕ) → IsPart levels type octets → IsAboveZero octets

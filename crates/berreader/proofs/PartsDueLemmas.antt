@@ -7,7 +7,7 @@ use Rattle.types.specs.View.{ComponentView, components_of}
 use Rattle.types.specs.FirstTags.{first_tags, AreDistinct, RunsAreDistinct, tags_of_components, tags_of_run}
 use Rattle.types.proofs.ListLemmas.{contains_left, contains_right, distinct_apart, distinct_right}
 use Rattle.types.proofs.SlotLemmas.{run_is}
-use Rattle.contents.specs.Parts.{Parts, Seat, IsDue, IsNextOf, IsVacant, once_come, IsGoodType, IsGoodComponent, AreGood}
+use Rattle.encoding_parts.specs.Parts.{Parts, SetComponent, IsDue, IsNextOf, IsVacant, once_come, IsGoodType, IsGoodComponent, AreGood}
 
 -- the same part, as far as more may come, of the same type; the parts of an explicit tag and items are not counted
 pub record IsSameDue (parts : Parts) (i j : ℕ) (T U : Shape) : Type 0 where
@@ -47,25 +47,25 @@ next_once (x ∷ left) zero (suc j) T U tag good h g k m = absurd (not_next x le
 next_once (x ∷ left) (suc i) zero T U tag good h g k m = absurd (not_next x left i U T tag good g h m k)
 next_once (x ∷ left) (suc i) (suc j) T U tag good h g k m = same_later i j T U (next_once left i j T U tag good.1 h.1 g.1 k m)
 
-abbrev tags_of_seats : List Seat → List Tag
-tags_of_seats seats = tags_of_components (components_of (map (λ s. s.component) seats))
+abbrev tags_of_set_components : List SetComponent → List Tag
+tags_of_set_components set_components = tags_of_components (components_of (map (λ s. s.component) set_components))
 
-vacant_in_seats : (seats : List Seat) (which : ℕ) (type : Shape) (tag : Tag) → IsVacant seats which type → Contains (first_tags type) tag → Contains (tags_of_seats seats) tag
-vacant_in_seats [] which type tag h c = elim h [ ]
-vacant_in_seats (s ∷ seats) zero type tag h c = contains_left (first_tags s.component.type) (tags_of_seats seats) tag (subst (λ t. Contains (first_tags t) tag) (sym h.1) c)
-vacant_in_seats (s ∷ seats) (suc which) type tag h c = contains_right (first_tags s.component.type) (tags_of_seats seats) tag (vacant_in_seats seats which type tag h c)
+vacant_in_set_components : (set_components : List SetComponent) (which : ℕ) (type : Shape) (tag : Tag) → IsVacant set_components which type → Contains (first_tags type) tag → Contains (tags_of_set_components set_components) tag
+vacant_in_set_components [] which type tag h c = elim h [ ]
+vacant_in_set_components (s ∷ set_components) zero type tag h c = contains_left (first_tags s.component.type) (tags_of_set_components set_components) tag (subst (λ t. Contains (first_tags t) tag) (sym h.1) c)
+vacant_in_set_components (s ∷ set_components) (suc which) type tag h c = contains_right (first_tags s.component.type) (tags_of_set_components set_components) tag (vacant_in_set_components set_components which type tag h c)
 
-not_seated : (s : Seat) (seats : List Seat) (which : ℕ) (T U : Shape) (tag : Tag) → AreDistinct (tags_of_seats (s ∷ seats)) → s.component.type ≡ T → IsVacant seats which U → Contains (first_tags T) tag → Contains (first_tags U) tag → ⊥
-not_seated s seats which T U tag good h g k m =
-    distinct_apart (first_tags s.component.type) (tags_of_seats seats) good tag (subst (λ t. Contains (first_tags t) tag) (sym h) k) (vacant_in_seats seats which U tag g m)
+not_come_by : (s : SetComponent) (set_components : List SetComponent) (which : ℕ) (T U : Shape) (tag : Tag) → AreDistinct (tags_of_set_components (s ∷ set_components)) → s.component.type ≡ T → IsVacant set_components which U → Contains (first_tags T) tag → Contains (first_tags U) tag → ⊥
+not_come_by s set_components which T U tag good h g k m =
+    distinct_apart (first_tags s.component.type) (tags_of_set_components set_components) good tag (subst (λ t. Contains (first_tags t) tag) (sym h) k) (vacant_in_set_components set_components which U tag g m)
 
-vacant_once : (seats : List Seat) (i j : ℕ) (T U : Shape) (tag : Tag) → AreDistinct (tags_of_seats seats) → IsVacant seats i T → IsVacant seats j U → Contains (first_tags T) tag → Contains (first_tags U) tag → IsSameAt i j T U
+vacant_once : (set_components : List SetComponent) (i j : ℕ) (T U : Shape) (tag : Tag) → AreDistinct (tags_of_set_components set_components) → IsVacant set_components i T → IsVacant set_components j U → Contains (first_tags T) tag → Contains (first_tags U) tag → IsSameAt i j T U
 vacant_once [] i j T U tag good h g k m = elim h [ ]
-vacant_once (s ∷ seats) zero zero T U tag good h g k m = record { which = refl; type = sym h.1 ∙ g.1 }
-vacant_once (s ∷ seats) zero (suc j) T U tag good h g k m = absurd (not_seated s seats j T U tag good h.1 g k m)
-vacant_once (s ∷ seats) (suc i) zero T U tag good h g k m = absurd (not_seated s seats i U T tag good g.1 h m k)
-vacant_once (s ∷ seats) (suc i) (suc j) T U tag good h g k m =
-    same_later i j T U (vacant_once seats i j T U tag (distinct_right (first_tags s.component.type) (tags_of_seats seats) good) h g k m)
+vacant_once (s ∷ set_components) zero zero T U tag good h g k m = record { which = refl; type = sym h.1 ∙ g.1 }
+vacant_once (s ∷ set_components) zero (suc j) T U tag good h g k m = absurd (not_come_by s set_components j T U tag good h.1 g k m)
+vacant_once (s ∷ set_components) (suc i) zero T U tag good h g k m = absurd (not_come_by s set_components i U T tag good g.1 h m k)
+vacant_once (s ∷ set_components) (suc i) (suc j) T U tag good h g k m =
+    same_later i j T U (vacant_once set_components i j T U tag (distinct_right (first_tags s.component.type) (tags_of_set_components set_components) good) h g k m)
 
 -- a tag tells one part that may come next
 pub due_once : (parts : Parts) (i j : ℕ) (T U : Shape) (tag : Tag) → AreGood parts → IsDue parts i T → IsDue parts j U → Contains (first_tags T) tag → Contains (first_tags U) tag → IsSameDue parts i j T U
@@ -75,23 +75,23 @@ due_once (Parts.items inner values) i j T U tag good h g k m = record { which = 
 due_once (Parts.sequence passed slots left) i j T U tag good h g k m =
     let same = next_once left i j T U tag good.1 h g k m in
     record { which = ap (once_come (Parts.sequence passed slots left)) same.which; type = same.type }
-due_once (Parts.set seats) i j T U tag good h g k m =
-    let same = vacant_once seats i j T U tag good.1 h g k m in
-    record { which = ap (once_come (Parts.set seats)) same.which; type = same.type }
+due_once (Parts.set set_components) i j T U tag good h g k m =
+    let same = vacant_once set_components i j T U tag good.1 h g k m in
+    record { which = ap (once_come (Parts.set set_components)) same.which; type = same.type }
 
 next_good : (left : List ComponentView) (which : ℕ) (type : Shape) → AllByRecursion IsGoodComponent left → IsNextOf left which type → IsGoodType type
 next_good [] which type good h = elim h [ ]
 next_good (x ∷ left) zero type good h = subst IsGoodType h good.0.type
 next_good (x ∷ left) (suc which) type good h = next_good left which type good.1 h.1
 
-vacant_good : (seats : List Seat) (which : ℕ) (type : Shape) → AllByRecursion (λ s. IsGoodComponent s.component) seats → IsVacant seats which type → IsGoodType type
+vacant_good : (set_components : List SetComponent) (which : ℕ) (type : Shape) → AllByRecursion (λ s. IsGoodComponent s.component) set_components → IsVacant set_components which type → IsGoodType type
 vacant_good [] which type good h = elim h [ ]
-vacant_good (s ∷ seats) zero type good h = subst IsGoodType h.1 good.0.type
-vacant_good (s ∷ seats) (suc which) type good h = vacant_good seats which type good.1 h
+vacant_good (s ∷ set_components) zero type good h = subst IsGoodType h.1 good.0.type
+vacant_good (s ∷ set_components) (suc which) type good h = vacant_good set_components which type good.1 h
 
 pub due_good : (parts : Parts) (which : ℕ) (type : Shape) → AreGood parts → IsDue parts which type → IsGoodType type
 due_good (Parts.explicit inner None) which type good h = subst IsGoodType h good
 due_good (Parts.explicit inner (Some value)) which type good h = elim h [ ]
 due_good (Parts.items inner values) which type good h = subst IsGoodType h good
 due_good (Parts.sequence passed slots left) which type good h = next_good left which type good.0 h
-due_good (Parts.set seats) which type good h = vacant_good seats which type good.0 h
+due_good (Parts.set set_components) which type good h = vacant_good set_components which type good.0 h

@@ -9,8 +9,8 @@ use Rattle.types.specs.Encoding.{standing}
 use Rattle.types.proofs.ListLemmas.{not_in_nil, contains_first, contains_cases}
 use Rattle.types.proofs.NestingLemmas.{nested_above}
 use Rattle.types.proofs.BeginningLemmas.{all_permutation}
-use Rattle.contents.specs.Parts.{Parts, Seat, IsPart, IsNextOf, IsVacant, IsDue, IsLeft, IsLeftOfSeat, IsRunLeft, CanFill, taken_seat, once_come, IsValueOf}
-use Rattle.contents.proofs.OthersLemmas.{permutation_others}
+use Rattle.encoding_parts.specs.Parts.{Parts, SetComponent, IsPart, IsNextOf, IsVacant, IsDue, IsLeft, IsLeftOfSetComponent, IsRunLeft, CanFill, taken_set_component, once_come, IsValueOf}
+use Rattle.encoding_parts.proofs.OthersLemmas.{permutation_others}
 
 -- the contents octets begin with a part that is due, and what follows it completes the rest
 pub record IsStep (levels : ℕ) (parts : Parts) (octets : List ℕ) : Type 0 where
@@ -46,31 +46,31 @@ run_step levels (c ∷ left) (None ∷ encodings) h = passed (run_step levels le
 run_step levels (c ∷ left) (Some octets ∷ encodings) h =
     inr record { which = 0; type = c.type; part = octets; others = concat (standing encodings); due = refl; first = h.0; rest = record { encodings = encodings; each = h.1; joined = refl }; joined = refl }
 
--- the seat whose encoding stands among the others, taken
-record IsSeatStep (levels : ℕ) (seats : List Seat) (encodings : List (Option (List ℕ))) (octets : List ℕ) : Type 0 where
+-- the component of a SET whose encoding stands among the others, taken
+record IsSetComponentStep (levels : ℕ) (set_components : List SetComponent) (encodings : List (Option (List ℕ))) (octets : List ℕ) : Type 0 where
   which : ℕ
   type : Shape
-  due : IsVacant seats which type
+  due : IsVacant set_components which type
   first : IsPart levels type octets
   others : List (Option (List ℕ))
-  each : AllZip (IsLeftOfSeat levels) (taken_seat seats which) others
+  each : AllZip (IsLeftOfSetComponent levels) (taken_set_component set_components which) others
   order : IsPermutation (standing encodings) (octets ∷ standing others)
 
--- an encoding stands for a vacant seat alone
-record IsVacantSeat (levels : ℕ) (s : Seat) (octets : List ℕ) : Type 0 where
+-- an encoding stands for a component that has not come alone
+record IsVacantSetComponent (levels : ℕ) (s : SetComponent) (octets : List ℕ) : Type 0 where
   vacant : s.came ≡ false
   part : IsPart levels s.component.type octets
 
-vacant_seat : (levels : ℕ) (component : ComponentView) (slot : Option Val) (came : Bool) (octets : List ℕ) → IsLeftOfSeat levels record { component = component; slot = slot; came = came } (Some octets) → IsVacantSeat levels record { component = component; slot = slot; came = came } octets
-vacant_seat levels component slot true octets h = cc
-vacant_seat levels component slot false octets h = record { vacant = refl; part = h }
+vacant_set_component : (levels : ℕ) (component : ComponentView) (slot : Option Val) (came : Bool) (octets : List ℕ) → IsLeftOfSetComponent levels record { component = component; slot = slot; came = came } (Some octets) → IsVacantSetComponent levels record { component = component; slot = slot; came = came } octets
+vacant_set_component levels component slot true octets h = cc
+vacant_set_component levels component slot false octets h = record { vacant = refl; part = h }
 
-seat_passed : (levels : ℕ) (s : Seat) (seats : List Seat) (encodings : List (Option (List ℕ))) (octets : List ℕ) → IsLeftOfSeat levels s None → IsSeatStep levels seats encodings octets → IsSeatStep levels (s ∷ seats) (None ∷ encodings) octets
-seat_passed levels s seats encodings octets h step =
+set_component_passed : (levels : ℕ) (s : SetComponent) (set_components : List SetComponent) (encodings : List (Option (List ℕ))) (octets : List ℕ) → IsLeftOfSetComponent levels s None → IsSetComponentStep levels set_components encodings octets → IsSetComponentStep levels (s ∷ set_components) (None ∷ encodings) octets
+set_component_passed levels s set_components encodings octets h step =
     record { which = suc step.which; type = step.type; due = step.due; first = step.first; others = None ∷ step.others; each = (h, step.each); order = step.order }
 
-seat_before : (levels : ℕ) (s : Seat) (seats : List Seat) (before : List ℕ) (encodings : List (Option (List ℕ))) (octets : List ℕ) → IsLeftOfSeat levels s (Some before) → IsSeatStep levels seats encodings octets → IsSeatStep levels (s ∷ seats) (Some before ∷ encodings) octets
-seat_before levels s seats before encodings octets h step = record {
+set_component_before : (levels : ℕ) (s : SetComponent) (set_components : List SetComponent) (before : List ℕ) (encodings : List (Option (List ℕ))) (octets : List ℕ) → IsLeftOfSetComponent levels s (Some before) → IsSetComponentStep levels set_components encodings octets → IsSetComponentStep levels (s ∷ set_components) (Some before ∷ encodings) octets
+set_component_before levels s set_components before encodings octets h step = record {
   which = suc step.which;
   type = step.type;
   due = step.due;
@@ -81,16 +81,16 @@ seat_before levels s seats before encodings octets h step = record {
       (IsPermutation-swap (before ∷ (octets ∷ standing step.others)) (octets ∷ (before ∷ standing step.others)) 0 1 (omega arith) (omega arith) refl);
 }
 
-seat_step : (levels : ℕ) (seats : List Seat) (encodings : List (Option (List ℕ))) (octets : List ℕ) → AllZip (IsLeftOfSeat levels) seats encodings → Contains (standing encodings) octets → IsSeatStep levels seats encodings octets
-seat_step levels [] [] octets h c = absurd (not_in_nil octets c)
-seat_step levels [] (encoding ∷ encodings) octets h c = elim h [ ]
-seat_step levels (s ∷ seats) [] octets h c = elim h [ ]
-seat_step levels (s ∷ seats) (None ∷ encodings) octets h c = seat_passed levels s seats encodings octets h.0 (seat_step levels seats encodings octets h.1 c)
-seat_step levels (s ∷ seats) (Some here ∷ encodings) octets h c = seat_of (contains_cases here octets (standing encodings) c) (λ later. seat_step levels seats encodings octets h.1 later)
+set_component_step : (levels : ℕ) (set_components : List SetComponent) (encodings : List (Option (List ℕ))) (octets : List ℕ) → AllZip (IsLeftOfSetComponent levels) set_components encodings → Contains (standing encodings) octets → IsSetComponentStep levels set_components encodings octets
+set_component_step levels [] [] octets h c = absurd (not_in_nil octets c)
+set_component_step levels [] (encoding ∷ encodings) octets h c = elim h [ ]
+set_component_step levels (s ∷ set_components) [] octets h c = elim h [ ]
+set_component_step levels (s ∷ set_components) (None ∷ encodings) octets h c = set_component_passed levels s set_components encodings octets h.0 (set_component_step levels set_components encodings octets h.1 c)
+set_component_step levels (s ∷ set_components) (Some here ∷ encodings) octets h c = set_component_of (contains_cases here octets (standing encodings) c) (λ later. set_component_step levels set_components encodings octets h.1 later)
   where
-    seat_of : (here ≡ octets) ⊎ Contains (standing encodings) octets → (Contains (standing encodings) octets → IsSeatStep levels seats encodings octets) → IsSeatStep levels (s ∷ seats) (Some here ∷ encodings) octets
-    seat_of (inl same) more =
-        let vacant = vacant_seat levels s.component s.slot s.came here h.0 in
+    set_component_of : (here ≡ octets) ⊎ Contains (standing encodings) octets → (Contains (standing encodings) octets → IsSetComponentStep levels set_components encodings octets) → IsSetComponentStep levels (s ∷ set_components) (Some here ∷ encodings) octets
+    set_component_of (inl same) more =
+        let vacant = vacant_set_component levels s.component s.slot s.came here h.0 in
         record {
           which = 0;
           type = s.component.type;
@@ -100,17 +100,17 @@ seat_step levels (s ∷ seats) (Some here ∷ encodings) octets h c = seat_of (c
           each = (refl, h.1);
           order = subst (λ x. IsPermutation (here ∷ standing encodings) (x ∷ standing encodings)) same (IsPermutation-refl (here ∷ standing encodings));
         }
-    seat_of (inr later) more = seat_before levels s seats here encodings octets h.0 (more later)
+    set_component_of (inr later) more = set_component_before levels s set_components here encodings octets h.0 (more later)
 
 items_step : (levels : ℕ) (type : Shape) (values : List Val) (octets : List ℕ) (encodings : List (List ℕ)) → AllByRecursion (IsPart levels type) encodings → octets ≡ concat encodings → (octets ≡ []) ⊎ IsStep levels (Parts.items type values) octets
 items_step levels type values octets [] h e = inl e
 items_step levels type values octets (part ∷ encodings) h e =
     inr record { which = 0; type = type; part = part; others = concat encodings; due = refl; first = h.0; rest = record { encodings = encodings; each = h.1; joined = refl }; joined = e }
 
-set_step : (levels : ℕ) (seats : List Seat) (octets : List ℕ) (encodings : List (Option (List ℕ))) (order : List (List ℕ)) → AllZip (IsLeftOfSeat levels) seats encodings → IsPermutation (standing encodings) order → octets ≡ concat order → (octets ≡ []) ⊎ IsStep levels (Parts.set seats) octets
-set_step levels seats octets encodings [] h p e = inl e
-set_step levels seats octets encodings (part ∷ order) h p e =
-    let step = seat_step levels seats encodings part h (Contains-permutation (part ∷ order) (standing encodings) part (IsPermutation-sym (standing encodings) (part ∷ order) p) (contains_first part part order refl)) in
+set_step : (levels : ℕ) (set_components : List SetComponent) (octets : List ℕ) (encodings : List (Option (List ℕ))) (order : List (List ℕ)) → AllZip (IsLeftOfSetComponent levels) set_components encodings → IsPermutation (standing encodings) order → octets ≡ concat order → (octets ≡ []) ⊎ IsStep levels (Parts.set set_components) octets
+set_step levels set_components octets encodings [] h p e = inl e
+set_step levels set_components octets encodings (part ∷ order) h p e =
+    let step = set_component_step levels set_components encodings part h (Contains-permutation (part ∷ order) (standing encodings) part (IsPermutation-sym (standing encodings) (part ∷ order) p) (contains_first part part order refl)) in
     let both = IsPermutation-trans (part ∷ standing step.others) (standing encodings) (part ∷ order) (IsPermutation-sym (standing encodings) (part ∷ standing step.others) step.order) p in
     inr record {
       which = step.which;
@@ -133,7 +133,7 @@ fill_step levels (Parts.sequence passed slots left) octets h = step_of (run_step
     step_of : (concat (standing h.encodings) ≡ []) ⊎ IsRunStep levels left (concat (standing h.encodings)) → (octets ≡ []) ⊎ IsStep levels (Parts.sequence passed slots left) octets
     step_of (inl e) = inl (h.joined ∙ e)
     step_of (inr s) = inr record { which = s.which; type = s.type; part = s.part; others = s.others; due = s.due; first = s.first; rest = s.rest; joined = h.joined ∙ s.joined }
-fill_step levels (Parts.set seats) octets h = set_step levels seats octets h.encodings h.order h.each h.permutes h.joined
+fill_step levels (Parts.set set_components) octets h = set_step levels set_components octets h.encodings h.order h.each h.permutes h.joined
 
 -- no encoding is empty
 part_not_empty : (levels : ℕ) (type : Shape) → IsPart levels type [] → ⊥
@@ -149,29 +149,29 @@ run_end levels (c ∷ left) (Some [] ∷ encodings) h e = absurd (part_not_empty
 run_end levels (c ∷ left) (Some (octet ∷ octets) ∷ encodings) h e = cc
 
 -- encodings that stand are not empty
-seats_not_empty : (levels : ℕ) (seats : List Seat) (encodings : List (Option (List ℕ))) → AllZip (IsLeftOfSeat levels) seats encodings → AllByRecursion (λ x. x ≢ []) (standing encodings)
-seats_not_empty levels [] [] h = tt
-seats_not_empty levels [] (encoding ∷ encodings) h = elim h [ ]
-seats_not_empty levels (s ∷ seats) [] h = elim h [ ]
-seats_not_empty levels (s ∷ seats) (None ∷ encodings) h = seats_not_empty levels seats encodings h.1
-seats_not_empty levels (s ∷ seats) (Some octets ∷ encodings) h =
-    let vacant = vacant_seat levels s.component s.slot s.came octets h.0 in
-    (λ e. part_not_empty levels s.component.type (subst (IsPart levels s.component.type) e vacant.part), seats_not_empty levels seats encodings h.1)
+set_components_not_empty : (levels : ℕ) (set_components : List SetComponent) (encodings : List (Option (List ℕ))) → AllZip (IsLeftOfSetComponent levels) set_components encodings → AllByRecursion (λ x. x ≢ []) (standing encodings)
+set_components_not_empty levels [] [] h = tt
+set_components_not_empty levels [] (encoding ∷ encodings) h = elim h [ ]
+set_components_not_empty levels (s ∷ set_components) [] h = elim h [ ]
+set_components_not_empty levels (s ∷ set_components) (None ∷ encodings) h = set_components_not_empty levels set_components encodings h.1
+set_components_not_empty levels (s ∷ set_components) (Some octets ∷ encodings) h =
+    let vacant = vacant_set_component levels s.component s.slot s.came octets h.0 in
+    (λ e. part_not_empty levels s.component.type (subst (IsPart levels s.component.type) e vacant.part), set_components_not_empty levels set_components encodings h.1)
 
 none_joined : (order : List (List ℕ)) → AllByRecursion (λ x. x ≢ []) order → [] ≡ concat order → length order ≡ 0
 none_joined [] h e = refl
 none_joined ([] ∷ order) h e = absurd (h.0 refl)
 none_joined ((octet ∷ octets) ∷ order) h e = cc
 
-absent_seat : (levels : ℕ) (component : ComponentView) (slot : Option Val) (came : Bool) → IsLeftOfSeat levels record { component = component; slot = slot; came = came } None → came ≡ false → MayBeAbsent component.requirement
-absent_seat levels component slot true h e = cc
-absent_seat levels component slot false h e = h
+absent_set_component : (levels : ℕ) (component : ComponentView) (slot : Option Val) (came : Bool) → IsLeftOfSetComponent levels record { component = component; slot = slot; came = came } None → came ≡ false → MayBeAbsent component.requirement
+absent_set_component levels component slot true h e = cc
+absent_set_component levels component slot false h e = h
 
-set_end : (levels : ℕ) (seats : List Seat) (encodings : List (Option (List ℕ))) → AllZip (IsLeftOfSeat levels) seats encodings → length (standing encodings) ≡ 0 → AllByRecursion (λ s. s.came ≡ false → MayBeAbsent s.component.requirement) seats
+set_end : (levels : ℕ) (set_components : List SetComponent) (encodings : List (Option (List ℕ))) → AllZip (IsLeftOfSetComponent levels) set_components encodings → length (standing encodings) ≡ 0 → AllByRecursion (λ s. s.came ≡ false → MayBeAbsent s.component.requirement) set_components
 set_end levels [] encodings h e = tt
-set_end levels (s ∷ seats) [] h e = elim h [ ]
-set_end levels (s ∷ seats) (None ∷ encodings) h e = (absent_seat levels s.component s.slot s.came h.0, set_end levels seats encodings h.1 e)
-set_end levels (s ∷ seats) (Some octets ∷ encodings) h e = absurd (omega (arith, e))
+set_end levels (s ∷ set_components) [] h e = elim h [ ]
+set_end levels (s ∷ set_components) (None ∷ encodings) h e = (absent_set_component levels s.component s.slot s.came h.0, set_end levels set_components encodings h.1 e)
+set_end levels (s ∷ set_components) (Some octets ∷ encodings) h e = absurd (omega (arith, e))
 
 -- once nothing follows, the parts are those of a value
 pub fill_end : (levels : ℕ) (parts : Parts) → CanFill levels parts [] → (v : Val) × IsValueOf parts v
@@ -179,8 +179,8 @@ fill_end levels (Parts.explicit inner None) h = absurd (part_not_empty levels in
 fill_end levels (Parts.explicit inner (Some value)) h = (value, refl)
 fill_end levels (Parts.items inner values) h = (Val.items (items_of values), refl)
 fill_end levels (Parts.sequence passed slots left) h = (Val.fields (slots_of (slots ++ map (λ c. None) left)), (run_end levels left h.encodings h.each h.joined, refl))
-fill_end levels (Parts.set seats) h =
-    let some = all_permutation (λ x. x ≢ []) (standing h.encodings) h.order h.permutes (seats_not_empty levels seats h.encodings h.each) in
+fill_end levels (Parts.set set_components) h =
+    let some = all_permutation (λ x. x ≢ []) (standing h.encodings) h.order h.permutes (set_components_not_empty levels set_components h.encodings h.each) in
     let none = none_joined h.order some h.joined in
     let same = length_permutation (standing h.encodings) h.order h.permutes in
-    (Val.fields (slots_of (map (λ s. s.slot) seats)), (set_end levels seats h.encodings h.each (omega (arith, none, same)), refl))
+    (Val.fields (slots_of (map (λ s. s.slot) set_components)), (set_end levels set_components h.encodings h.each (omega (arith, none, same)), refl))

@@ -8,7 +8,7 @@ use Rattle.types.specs.View.{ComponentView, components_of, items_of, slots_of}
 use Rattle.types.specs.Weight.{weight_of_items, weight_of_slots}
 use Rattle.types.specs.WellFormed.{nodes_of, nodes_of_alternatives, nodes_of_components}
 use Rattle.types.specs.Encoding.{standing}
-use Rattle.contents.specs.Parts.{Parts, Seat, IsPartOf, IsNextOf, IsVacant, IsDue, IsCome, AreCome, IsSeated, Holds, ArePartsOf, IsNodeFor, IsNodeForOneOf}
+use Rattle.encoding_parts.specs.Parts.{Parts, SetComponent, IsPartOf, IsNextOf, IsVacant, IsDue, IsCome, AreCome, HasComeBy, Holds, ArePartsOf, IsNodeFor, IsNodeForOneOf}
 use Rattle.berreader.specs.Weight.{weight_of_parts}
 use Rattle.berreader.proofs.WeightLemmas.{light, items_light, more_of, size_of_order, some_nodes, some_part}
 
@@ -32,7 +32,7 @@ next_nodes [] which type h = absurd h
 next_nodes (c ∷ others) zero type h = omega (arith, nodes_first c others, ap (λ s. length (nodes_of s)) h)
 next_nodes (c ∷ others) (suc which) type h = omega (arith, nodes_first c others, next_nodes others which type h.1)
 
-vacant_nodes : (seats : List Seat) (which : ℕ) (type : Shape) → IsVacant seats which type → length (nodes_of type) ≤ nodes_in (map (λ s. s.component) seats)
+vacant_nodes : (set_components : List SetComponent) (which : ℕ) (type : Shape) → IsVacant set_components which type → length (nodes_of type) ≤ nodes_in (map (λ s. s.component) set_components)
 vacant_nodes [] which type h = absurd h
 vacant_nodes (s ∷ others) zero type h = omega (arith, nodes_first s.component (map (λ s. s.component) others), ap (λ s. length (nodes_of s)) h.1)
 vacant_nodes (s ∷ others) (suc which) type h = omega (arith, nodes_first s.component (map (λ s. s.component) others), vacant_nodes others which type h)
@@ -54,9 +54,9 @@ run_nodes : (node : Shape) (passed : List ComponentView) (slots : List (Option V
 run_nodes (Shape.sequence tag components) passed slots left h = omega (arith, ap (λ c. length (nodes_of_components c)) h, nodes_joined passed left)
 run_nodes node passed slots left h = elim h [ ]
 
-seat_nodes : (node : Shape) (seats : List Seat) → ArePartsOf node (Parts.set seats) → 1 + nodes_in (map (λ s. s.component) seats) ≤ length (nodes_of node)
-seat_nodes (Shape.set tag components) seats h = omega (arith, ap (λ c. length (nodes_of_components c)) h)
-seat_nodes node seats h = elim h [ ]
+set_component_nodes : (node : Shape) (set_components : List SetComponent) → ArePartsOf node (Parts.set set_components) → 1 + nodes_in (map (λ s. s.component) set_components) ≤ length (nodes_of node)
+set_component_nodes (Shape.set tag components) set_components h = omega (arith, ap (λ c. length (nodes_of_components c)) h)
+set_component_nodes node set_components h = elim h [ ]
 
 -- a part has no more nodes than what it is a part of
 pub due_nodes : (node : Shape) (parts : Parts) (which : ℕ) (type : Shape) → ArePartsOf node parts → IsDue parts which type → length (nodes_of type) ≤ length (nodes_of node)
@@ -64,7 +64,7 @@ due_nodes node (Parts.explicit own None) which type h due = omega (arith, explic
 due_nodes node (Parts.explicit own (Some value)) which type h due = elim due [ ]
 due_nodes node (Parts.items own values) which type h due = omega (arith, item_nodes node own values h, same_nodes own type due)
 due_nodes node (Parts.sequence passed slots left) which type h due = omega (arith, run_nodes node passed slots left h, next_nodes left which type due)
-due_nodes node (Parts.set seats) which type h due = omega (arith, seat_nodes node seats h, vacant_nodes seats which type due)
+due_nodes node (Parts.set set_components) which type h due = omega (arith, set_component_nodes node set_components h, vacant_nodes set_components which type due)
 
 mutual
   -- nor has the alternative of a CHOICE
@@ -109,24 +109,24 @@ run_light levels [] (slot ∷ slots) encodings n many h = elim h [ ]
 run_light levels (c ∷ passed) [] encodings n many h = elim h [ ]
 run_light levels (c ∷ passed) (slot ∷ slots) [] n many h = elim h [ ]
 
-seat_come : (levels : ℕ) (c : ComponentView) (slot : Option Val) (came : Bool) (encoding : Option (List ℕ)) (others : List (Option Val)) (rest : List (Option (List ℕ))) (n k : ℕ) → length (nodes_of c.type) ≤ n → IsSeated levels record { component = c; slot = slot; came = came } encoding
+set_component_come : (levels : ℕ) (c : ComponentView) (slot : Option Val) (came : Bool) (encoding : Option (List ℕ)) (others : List (Option Val)) (rest : List (Option (List ℕ))) (n k : ℕ) → length (nodes_of c.type) ≤ n → HasComeBy levels record { component = c; slot = slot; came = came } encoding
     → weight_of_slots (slots_of others) ≤ k + n * length (concat (standing rest)) → weight_of_slots (slots_of (slot ∷ others)) ≤ length (nodes_of c.type) + k + n * length (concat (standing (encoding ∷ rest)))
-seat_come levels c slot false encoding others rest n k many h light_rest =
+set_component_come levels c slot false encoding others rest n k many h light_rest =
     subst (λ s. weight_of_slots (slots_of (s ∷ others)) ≤ length (nodes_of c.type) + k + n * length (concat (standing (encoding ∷ rest)))) (sym h.0)
     (subst (λ e. weight_of_slots (slots_of (None ∷ others)) ≤ length (nodes_of c.type) + k + n * length (concat (standing (e ∷ rest)))) (sym h.1) (omega (arith, some_nodes c.type, light_rest)))
-seat_come levels c slot true None others rest n k many h light_rest = absurd h
-seat_come levels c slot true (Some e) others rest n k many h light_rest = come_light levels c slot (Some e) others rest n k many h light_rest
+set_component_come levels c slot true None others rest n k many h light_rest = absurd h
+set_component_come levels c slot true (Some e) others rest n k many h light_rest = come_light levels c slot (Some e) others rest n k many h light_rest
 
-seats_light : (levels : ℕ) (seats : List Seat) (encodings : List (Option (List ℕ))) (n : ℕ) → nodes_in (map (λ s. s.component) seats) ≤ n → AllZip (IsSeated levels) seats encodings
-    → weight_of_slots (slots_of (map (λ s. s.slot) seats)) ≤ nodes_in (map (λ s. s.component) seats) + n * length (concat (standing encodings))
-seats_light levels [] [] n many h = omega arith
-seats_light levels (s ∷ seats) (encoding ∷ encodings) n many h =
-    let own = map (λ s. s.component) seats in
+set_components_light : (levels : ℕ) (set_components : List SetComponent) (encodings : List (Option (List ℕ))) (n : ℕ) → nodes_in (map (λ s. s.component) set_components) ≤ n → AllZip (HasComeBy levels) set_components encodings
+    → weight_of_slots (slots_of (map (λ s. s.slot) set_components)) ≤ nodes_in (map (λ s. s.component) set_components) + n * length (concat (standing encodings))
+set_components_light levels [] [] n many h = omega arith
+set_components_light levels (s ∷ set_components) (encoding ∷ encodings) n many h =
+    let own = map (λ s. s.component) set_components in
     let nodes = nodes_first s.component own in
-    let rest = seats_light levels seats encodings n (omega (arith, many, nodes)) h.1 in
-    omega (arith, nodes, seat_come levels s.component s.slot s.came encoding (map (λ s. s.slot) seats) encodings n (nodes_in own) (omega (arith, many, nodes)) h.0 rest)
-seats_light levels [] (encoding ∷ encodings) n many h = absurd h
-seats_light levels (s ∷ seats) [] n many h = absurd h
+    let rest = set_components_light levels set_components encodings n (omega (arith, many, nodes)) h.1 in
+    omega (arith, nodes, set_component_come levels s.component s.slot s.came encoding (map (λ s. s.slot) set_components) encodings n (nodes_in own) (omega (arith, many, nodes)) h.0 rest)
+set_components_light levels [] (encoding ∷ encodings) n many h = absurd h
+set_components_light levels (s ∷ set_components) [] n many h = absurd h
 
 listed_of : (values : List Val) → listed (items_of values) ≡ values
 listed_of [] = refl
@@ -148,7 +148,7 @@ parts_light node (Parts.items type values) levels contents n many h holds =
 parts_light node (Parts.sequence passed slots left) levels contents n many h holds =
     let nodes = run_nodes node passed slots left h in
     omega (arith, many, nodes, few_components left, run_light levels passed slots holds.encodings n (omega (arith, many, nodes)) holds.each, ap (λ o. n * length o) holds.joined)
-parts_light node (Parts.set seats) levels contents n many h holds =
-    let nodes = seat_nodes node seats h in
+parts_light node (Parts.set set_components) levels contents n many h holds =
+    let nodes = set_component_nodes node set_components h in
     let size : length contents ≡ length (concat (standing holds.encodings)) = ap length holds.joined ∙ size_of_order (standing holds.encodings) holds.order holds.permutes in
-    omega (arith, many, nodes, seats_light levels seats holds.encodings n (omega (arith, many, nodes)) holds.each, ap (λ k. n * k) size)
+    omega (arith, many, nodes, set_components_light levels set_components holds.encodings n (omega (arith, many, nodes)) holds.each, ap (λ k. n * k) size)

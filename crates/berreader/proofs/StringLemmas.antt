@@ -12,27 +12,27 @@ use Rattle.types.specs.declared.value.Value.{Value}
 use Rattle.types.specs.Shape.{Shape, Val}
 use Rattle.types.specs.View.{ty_view}
 use Rattle.types.proofs.NestingLemmas.{identifier_above}
-use Rattle.contents.specs.declared.joined.Kind.{Kind}
+use Rattle.encoding_parts.specs.declared.joined.Kind.{Kind}
 use Rattle.berreader.specs.declared.nest.Nest.{Nest}
 use Rattle.berreader.specs.declared.nest.Next.{Next}
 use Rattle.berreader.specs.declared.nest.OpenString.{OpenString}
-use Rattle.contents.specs.declared.segments.Segments.{Segments}
-use Rattle.contents.specs.Head.{IsReadTag}
-use Rattle.contents.specs.Joined.{string_of, string_shape, string_value, value_of}
+use Rattle.encoding_parts.specs.declared.segments.Segments.{Segments}
+use Rattle.encoding_parts.specs.Head.{IsReadTag}
+use Rattle.encoding_parts.specs.Joined.{string_of, string_shape, string_value, value_of}
 use Rattle.berreader.specs.Nest.{CanFinish, EndsInside, IsCome, IsReadNext, IsSoundNest, IsStep, end_inside, levels_left}
-use Rattle.contents.specs.Parts.{IsGoodType, IsPartOf}
-use Rattle.contents.specs.Segments.{stack, CanComplete, IsSound, IsTaken, IsPassed, IsBegun}
+use Rattle.encoding_parts.specs.Parts.{IsGoodType, IsPartOf}
+use Rattle.encoding_parts.specs.Segments.{stack, CanComplete, IsSound, IsTaken, IsPassed, IsBegun}
 use Rattle.berreader.specs.Stack.{Layer, layers_of}
 use Rattle.berreader.specs.Strings.{IsClosed, IsOpenedString, IsSoundString, IsString}
-use Rattle.contents.proofs.ChoiceLemmas.{node_good}
-use Rattle.contents.proofs.LeafLemmas.{conforms_of_encoding}
+use Rattle.encoding_parts.proofs.ChoiceLemmas.{node_good}
+use Rattle.encoding_parts.proofs.LeafLemmas.{conforms_of_encoding}
 use Rattle.berreader.proofs.NestBackLemmas.{good_next}
 use Rattle.berreader.proofs.NestLemmas.{own_tag}
 use Rattle.berreader.proofs.NestStepLemmas.{IsNoted, IsReady, leaf_own, part_next, ready_noted}
-use Rattle.contents.proofs.ReadingLemmas.{IsReadPart, passed_completes, passed_more, passed_read}
-use Rattle.contents.proofs.StepLemmas.{end_alone}
-use Rattle.contents.proofs.TypedLemmas.{part_of_joined, same_string, string_front}
-use Rattle.contents.proofs.WithinLemmas.{usable_tag}
+use Rattle.encoding_parts.proofs.ReadingLemmas.{IsReadPart, passed_completes, passed_more, passed_read}
+use Rattle.encoding_parts.proofs.StepLemmas.{end_alone}
+use Rattle.encoding_parts.proofs.TypedLemmas.{part_of_joined, same_string, string_front}
+use Rattle.encoding_parts.proofs.WithinLemmas.{usable_tag}
 
 -- the identifier octets stay at the front
 pub read_more : (nest : Nest) (passed more : List ℕ) (next : Next) → IsReadNext nest passed next → IsReadNext nest (passed ++ more) next

@@ -3,8 +3,8 @@ use Rattle.std.specs.Prelude.{◌⊎◌, ℕ, List, [], ◌∷◌, Option, None,
 use Rattle.octets.specs.declared.tag.Tag.{Tag}
 use Rattle.types.specs.Shape.{Shape}
 use Rattle.types.specs.View.{ty_view}
-use Rattle.contents.specs.Cut.{IsEndCut, IsIdentifierCut, IsPartCut, IsStringCut}
-use Rattle.contents.specs.Parts.{IsNodeFor}
+use Rattle.encoding_parts.specs.Cut.{IsEndCut, IsIdentifierCut, IsPartCut, IsStringCut}
+use Rattle.encoding_parts.specs.Parts.{IsNodeFor}
 use Rattle.berreader.specs.declared.cursor.Cursor.{Cursor}
 use Rattle.berreader.specs.declared.nest.Nest.{Nest}
 use Rattle.berreader.specs.declared.nest.OpenString.{OpenString}

@@ -2,7 +2,7 @@
 use Rattle.std.specs.Prelude.{◌≡◌, ◌⊎◌, ◌+◌, ◌≤◌, ℕ, List, ◌∷◌, ◌++◌, length, take, drop}
 use Rattle.types.specs.Shape.{Val, Shape}
 use Rattle.types.specs.View.{ty_view}
-use Rattle.contents.specs.Parts.{Parts, Holds}
+use Rattle.encoding_parts.specs.Parts.{Parts, Holds}
 use Rattle.berreader.specs.declared.nest.Nest.{Nest}
 use Rattle.berreader.specs.Nest.{CanFinish, HasTaken}
 use Rattle.berreader.specs.Stack.{Layer, layers_of, with_parts}

@@ -10,13 +10,13 @@ use Rattle.types.specs.Shape.{Shape, Val}
 use Rattle.types.specs.View.{ty_view, value_view}
 use Rattle.types.specs.FirstTags.{first_tags}
 use Rattle.types.specs.Encoding.{IsAccepted, most_nested}
-use Rattle.contents.specs.declared.frame.Frame.{Frame}
+use Rattle.encoding_parts.specs.declared.frame.Frame.{Frame}
 use Rattle.berreader.specs.declared.nest.Nest.{Nest}
 use Rattle.berreader.specs.declared.nest.Next.{Next}
-use Rattle.contents.specs.Completing.{IsEndOf, IsOpening}
-use Rattle.contents.specs.Head.{IsReadTag}
-use Rattle.contents.specs.Parts.{Parts, IsPart, CanFill, once_come, IsDue, IsPut, IsNodeFor, ArePartsOf, Holds, AreGood, IsGoodType, IsPartWithin, IsWrapped}
-use Rattle.contents.specs.Segments.{EndsAt}
+use Rattle.encoding_parts.specs.Completing.{IsEndOf, IsOpening}
+use Rattle.encoding_parts.specs.Head.{IsReadTag}
+use Rattle.encoding_parts.specs.Parts.{Parts, IsPart, CanFill, once_come, IsDue, IsPut, IsNodeFor, ArePartsOf, Holds, AreGood, IsGoodType, IsPartWithin, IsWrapped}
+use Rattle.encoding_parts.specs.Segments.{EndsAt}
 use Rattle.berreader.specs.Stack.{Layer, layers_of, with_which, with_parts, IsCounted}
 
 -- how many constructed encodings may nest inside this one, by how many it is inside of

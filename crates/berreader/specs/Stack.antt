@@ -3,11 +3,11 @@ use Rattle.std.specs.Prelude.{◌≡◌, ⊤, ℕ, List, [], ◌∷◌, length, 
 use Rattle.octets.specs.declared.tag.Tag.{Tag}
 use Rattle.types.specs.Shape.{Shape, Val}
 use Rattle.types.specs.View.{ty_view}
-use Rattle.contents.specs.declared.frame.Frame.{Frame}
+use Rattle.encoding_parts.specs.declared.frame.Frame.{Frame}
 use Rattle.berreader.specs.declared.stack.Open.{Open}
 use Rattle.berreader.specs.declared.stack.Stack.{Stack}
-use Rattle.contents.specs.Holding.{parts_view}
-use Rattle.contents.specs.Parts.{Parts, IsDue, IsPut}
+use Rattle.encoding_parts.specs.HeldParts.{parts_view}
+use Rattle.encoding_parts.specs.Parts.{Parts, IsDue, IsPut}
 
 -- an open encoding: where it ends, its tag, the type that it is of, its parts, and which of them is the open encoding
 -- inside it, if one is
@@ -28,7 +28,7 @@ with_parts layer parts = record { frame = layer.frame; tag = layer.tag; type = l
 
 -- the open encodings of the code, the innermost first
 abbrev pub layer_view : Open → Layer
-layer_view o = record { frame = o.frame; tag = o.tag; type = ty_view o.ty.now; parts = parts_view o.holding; which = o.which }
+layer_view o = record { frame = o.frame; tag = o.tag; type = ty_view o.ty.now; parts = parts_view o.held_parts; which = o.which }
 
 abbrev pub layers_from : List (Option Open) → List Layer
 layers_from [] = []

@@ -5,9 +5,9 @@ use Rattle.types.specs.declared.value.Value.{Value}
 use Rattle.types.specs.View.{ty_view}
 use Rattle.berreader.specs.declared.nest.Nest.{Nest}
 use Rattle.berreader.specs.declared.nest.OpenString.{OpenString}
-use Rattle.contents.specs.Joined.{IsStringOf}
+use Rattle.encoding_parts.specs.Joined.{IsStringOf}
 use Rattle.berreader.specs.Nest.{IsReadNext, IsStep, end_inside, levels_left}
-use Rattle.contents.specs.Segments.{IsPassed, IsSound}
+use Rattle.encoding_parts.specs.Segments.{IsPassed, IsSound}
 use Rattle.berreader.specs.Stack.{layers_of}
 
 -- these octets are the front of a constructed string that may come next in the nest

@@ -7,7 +7,7 @@ use Rattle.types.specs.WellFormed.{nodes_of}
 use Rattle.berreader.specs.declared.pieces.Pieces.{Pieces}
 use Rattle.berreader.specs.declared.reader.Step as step
 use Rattle.berreader.specs.Cursor.{depth_of, octets_in}
-use Rattle.contents.specs.Parts.{Parts}
+use Rattle.encoding_parts.specs.Parts.{Parts}
 use Rattle.berreader.specs.Stack.{Layer, layers_of}
 
 -- the values that have come, and the slots of all components, as of a value
@@ -16,7 +16,7 @@ weight_of_parts (Parts.explicit type None) = 0
 weight_of_parts (Parts.explicit type (Some value)) = weight_of value
 weight_of_parts (Parts.items type values) = 1 + weight_of_items (items_of values)
 weight_of_parts (Parts.sequence passed slots left) = 1 + weight_of_slots (slots_of slots) + length left
-weight_of_parts (Parts.set seats) = 1 + weight_of_slots (slots_of (map (λ s. s.slot) seats))
+weight_of_parts (Parts.set set_components) = 1 + weight_of_slots (slots_of (map (λ s. s.slot) set_components))
 
 abbrev pub weight_of_layers : List Layer → ℕ
 weight_of_layers [] = 0

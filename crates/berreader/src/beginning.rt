@@ -7,21 +7,21 @@ ghost use Rattle.types.specs.Refusal.{IsFinal, IsOfReading};
 ghost use Rattle.types.specs.Shape.{Shape};
 ghost use Rattle.types.specs.View.{ty_view};
 ghost use Rattle.berreader.specs.Stack.{layers_of};
-ghost use Rattle.contents.specs.Holding.{IsOfDue};
+ghost use Rattle.encoding_parts.specs.HeldParts.{IsOfDue};
 ghost use Rattle.berreader.specs.Cut.{IsNestCut};
 ghost use Rattle.berreader.specs.Nest.{end_inside, CanFinish, EndsInside, IsDueNext, IsReadNext, IsSoundNest, IsStep, IsTaken};
 ghost use Rattle.berreader.specs.Strings.{IsFound, IsOpenedString};
 
 use crate::nest::{Nest, Next, OpenString};
 use crate::stack::Open;
-use contents::{
-    OUTSIDE, begin_string, begins, holding_of, node_within, not_due, read_head_tag, read_leaf,
+use berslice::MAX_NESTED;
+use encoding_parts::{
+    OUTSIDE, begin_string, begins, held_parts_of, node_within, not_due, read_head_tag, read_leaf,
     read_opening,
 };
 use octets::Tag;
 use std::alloc::Global;
 use types::{Refusal, Ty, Value};
-use whole::MAX_NESTED;
 
 impl<'a> Nest<'a> {
     // Takes a part without parts, or the beginning of another. A constructed string is begun in `string`.
@@ -95,7 +95,7 @@ impl<'a> Nest<'a> {
         ensures numbers { IfErr result IsOfDue }
     {
         match self.layers.top() {
-            Some(open) => open.holding.due(tag),
+            Some(open) => open.held_parts.due(tag),
             None if begins(self.ty, tag) => Ok((0, self.ty)),
             None => Err(not_due(tag)),
         }
@@ -213,7 +213,7 @@ impl<'a> Nest<'a> {
             octets,
         )?;
         self.layers.set_which(next.which);
-        Ok(self.come(alloc, next.ty, next.tag, value, used, whole)?)
+        Ok(self.place_value(alloc, next.ty, next.tag, value, used, whole)?)
     }
 
     // Takes the identifier octets and length octets of a constructed encoding, and opens it.
@@ -240,14 +240,14 @@ impl<'a> Nest<'a> {
         }
         let after = self.taken + next.identifier;
         let (size, frame) = read_opening(self.end(), after, &octets[next.identifier..])?;
-        let Some(holding) = holding_of(alloc, next.node)? else {
+        let Some(held_parts) = held_parts_of(alloc, next.node)? else {
             return Err(Refusal::Form);
         };
         let opened = Open {
             frame,
             tag: next.tag,
             ty: next.ty,
-            holding,
+            held_parts,
             which: 0,
         };
         self.layers.set_which(next.which);

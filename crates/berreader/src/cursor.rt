@@ -8,7 +8,7 @@ ghost use Rattle.types.specs.View.{ty_view};
 ghost use Rattle.berreader.specs.Stack.{layers_of, IsCounted};
 ghost use Rattle.berreader.specs.Nest.{IsSoundNest};
 ghost use Rattle.berreader.specs.Strings.{IsSoundString};
-ghost use Rattle.contents.specs.Cut.{IsStringCut};
+ghost use Rattle.encoding_parts.specs.Cut.{IsStringCut};
 ghost use Rattle.berreader.specs.Cut.{IsCut};
 ghost use Rattle.berreader.specs.Cursor.{taken_of, with_string, CanFinish, AreTaken, IsSoundCursor, IsStep, IsTaken};
 
@@ -189,6 +189,6 @@ fn pass(nest: &Nest<'_>, string: &mut OpenString<'_>, octets: &[u8]) -> Result<u
 {
     match string.segments.pass(string.kind, octets) {
         Ok(used) => Ok(used),
-        Err(refusal) => Err(nest.named(refusal)),
+        Err(refusal) => Err(nest.refusal_inside(refusal)),
     }
 }

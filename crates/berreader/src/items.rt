@@ -4,8 +4,8 @@ ghost use Rattle.berreader.specs.Items.{AreTaken};
 ghost use Rattle.berreader.specs.Nest.{IsSoundNest};
 
 use crate::nest::Nest;
+use berslice::MAX_NESTED;
 use std::alloc::Global;
-use whole::MAX_NESTED;
 
 impl Nest<'_> {
     // Takes the items at the front that are read at once, if the innermost open encoding is a list, and answers how many

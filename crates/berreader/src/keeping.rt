@@ -27,7 +27,7 @@ impl Pieces<'_> {
         let mut at = 0;
         while !self.keeps_none() && at < piece.len() {
             let (_, rest) = piece.split_at(at);
-            let count = lacking(&self.pending).min(rest.len());
+            let count = octets_missing(&self.pending).min(rest.len());
             let (next, _) = rest.split_at(count);
             match self.take_cut(next, whole) {
                 Ok(left) => match whole {
@@ -159,8 +159,8 @@ impl Pieces<'_> {
     }
 }
 
-// How many octets are surely lacking of what a piece's end has cut: at least one.
-fn lacking(kept: &[u8]) -> usize
+// How many octets are surely octets_missing of what a piece's end has cut: at least one.
+fn octets_missing(kept: &[u8]) -> usize
     ensures { 1 ≤ result }
 {
     let Head::Done { used, .. } = read_identifier(kept) else {

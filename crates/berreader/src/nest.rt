@@ -10,13 +10,13 @@ ghost use Rattle.berreader.specs.Nest.{CanFinish, EndsInside, IsEndInside, IsSou
 ghost use Rattle.berreader.specs.Strings.{IsClosed, IsFound, IsSoundString, IsString};
 
 use crate::stack::{Open, Stack};
-use contents::{Kind, Segments, named, read_end};
+use encoding_parts::{Kind, Segments, read_end, refusal_inside};
 use octets::Tag;
 use std::alloc::Global;
 use types::{Refusal, Ty, Value};
 
 /// Behind so many octets of a value, a list that ends gives back the room that it does not need.
-const ROOMY: usize = 4096;
+const MOST_KEPT: usize = 4096;
 
 /// A value that is being read.
 #[derive(Debug, Drop)]
@@ -98,7 +98,7 @@ impl<'a> Nest<'a> {
             Ok(Some(used)) => self.close(alloc, used, whole),
             Ok(None) => match self.part(alloc, octets, string, whole) {
                 Ok(used) => Ok(used),
-                Err(refusal) => Err(self.named(refusal)),
+                Err(refusal) => Err(self.refusal_inside(refusal)),
             },
             Err(refusal) => Err(refusal),
         }
@@ -131,7 +131,7 @@ impl<'a> Nest<'a> {
         let used = segments.taken - self.taken;
         let value = segments.joined.into_value(next.node)?;
         self.layers.set_which(next.which);
-        Ok(self.come(alloc, next.ty, next.tag, value, used, whole)?)
+        Ok(self.place_value(alloc, next.ty, next.tag, value, used, whole)?)
     }
 
     // How many octets the end of the innermost open encoding has, if it ends here.
@@ -177,19 +177,19 @@ impl<'a> Nest<'a> {
             frame,
             tag,
             ty,
-            holding,
+            held_parts,
             which: _,
         } = open;
-        let value = holding.into_value(frame.definite, self.taken > ROOMY)?;
-        Ok(self.come(alloc, ty, tag, value, used, whole)?)
+        let value = held_parts.into_value(frame.definite, self.taken > MOST_KEPT)?;
+        Ok(self.place_value(alloc, ty, tag, value, used, whole)?)
     }
 
     // Why a part is refused: one that goes on too long inside a definite encoding passes its end.
-    pub fn named(&self, refusal: Refusal) -> Refusal
+    pub fn refusal_inside(&self, refusal: Refusal) -> Refusal
         ensures truncated { result ≡ Refusal.Truncated → refusal ≡ Refusal.Truncated }
         ensures never { IsFinal result → IsFinal refusal }
         ensures numbers { IsOfReading refusal → IsOfReading result }
     {
-        named(self.layers.any_definite(), refusal)
+        refusal_inside(self.layers.any_definite(), refusal)
     }
 }

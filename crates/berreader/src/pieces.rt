@@ -10,10 +10,10 @@ ghost use Rattle.berreader.specs.Cut.{IsCut};
 ghost use Rattle.berreader.specs.Feeding.{GoesOn, HasBeenFed, HasValue, IsFed, IsFinished, IsFresh, IsGoingOn, IsOfFeeding, IsSoundPieces, IsSoundReader, IsTakenWhole, shape_of};
 
 use crate::cursor::Cursor;
+use berslice::{MAX_NESTED, read_whole};
 use octets::MAX_ENCODING;
 use std::alloc::Global;
 use types::{Refusal, Ty, Value};
-use whole::{MAX_NESTED, read_whole};
 
 /// A value whose octets come in pieces.
 #[derive(Debug, Drop)]

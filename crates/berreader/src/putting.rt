@@ -7,10 +7,10 @@ ghost use Rattle.types.specs.Shape.{Shape, Val};
 ghost use Rattle.types.specs.View.{ty_view, value_view};
 ghost use Rattle.berreader.specs.Stack.{layers_of, IsCounted};
 ghost use Rattle.berreader.specs.Nest.{IsCome, IsDueInside};
-ghost use Rattle.contents.specs.Parts.{IsGoodType, IsWrapped};
+ghost use Rattle.encoding_parts.specs.Parts.{IsGoodType, IsWrapped};
 
 use crate::nest::Nest;
-use contents::{is_node, wrap};
+use encoding_parts::{is_node, wrap};
 use octets::{NoMemory, Tag};
 use std::alloc::Global;
 use types::{Ty, Value};
@@ -18,7 +18,7 @@ use types::{Ty, Value};
 impl Nest<'_> {
     // Puts a value that has come where it belongs: into the innermost open encoding, if there is one, and
     // else into `whole`.
-    pub fn come(
+    pub fn place_value(
         &mut self,
         alloc: Global,
         ty: &Ty,

@@ -1,7 +1,7 @@
 //! Reads values from octets that come in pieces.
 
 use crate::pieces::Pieces;
-use contents::clear;
+use encoding_parts::clear;
 use std::alloc::Global;
 use std::marker::Model;
 use types::{Refusal, Value, WellTyped};

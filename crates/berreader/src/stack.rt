@@ -3,17 +3,17 @@
 ghost use Rattle.std.specs.Prelude.{◌≡◌, ◌≤◌, ◌∷◌, [], List, None, length, OnOk, MatchOption};
 ghost use Rattle.types.specs.Shape.{Shape};
 ghost use Rattle.types.specs.View.{value_view};
-ghost use Rattle.contents.specs.Parts.{Parts, AreGood, IsDue, IsPut};
+ghost use Rattle.encoding_parts.specs.Parts.{Parts, AreGood, IsDue, IsPut};
 ghost use Rattle.berreader.specs.Items.{AreItemsInside};
 ghost use Rattle.berreader.specs.Nest.{AreSound};
 ghost use Rattle.berreader.specs.Stack.{Layer, layer_view, layers_of, with_parts, with_which, IsCounted, IsOpenDue, IsPutInside};
 
-use contents::{Frame, Holding, INLINE};
+use berslice::read_items;
+use encoding_parts::{Frame, HeldParts, INLINE_FRAMES};
 use octets::{NoMemory, Tag};
 use smallvec::SmallVec;
 use std::alloc::Global;
 use types::{Ty, Value};
-use whole::read_items;
 
 /// An open constructed encoding.
 #[derive(Debug, Drop)]
@@ -25,7 +25,7 @@ pub struct Open<'a> {
     /// The type that it is of.
     pub ty: &'a Ty,
     /// Its parts.
-    pub holding: Holding<'a>,
+    pub held_parts: HeldParts<'a>,
     /// Which of them is open, if one is.
     pub which: usize,
 }
@@ -36,7 +36,7 @@ pub struct Stack<'a> {
     /// The innermost one; None where none is open.
     pub top: Option<Open<'a>>,
     /// What `top` was as each of them opened, the outermost first.
-    pub outer: SmallVec<Option<Open<'a>>, INLINE>,
+    pub outer: SmallVec<Option<Open<'a>>, INLINE_FRAMES>,
 }
 
 impl<'a> Stack<'a> {
@@ -108,7 +108,7 @@ impl<'a> Stack<'a> {
     // Whether the innermost one is a list.
     pub fn is_list(&self) -> bool {
         match &self.top {
-            Some(top) => matches!(top.holding, Holding::Items(_, _)),
+            Some(top) => matches!(top.held_parts, HeldParts::Items(_, _)),
             None => false,
         }
     }
@@ -158,11 +158,11 @@ impl<'a> Open<'a> {
             return 0;
         }
         let inside = &octets[..octets.len().min(self.frame.end - taken)];
-        match &mut self.holding {
-            Holding::Items(inner, items) => {
+        match &mut self.held_parts {
+            HeldParts::Items(inner, items) => {
                 read_items(alloc, inner, levels, inside, self.frame.definite, items)
             }
-            Holding::Explicit(_, _) | Holding::Sequence(_, _) | Holding::Set(_) => 0,
+            HeldParts::Explicit(_, _) | HeldParts::Sequence(_, _) | HeldParts::Set(_) => 0,
         }
     }
 
@@ -173,7 +173,7 @@ impl<'a> Open<'a> {
             × IsPut (layer_view self.old).parts (layer_view self.old).which (value_view value) parts
             × (layer_view self.new ≡ with_parts (layer_view self.old) parts)) }
     {
-        self.holding.put(self.which, value)
+        self.held_parts.put(self.which, value)
     }
 }
 

@@ -5,7 +5,7 @@ use Rattle.syntax.specs.declared.tree.Group.TheVariants.{Sequence, Set}
 use Rattle.syntax.specs.declared.tree.Simple.TheVariants.{Boolean}
 use Rattle.syntax.specs.Tree.{required, Form, list, of, choice, enumerated, named_bits, simple, reference, no_component, next_component, no_alternative, next_alternative}
 use Rattle.notation.specs.Apart.{HasNamesApart}
-use Rattle.builtin.proofs.NameInstances.{a, one_name}
+use Rattle.builtin_types.proofs.NameInstances.{a, one_name}
 use Rattle.notation.proofs.TagInstances.{t-name, null}
 
 module _ (IsOne : List ℕ → Type 0) where

@@ -11,7 +11,7 @@ use Rattle.syntax.specs.declared.tree.Module.{Module}
 use Rattle.syntax.specs.declared.tree.TagPrefix.{TagPrefix}
 use Rattle.syntax.specs.Tree.{Ending, Form, tagged, list, of, choice, enumerated, named_bits, simple, reference, Components, no_component, next_component, Alternatives, no_alternative, next_alternative}
 use Rattle.syntax.specs.View.{form, tree, component, alternative, components_of, alternatives_of}
-use Rattle.builtin.specs.Names.{NamesDiffer}
+use Rattle.builtin_types.specs.Names.{NamesDiffer}
 use Rattle.notation.specs.Known.{IsScope, IsNewScope}
 use Rattle.notation.specs.Settled.{place_in, known_at, known_of, IsSettled}
 use Rattle.notation.specs.Waiting.{is_among}

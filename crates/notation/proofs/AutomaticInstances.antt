@@ -7,9 +7,9 @@ use Rattle.syntax.specs.declared.tree.TagMode.TheVariants.{Unmarked, Explicit}
 use Rattle.syntax.specs.declared.tree.Tagging.TheVariants.{Automatic as AutomaticTags}
 use Rattle.syntax.specs.Tree.{required, Form, list, of, choice, reference, no_component as no_written_component, next_component, no_alternative as no_written_alternative, next_alternative, Tree}
 use Rattle.types.specs.Universal.{universal}
-use Rattle.builtin.specs.Tagging.{context}
-use Rattle.builtin.specs.Names.{NamesDiffer}
-use Rattle.builtin.proofs.NameInstances.{a, b, apart, no_names, one_name, two_names}
+use Rattle.builtin_types.specs.Tagging.{context}
+use Rattle.builtin_types.specs.Names.{NamesDiffer}
+use Rattle.builtin_types.proofs.NameInstances.{a, b, apart, no_names, one_name, two_names}
 use Rattle.notation.specs.Meaning.{IsMeaning, of_reference, of_tag, of_components, of_item_type, of_alternatives, no_more, one_more, no_other, one_other}
 use Rattle.notation.proofs.UniqueLemmas.{one_meaning}
 use Rattle.notation.proofs.TagInstances.{with_assignments, u-name, null, behind, null_type, null_meaning}

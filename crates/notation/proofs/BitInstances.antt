@@ -9,8 +9,8 @@ use Rattle.syntax.specs.declared.tree.Tagging.{Tagging}
 use Rattle.syntax.specs.declared.tree.Tagging.TheVariants.{Implicit as ImplicitTags}
 use Rattle.syntax.specs.Tree.{Form, named_bits, reference, Tree}
 use Rattle.types.specs.Universal.{universal}
-use Rattle.builtin.specs.Tagging.{context}
-use Rattle.builtin.proofs.NameInstances.{a, b, apart, two_names}
+use Rattle.builtin_types.specs.Tagging.{context}
+use Rattle.builtin_types.proofs.NameInstances.{a, b, apart, two_names}
 use Rattle.notation.specs.Meaning.{IsMeaning, of_reference, of_tag, of_named_bits}
 use Rattle.notation.specs.Refused.{NeverHasType}
 use Rattle.notation.proofs.LimitLemmas.{never-bits}

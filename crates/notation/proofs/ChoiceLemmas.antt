@@ -12,9 +12,9 @@ use Rattle.syntax.specs.declared.tree.TagMode.TheVariants.{Unmarked, Implicit, E
 use Rattle.syntax.specs.declared.tree.Tagging.{Tagging}
 use Rattle.syntax.specs.declared.tree.Tagging.TheVariants.{Explicit as ExplicitTags, Implicit as ImplicitTags, Automatic as AutomaticTags}
 use Rattle.syntax.specs.Tree.{Entry, Form, tagged, list, of, choice, enumerated, named_bits, simple, reference, Components as WrittenComponents, Alternatives as WrittenAlternatives, Tree}
-use Rattle.builtin.specs.Universal.{named_by_words}
+use Rattle.builtin_types.specs.Universal.{named_by_words}
 use Rattle.types.specs.Tagging.{tagged_by_default}
-use Rattle.builtin.specs.Tagging.{tag_of, IsUntaggedChoice, IsTagged}
+use Rattle.builtin_types.specs.Tagging.{tag_of, IsUntaggedChoice, IsTagged}
 use Rattle.notation.specs.Meaning.{IsAssigned, IsMeaning, of_words, of_reference, of_tag, of_items, of_named_bits, of_components, of_item_type, of_alternatives}
 use Rattle.notation.proofs.UnderLemmas.{no_choice-implicitly}
 

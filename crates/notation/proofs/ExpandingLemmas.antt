@@ -11,12 +11,12 @@ use Rattle.syntax.specs.declared.tree.Simple.{Simple}
 use Rattle.syntax.specs.Tree.{Ending, Entry, Form, tagged, list, of, choice, enumerated, named_bits, simple, Tree}
 use Rattle.syntax.specs.View.{components_of as written_components, alternatives_of as written_alternatives}
 use Rattle.types.specs.Universal.{bit_string_tag, enumerated_tag}
-use Rattle.builtin.specs.Universal.{named_bit, named_by_words, with_named_bits, list_of, repeated}
+use Rattle.builtin_types.specs.Universal.{named_bit, named_by_words, with_named_bits, list_of, repeated}
 use Rattle.types.specs.Tagging.{tagged_implicitly}
-use Rattle.builtin.specs.Tagging.{tag_of, IsUntaggedChoice}
-use Rattle.builtin.specs.Numbering.{AreItems}
-use Rattle.builtin.specs.Names.{NamesDiffer}
-use Rattle.builtin.specs.Defaults.{IsRequirement}
+use Rattle.builtin_types.specs.Tagging.{tag_of, IsUntaggedChoice}
+use Rattle.builtin_types.specs.Numbering.{AreItems}
+use Rattle.builtin_types.specs.Names.{NamesDiffer}
+use Rattle.builtin_types.specs.Defaults.{IsRequirement}
 use Rattle.notation.specs.Meaning.{IsMeaning, of_words, of_tag, of_items, of_named_bits, of_item_type}
 use Rattle.notation.specs.Under.{MeansUnder, IsExplicitAt, IsAtRoot, IsRoot}
 use Rattle.notation.specs.Parts.{IsPart, IsComponent, IsAlternative, AreComponents, AreAlternatives}

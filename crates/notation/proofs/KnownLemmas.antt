@@ -11,7 +11,7 @@ use Rattle.syntax.specs.Tree.{Form, reference}
 use Rattle.syntax.specs.View.{form, tree, assignment}
 use Rattle.syntax.specs.declared.tree.Assignment.{Assignment}
 use Rattle.syntax.specs.declared.tree.Module.{Module}
-use Rattle.builtin.proofs.NameLemmas.{contains_map}
+use Rattle.builtin_types.proofs.NameLemmas.{contains_map}
 use Rattle.notation.specs.Meaning.{IsAssigned, IsMeaning}
 use Rattle.notation.specs.Under.{MeansUnder}
 use Rattle.notation.specs.Known.{LeadsTo, StandsAt, IsScope}

@@ -17,11 +17,11 @@ use Rattle.syntax.specs.declared.tree.TagPrefix.{TagPrefix}
 use Rattle.syntax.specs.Tree.{Ending, Entry, Form, tagged, list, choice, enumerated, named_bits, Tree}
 use Rattle.syntax.specs.View.{components_of as written_components, alternatives_of as written_alternatives}
 use Rattle.types.specs.Universal.{enumerated_tag}
-use Rattle.builtin.specs.Universal.{named_bit, with_named_bits, list_of}
+use Rattle.builtin_types.specs.Universal.{named_bit, with_named_bits, list_of}
 use Rattle.types.specs.Tagging.{tagged_implicitly}
-use Rattle.builtin.specs.Tagging.{tag_of, IsUntaggedChoice}
-use Rattle.builtin.specs.Numbering.{number_of, written_numbers, AreWithin, NumbersDiffer, AreNumbered}
-use Rattle.builtin.specs.Names.{NamesDiffer}
+use Rattle.builtin_types.specs.Tagging.{tag_of, IsUntaggedChoice}
+use Rattle.builtin_types.specs.Numbering.{number_of, written_numbers, AreWithin, NumbersDiffer, AreNumbered}
+use Rattle.builtin_types.specs.Names.{NamesDiffer}
 use Rattle.notation.specs.Meaning.{IsMeaning, of_items, of_named_bits}
 use Rattle.notation.specs.Parts.{AreFrom}
 use Rattle.notation.specs.Under.{IsUnder, MeansUnder, IsExplicitAt}

@@ -8,7 +8,7 @@ use Rattle.syntax.specs.Tree.{Form, Tree}
 use Rattle.syntax.specs.View.{form, tree, assignment}
 use Rattle.syntax.specs.declared.tree.Assignment.{Assignment}
 use Rattle.syntax.specs.declared.tree.Module.{Module}
-use Rattle.builtin.specs.declared.stop.Cause.{Cause}
+use Rattle.builtin_types.specs.declared.stop.Cause.{Cause}
 use Rattle.notation.specs.Size.{HaveSize}
 use Rattle.notation.specs.Refused.{NeverHasType}
 use Rattle.notation.specs.Known.{IsNewScope}

@@ -6,9 +6,9 @@ use Rattle.syntax.specs.Tree.{Ending, Form, list, of, choice, Alternatives as Wr
 use Rattle.syntax.specs.View.{components_of as written_components, alternatives_of as written_alternatives}
 use Rattle.syntax.specs.declared.tree.Group.{Group}
 use Rattle.types.specs.Tagging.{tagged_by_default}
-use Rattle.builtin.specs.Tagging.{context, numbered_components, numbered_alternatives, is_component_tagged, is_alternative_tagged, has_automatic_tags}
-use Rattle.builtin.specs.Names.{NamesDiffer}
-use Rattle.builtin.specs.Universal.{list_of, repeated}
+use Rattle.builtin_types.specs.Tagging.{context, numbered_components, numbered_alternatives, is_component_tagged, is_alternative_tagged, has_automatic_tags}
+use Rattle.builtin_types.specs.Names.{NamesDiffer}
+use Rattle.builtin_types.specs.Universal.{list_of, repeated}
 use Rattle.notation.specs.Meaning.{component_names, alternative_names, IsMeaning, of_components, of_item_type, of_alternatives, AreAlternativeMeanings, no_other, one_other}
 use Rattle.notation.specs.Parts.{IsAlternative, AreComponents, AreAlternatives}
 use Rattle.notation.proofs.PartsLemmas.{numbered_if, alternatives_numbered_if, tagged_list, list_in_parts}

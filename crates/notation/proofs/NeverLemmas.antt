@@ -13,11 +13,11 @@ use Rattle.syntax.specs.declared.tree.TagPrefix.{TagPrefix}
 use Rattle.syntax.specs.Tree.{Ending, Form, tagged, list, of, choice, Tree}
 use Rattle.syntax.specs.View.{components_of as written_components, alternatives_of as written_alternatives}
 use Rattle.types.specs.Universal.{sequence_tag, set_tag}
-use Rattle.builtin.specs.Universal.{list_of, repeated}
+use Rattle.builtin_types.specs.Universal.{list_of, repeated}
 use Rattle.types.specs.Tagging.{tagged_by_default}
-use Rattle.builtin.specs.Tagging.{tag_of, IsUntaggedChoice, context}
-use Rattle.builtin.specs.Defaults.{IsRequirement}
-use Rattle.builtin.specs.Names.{NamesDiffer}
+use Rattle.builtin_types.specs.Tagging.{tag_of, IsUntaggedChoice, context}
+use Rattle.builtin_types.specs.Defaults.{IsRequirement}
+use Rattle.builtin_types.specs.Names.{NamesDiffer}
 use Rattle.notation.specs.Meaning.{IsMeaning}
 use Rattle.notation.specs.Parts.{IsPart, IsComponent, IsAlternative}
 use Rattle.notation.specs.Under.{IsUnder, IsExplicitAt, IsRoot}

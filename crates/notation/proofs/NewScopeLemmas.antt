@@ -5,7 +5,7 @@ use Rattle.std.proofs.lemmas.List.{take_all}
 use Rattle.syntax.specs.View.{assignment}
 use Rattle.syntax.specs.declared.tree.Assignment.{Assignment}
 use Rattle.syntax.specs.declared.tree.Module.{Module}
-use Rattle.builtin.specs.Names.{NamesDiffer, AreEntered}
+use Rattle.builtin_types.specs.Names.{NamesDiffer, AreEntered}
 use Rattle.notation.specs.Known.{KnowsNothing, IsNewScope}
 use Rattle.notation.specs.declared.scope.Seen.{Seen}
 use Rattle.notation.specs.declared.scope.Scope.{Scope}

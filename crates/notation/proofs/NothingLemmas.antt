@@ -12,8 +12,8 @@ use Rattle.syntax.specs.declared.tree.Alternative.{Alternative}
 use Rattle.syntax.specs.Tree.{Entry, Form, tagged, list, of, choice, enumerated, reference, Tree}
 use Rattle.syntax.specs.View.{component, alternative, components_of as written_components, alternatives_of as written_alternatives}
 use Rattle.types.specs.Tagging.{tagged_by_default}
-use Rattle.builtin.specs.Tagging.{context}
-use Rattle.builtin.specs.Numbering.{AreItems}
+use Rattle.builtin_types.specs.Tagging.{context}
+use Rattle.builtin_types.specs.Numbering.{AreItems}
 use Rattle.notation.specs.Meaning.{of_items}
 use Rattle.types.specs.Shape.{EnumerationItem}
 use Rattle.notation.specs.Parts.{IsPart, IsComponent, IsAlternative, AreComponents, AreAlternatives}

@@ -6,8 +6,8 @@ use Rattle.types.specs.View.{ComponentView, components_of}
 use Rattle.syntax.specs.Tree.{Value, Ending, required, optional, default, Form, Components as WrittenComponents, Tree}
 use Rattle.syntax.specs.View.{components_of as written_components}
 use Rattle.types.specs.Tagging.{tagged_implicitly, tagged_by_default}
-use Rattle.builtin.specs.Tagging.{context, numbered_components, numbered_alternatives}
-use Rattle.builtin.specs.Defaults.{IsDefault, IsRequirement}
+use Rattle.builtin_types.specs.Tagging.{context, numbered_components, numbered_alternatives}
+use Rattle.builtin_types.specs.Defaults.{IsDefault, IsRequirement}
 use Rattle.notation.specs.Meaning.{AreMeanings, no_more, one_more}
 use Rattle.notation.specs.Parts.{IsComponent, AreFrom, AreComponents}
 

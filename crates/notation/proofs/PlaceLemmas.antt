@@ -13,7 +13,7 @@ use Rattle.std.proofs.lemmas.Bool.{false≢true, cases_eq, eqb-true, eq-eqb, cas
 use Rattle.types.specs.Shape.{Shape}
 use Rattle.types.proofs.ListLemmas.{not_in_nil, contains_first, contains_later, contains_cases}
 use Rattle.syntax.specs.Tree.{Form, reference, Tree}
-use Rattle.builtin.specs.Names.{NamesDiffer}
+use Rattle.builtin_types.specs.Names.{NamesDiffer}
 use Rattle.notation.specs.Meaning.{IsAssigned, IsMeaning, of_reference}
 use Rattle.notation.specs.Settled.{place_in, places_in, places_at, MeansNothing}
 use Rattle.notation.specs.Waiting.{times}

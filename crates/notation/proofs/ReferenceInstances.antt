@@ -8,8 +8,8 @@ use Rattle.syntax.specs.declared.tree.Tagging.{Tagging}
 use Rattle.syntax.specs.declared.tree.Tagging.TheVariants.{Implicit as ImplicitTags}
 use Rattle.syntax.specs.Tree.{required, optional, Form, list, of, enumerated, simple, reference, no_component as no_written_component, next_component, Tree}
 use Rattle.types.specs.Universal.{universal}
-use Rattle.builtin.specs.Names.{NamesDiffer}
-use Rattle.builtin.proofs.NameInstances.{a, apart, one_name, two_names}
+use Rattle.builtin_types.specs.Names.{NamesDiffer}
+use Rattle.builtin_types.proofs.NameInstances.{a, apart, one_name, two_names}
 use Rattle.notation.specs.Meaning.{IsAssigned, IsMeaning, of_words, of_reference, of_items, of_components, no_more, one_more, NameMeans}
 use Rattle.notation.specs.References.{names_in, IsClosed}
 use Rattle.notation.proofs.ReferenceLemmas.{name_means_nothing}

@@ -10,9 +10,9 @@ use Rattle.syntax.specs.declared.tree.Group.TheVariants.{Sequence, Set}
 use Rattle.syntax.specs.declared.tree.TagPrefix.{TagPrefix}
 use Rattle.syntax.specs.Tree.{Ending, Form, tagged, list, of, choice, reference, Tree}
 use Rattle.syntax.specs.View.{components_of as written_components, alternatives_of as written_alternatives}
-use Rattle.builtin.specs.Tagging.{tag_of, IsUntaggedChoice, context}
-use Rattle.builtin.specs.Names.{NamesDiffer}
-use Rattle.builtin.specs.Universal.{list_of, repeated}
+use Rattle.builtin_types.specs.Tagging.{tag_of, IsUntaggedChoice, context}
+use Rattle.builtin_types.specs.Names.{NamesDiffer}
+use Rattle.builtin_types.specs.Universal.{list_of, repeated}
 use Rattle.notation.specs.Meaning.{component_names, alternative_names, IsAssigned, IsMeaning, of_reference}
 use Rattle.notation.specs.Under.{IsUnder, outermost, IsExplicitAt, IsImplicitAt, IsRoot}
 use Rattle.notation.specs.Size.{counted, HaveSize}

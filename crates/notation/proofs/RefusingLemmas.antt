@@ -8,8 +8,8 @@ use Rattle.types.specs.WellFormed.{IsWellFormed}
 use Rattle.syntax.specs.Tree.{Form, reference, Tree}
 use Rattle.syntax.specs.View.{form, tree}
 use Rattle.syntax.specs.declared.tree.Module.{Module}
-use Rattle.builtin.specs.Names.{NamesDiffer, IsFirstRepeat}
-use Rattle.builtin.specs.declared.stop.Cause.{Cause}
+use Rattle.builtin_types.specs.Names.{NamesDiffer, IsFirstRepeat}
+use Rattle.builtin_types.specs.declared.stop.Cause.{Cause}
 use Rattle.notation.specs.Meaning.{NameMeans}
 use Rattle.notation.specs.Under.{MeansUnder, IsAtRoot}
 use Rattle.notation.specs.Size.{HaveSize}

@@ -7,7 +7,7 @@ use Rattle.types.specs.Shape.{Shape}
 use Rattle.syntax.specs.declared.tree.TagPrefix.{TagPrefix}
 use Rattle.syntax.specs.Tree.{Form, tagged, list, of, choice, enumerated, named_bits, simple, reference, Tree}
 use Rattle.types.specs.Tagging.{tagged_implicitly}
-use Rattle.builtin.specs.Tagging.{tag_of, IsUntaggedChoice}
+use Rattle.builtin_types.specs.Tagging.{tag_of, IsUntaggedChoice}
 use Rattle.notation.specs.Meaning.{IsMeaning}
 use Rattle.notation.specs.Under.{IsUnder, MeansUnder, outermost, IsImplicitAt, IsAtRoot, IsRoot}
 use Rattle.notation.specs.Known.{TellsChoice, IsChoice, IsReferenceTo, IsNoReference}

@@ -9,7 +9,7 @@ use Rattle.syntax.specs.declared.tree.Tagging.TheVariants.{Explicit as ExplicitT
 use Rattle.syntax.specs.declared.tree.Module.{Module}
 use Rattle.syntax.specs.Tree.{Form, tagged}
 use Rattle.syntax.specs.View.{form, tree}
-use Rattle.builtin.specs.Tagging.{tag_of}
+use Rattle.builtin_types.specs.Tagging.{tag_of}
 use Rattle.notation.specs.Under.{IsImplicitAt}
 use Rattle.notation.specs.Known.{TellsChoice, TellsExplicit, LeadsTo, IsScope}
 use Rattle.notation.specs.declared.root.Root.{Root}

@@ -8,7 +8,7 @@ use Rattle.syntax.specs.declared.tree.TagPrefix.{TagPrefix}
 use Rattle.syntax.specs.declared.tree.TagMode.TheVariants.{Unmarked}
 use Rattle.syntax.specs.declared.tree.Tagging.TheVariants.{Explicit as ExplicitTags}
 use Rattle.syntax.specs.Tree.{Ending, required, Form, tagged, list, reference, no_component as no_written_component, next_component, Tree}
-use Rattle.builtin.proofs.NameInstances.{a, b}
+use Rattle.builtin_types.proofs.NameInstances.{a, b}
 use Rattle.notation.specs.Meaning.{IsAssigned}
 use Rattle.notation.specs.Size.{HaveSize, ComponentsHaveSize}
 use Rattle.notation.proofs.UnderLemmas.{explicit_default}

@@ -11,9 +11,9 @@ use Rattle.syntax.specs.declared.tree.Group.TheVariants.{Sequence, Set}
 use Rattle.syntax.specs.declared.tree.TagPrefix.{TagPrefix}
 use Rattle.syntax.specs.Tree.{Ending, Entry, Form, tagged, list, of, enumerated, named_bits, simple, reference, Tree}
 use Rattle.syntax.specs.View.{components_of as written_components}
-use Rattle.builtin.specs.Universal.{named_by_words, list_of, repeated}
+use Rattle.builtin_types.specs.Universal.{named_by_words, list_of, repeated}
 use Rattle.types.specs.Tagging.{tagged_implicitly}
-use Rattle.builtin.specs.Tagging.{tag_of, IsUntaggedChoice, context}
+use Rattle.builtin_types.specs.Tagging.{tag_of, IsUntaggedChoice, context}
 use Rattle.notation.specs.Meaning.{IsAssigned, IsMeaning, of_words, of_reference, of_items, of_named_bits}
 use Rattle.notation.specs.Parts.{IsPart, IsComponent}
 use Rattle.notation.specs.Under.{IsUnder, IsExplicitAt, IsImplicitAt}

@@ -11,8 +11,8 @@ use Rattle.syntax.specs.declared.tree.Tagging.{Tagging}
 use Rattle.syntax.specs.declared.tree.Tagging.TheVariants.{Explicit as ExplicitTags, Implicit as ImplicitTags, Automatic as AutomaticTags}
 use Rattle.syntax.specs.Tree.{Form, tagged, choice, simple, reference, no_alternative as no_written_alternative, next_alternative, Tree}
 use Rattle.types.specs.Universal.{universal}
-use Rattle.builtin.specs.Tagging.{context, IsUntaggedChoice}
-use Rattle.builtin.proofs.NameInstances.{a, no_names, one_name}
+use Rattle.builtin_types.specs.Tagging.{context, IsUntaggedChoice}
+use Rattle.builtin_types.proofs.NameInstances.{a, no_names, one_name}
 use Rattle.notation.specs.Meaning.{IsMeaning, of_words, of_reference, of_tag, of_alternatives, no_other, one_other}
 use Rattle.notation.proofs.UniqueLemmas.{one_meaning}
 

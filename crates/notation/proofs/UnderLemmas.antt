@@ -9,7 +9,7 @@ use Rattle.syntax.specs.declared.tree.TagMode.TheVariants.{Unmarked, Implicit, E
 use Rattle.syntax.specs.declared.tree.Tagging.TheVariants.{Explicit as ExplicitTags, Implicit as ImplicitTags, Automatic as AutomaticTags}
 use Rattle.syntax.specs.Tree.{Form, tagged, reference, Tree}
 use Rattle.types.specs.Tagging.{tagged_implicitly, tagged_by_default}
-use Rattle.builtin.specs.Tagging.{tag_of, IsUntaggedChoice, IsTagged}
+use Rattle.builtin_types.specs.Tagging.{tag_of, IsUntaggedChoice, IsTagged}
 use Rattle.notation.specs.Meaning.{IsAssigned, IsMeaning, of_reference, of_tag}
 use Rattle.notation.specs.Under.{IsUnder, MeansUnder, outermost, IsExplicitAt, IsImplicitAt}
 

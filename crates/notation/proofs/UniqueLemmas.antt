@@ -7,15 +7,15 @@ use Rattle.syntax.specs.declared.tree.Group.{Group}
 use Rattle.syntax.specs.declared.tree.Group.TheVariants.{Sequence, Set}
 use Rattle.syntax.specs.Tree.{Form, reference, Components as WrittenComponents, Alternatives as WrittenAlternatives, Tree}
 use Rattle.types.specs.Universal.{enumerated_tag}
-use Rattle.builtin.specs.Universal.{named_by_words, list_of, repeated}
-use Rattle.builtin.specs.Tagging.{tag_of, IsTagged, components_in, alternatives_in}
-use Rattle.builtin.specs.Numbering.{written_numbers}
-use Rattle.builtin.specs.Defaults.{IsRequirement}
-use Rattle.builtin.specs.Names.{NamesDiffer}
-use Rattle.builtin.proofs.NameLemmas.{one_of_name}
-use Rattle.builtin.proofs.NumberingLemmas.{one_numbering, numbered_names}
-use Rattle.builtin.proofs.DefaultLemmas.{HasNamesOnce, one_requirement}
-use Rattle.builtin.proofs.TaggingLemmas.{one_tagged, once_tagged}
+use Rattle.builtin_types.specs.Universal.{named_by_words, list_of, repeated}
+use Rattle.builtin_types.specs.Tagging.{tag_of, IsTagged, components_in, alternatives_in}
+use Rattle.builtin_types.specs.Numbering.{written_numbers}
+use Rattle.builtin_types.specs.Defaults.{IsRequirement}
+use Rattle.builtin_types.specs.Names.{NamesDiffer}
+use Rattle.builtin_types.proofs.NameLemmas.{one_of_name}
+use Rattle.builtin_types.proofs.NumberingLemmas.{one_numbering, numbered_names}
+use Rattle.builtin_types.proofs.DefaultLemmas.{HasNamesOnce, one_requirement}
+use Rattle.builtin_types.proofs.TaggingLemmas.{one_tagged, once_tagged}
 use Rattle.notation.specs.Meaning.{IsAssigned, IsMeaning, of_words, of_reference, of_tag, of_items, of_named_bits, of_components, of_item_type, of_alternatives, AreMeanings, no_more, one_more, AreAlternativeMeanings, no_other, one_other, Means, NameMeans}
 
 once_words : (words : Simple) → HasNamesOnce (named_by_words words)

@@ -1,7 +1,7 @@
 -- Weights through a node around a part, a cause to refuse, and parts beside one another.
 use Rattle.std.proofs.Common.{◌≡◌, ◌+◌, ◌↔◌, ◌⊎◌, inl, inr, ℕ, max, Bool, true, false, Option, Some, None, IsTrue, refl, sym, ◌∙◌, subst}
 use Rattle.std.proofs.lemmas.Bool.{false≢true}
-use Rattle.builtin.specs.declared.stop.Cause.{Cause}
+use Rattle.builtin_types.specs.declared.stop.Cause.{Cause}
 use Rattle.notation.specs.Size.{counted}
 use Rattle.notation.specs.Weighed.{Weighs}
 use Rattle.notation.specs.declared.weight.Weight.{Weight}

@@ -18,9 +18,9 @@ use Rattle.syntax.specs.declared.tree.Alternative.{Alternative}
 use Rattle.syntax.specs.declared.tree.NamedBit.{NamedBit}
 use Rattle.syntax.specs.Tree.{Ending, Entry, Form, tagged, list, of, choice, enumerated, named_bits, reference, Tree}
 use Rattle.syntax.specs.View.{form, tree, component, alternative, bit, components_of as written_components, alternatives_of as written_alternatives}
-use Rattle.builtin.specs.Tagging.{IsUntaggedChoice}
-use Rattle.builtin.specs.Names.{NamesDiffer}
-use Rattle.builtin.specs.Numbering.{AreWithin, NumbersDiffer}
+use Rattle.builtin_types.specs.Tagging.{IsUntaggedChoice}
+use Rattle.builtin_types.specs.Names.{NamesDiffer}
+use Rattle.builtin_types.specs.Numbering.{AreWithin, NumbersDiffer}
 use Rattle.notation.specs.Meaning.{IsAssigned, IsMeaning}
 use Rattle.notation.specs.Parts.{IsPart, IsComponent, IsAlternative}
 use Rattle.notation.specs.References.{names_in, names_in_components, names_in_alternatives}

@@ -4,7 +4,7 @@ use Rattle.std.proofs.lemmas.List.{append-nil}
 use Rattle.types.proofs.ListLemmas.{not_in_nil, contains_first, contains_later, contains_cases}
 use Rattle.syntax.specs.Tree.{Ending, Form}
 use Rattle.syntax.specs.View.{components_of as written_components, alternatives_of as written_alternatives}
-use Rattle.builtin.specs.Tagging.{is_tag_written, is_component_tagged, is_alternative_tagged}
+use Rattle.builtin_types.specs.Tagging.{is_tag_written, is_component_tagged, is_alternative_tagged}
 use Rattle.notation.specs.References.{names_in, names_in_components, names_in_alternatives}
 
 -- one is tagged

@@ -4,7 +4,7 @@ use Rattle.std.specs.Prelude.{◌≡◌, ⊤, List, ℕ, Some, None, map}
 use Rattle.syntax.specs.Tree.{Entry, Form, tagged, list, of, choice, enumerated, named_bits, simple, reference, Components, no_component, next_component, Alternatives, no_alternative, next_alternative}
 use Rattle.syntax.specs.View.{form, tree}
 use Rattle.syntax.specs.declared.tree.Module.{Module}
-use Rattle.builtin.specs.Names.{NamesDiffer}
+use Rattle.builtin_types.specs.Names.{NamesDiffer}
 use Rattle.notation.specs.Meaning.{component_names, alternative_names}
 use Rattle.notation.specs.Settled.{known_of, IsSettled}
 use Rattle.notation.specs.declared.scope.Seen.{Seen}

@@ -8,8 +8,8 @@ use Rattle.syntax.specs.Tree.{Form, tagged, choice, reference, Tree}
 use Rattle.syntax.specs.View.{form, tree}
 use Rattle.syntax.specs.declared.tree.Assignment.{Assignment}
 use Rattle.syntax.specs.declared.tree.Module.{Module}
-use Rattle.builtin.specs.Tagging.{tag_of, IsUntaggedChoice}
-use Rattle.builtin.specs.Names.{NamesDiffer}
+use Rattle.builtin_types.specs.Tagging.{tag_of, IsUntaggedChoice}
+use Rattle.builtin_types.specs.Names.{NamesDiffer}
 use Rattle.notation.specs.Meaning.{IsMeaning}
 use Rattle.notation.specs.Under.{IsExplicitAt, IsImplicitAt, IsRoot}
 use Rattle.notation.specs.declared.root.Root.{Root}

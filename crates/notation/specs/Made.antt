@@ -7,7 +7,7 @@ use Rattle.syntax.specs.declared.tree.Group.{Group}
 use Rattle.syntax.specs.Tree.{Ending, Form, list, Tree}
 use Rattle.syntax.specs.View.{components_of as written_components}
 use Rattle.types.specs.Tagging.{tagged_implicitly}
-use Rattle.builtin.specs.Universal.{list_of, repeated}
+use Rattle.builtin_types.specs.Universal.{list_of, repeated}
 use Rattle.notation.specs.Meaning.{IsMeaning}
 
 -- the whole is a node with the tag around a meaning of the expression

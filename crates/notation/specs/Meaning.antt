@@ -6,11 +6,11 @@ use Rattle.syntax.specs.declared.tree.Group.{Group}
 use Rattle.syntax.specs.declared.tree.TagPrefix.{TagPrefix}
 use Rattle.syntax.specs.Tree.{Ending, Entry, Form, tagged, list, of, choice, enumerated, named_bits, simple, reference, Components as WrittenComponents, no_component as no_written_component, next_component, Alternatives as WrittenAlternatives, no_alternative as no_written_alternative, next_alternative, Tree}
 use Rattle.types.specs.Universal.{enumerated_tag}
-use Rattle.builtin.specs.Universal.{named_by_words, with_named_bits, list_of, repeated}
-use Rattle.builtin.specs.Tagging.{tag_of, IsTagged, components_in, alternatives_in}
-use Rattle.builtin.specs.Names.{NamesDiffer}
-use Rattle.builtin.specs.Numbering.{AreItems}
-use Rattle.builtin.specs.Defaults.{IsRequirement}
+use Rattle.builtin_types.specs.Universal.{named_by_words, with_named_bits, list_of, repeated}
+use Rattle.builtin_types.specs.Tagging.{tag_of, IsTagged, components_in, alternatives_in}
+use Rattle.builtin_types.specs.Names.{NamesDiffer}
+use Rattle.builtin_types.specs.Numbering.{AreItems}
+use Rattle.builtin_types.specs.Defaults.{IsRequirement}
 
 abbrev pub component_names : WrittenComponents → List (List ℕ)
 component_names no_written_component = []

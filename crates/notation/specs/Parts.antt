@@ -5,8 +5,8 @@ use Rattle.types.specs.Shape.{Shape}
 use Rattle.types.specs.View.{ComponentView, AlternativeView}
 use Rattle.syntax.specs.Tree.{Ending, Form, Tree}
 use Rattle.types.specs.Tagging.{tagged_by_default}
-use Rattle.builtin.specs.Tagging.{context}
-use Rattle.builtin.specs.Defaults.{IsRequirement}
+use Rattle.builtin_types.specs.Tagging.{context}
+use Rattle.builtin_types.specs.Defaults.{IsRequirement}
 use Rattle.notation.specs.Meaning.{IsMeaning}
 
 -- the type of the part at this place of its list

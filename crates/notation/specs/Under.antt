@@ -5,7 +5,7 @@ use Rattle.types.specs.Shape.{Shape}
 use Rattle.syntax.specs.declared.tree.TagPrefix.{TagPrefix}
 use Rattle.syntax.specs.Tree.{Form, tagged, reference, Tree}
 use Rattle.types.specs.Tagging.{tagged_implicitly}
-use Rattle.builtin.specs.Tagging.{tag_of, IsUntaggedChoice, IsTagged}
+use Rattle.builtin_types.specs.Tagging.{tag_of, IsUntaggedChoice, IsTagged}
 use Rattle.notation.specs.Meaning.{IsMeaning}
 
 -- the tag from outside makes this whole of the type, and of an untagged CHOICE nothing

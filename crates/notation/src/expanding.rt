@@ -5,8 +5,8 @@ ghost use Rattle.types.specs.View.{ty_view, field_view, requirement_view};
 ghost use Rattle.types.specs.Shape.{Requirement};
 ghost use Rattle.syntax.specs.Tree.{Tree, list, choice, enumerated, named_bits};
 ghost use Rattle.syntax.specs.View.{form, tree, component, alternative, components_of, alternatives_of, entry, bit, ending};
-ghost use Rattle.builtin.specs.Defaults.{IsRequirement};
-ghost use Rattle.builtin.specs.Names.{NamesDiffer};
+ghost use Rattle.builtin_types.specs.Defaults.{IsRequirement};
+ghost use Rattle.builtin_types.specs.Names.{NamesDiffer};
 ghost use Rattle.notation.specs.Meaning.{IsMeaning};
 ghost use Rattle.notation.specs.Under.{MeansUnder};
 ghost use Rattle.notation.specs.Parts.{IsPart};
@@ -16,7 +16,7 @@ ghost use Rattle.notation.specs.Apart.{CanMake};
 ghost use Rattle.notation.specs.Refused.{HasNoTypeWithin, PartHasNoTypeWithin};
 
 use crate::scope::Scope;
-use builtin::{
+use builtin_types::{
     Cause, Stop, are_alternatives_tagged, are_components_tagged, automatic_tag, bit_string_tag,
     default_of, enumerated_tag, group_tag, list_type, named_bits, numbered, of_type, simple_tag,
     simple_type, tag_of,

@@ -2,13 +2,13 @@
 #![tactic(auto)]
 
 mod expanding;
-mod naming;
 mod ordering;
 mod references;
 mod resolving;
 mod root;
 mod scope;
 mod settling;
+mod unresolved;
 mod weighing;
 mod weight;
 

@@ -14,9 +14,9 @@ ghost use Rattle.notation.specs.Weighed.{IsWeight};
 ghost use Rattle.notation.specs.Refused.{HasNoType};
 ghost use Rattle.notation.specs.Under.{MeansUnder};
 
-use crate::naming::Unresolved;
 use crate::scope::{Scope, Seen};
-use builtin::{Cause, Stop};
+use crate::unresolved::Unresolved;
+use builtin_types::{Cause, Stop};
 use lexis::Fault;
 use std::alloc::Global;
 use syntax::Module;

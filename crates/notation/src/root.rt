@@ -3,7 +3,7 @@
 ghost use Rattle.std.specs.Prelude.{◌≡◌, ◌↔◌, IsTrue, IfSome, IsNone, None as Nothing};
 ghost use Rattle.syntax.specs.Tree.{Tree};
 ghost use Rattle.syntax.specs.View.{form, tree};
-ghost use Rattle.builtin.specs.Tagging.{tag_of};
+ghost use Rattle.builtin_types.specs.Tagging.{tag_of};
 ghost use Rattle.notation.specs.Settled.{NamesTold, MeansNothing};
 ghost use Rattle.notation.specs.Refused.{HasNoType};
 ghost use Rattle.notation.specs.Under.{IsAtRoot};
@@ -11,7 +11,7 @@ ghost use Rattle.notation.specs.Apart.{IsApart, AreApart};
 ghost use Rattle.notation.specs.Known.{IsChoice, IsNoReference, IsOuterWithin, IsReferenceTo, IsScope, LeadsTo, TellsChoice, TellsExplicit};
 
 use crate::scope::Scope;
-use builtin::tag_of;
+use builtin_types::tag_of;
 use octets::{MAX_TAG_NUMBER, Tag};
 use syntax::{Expr, TagMode, TagPrefix, Tagging};
 

@@ -3,14 +3,14 @@
 ghost use Rattle.std.specs.Prelude.{◌≡◌, IfOk, IfErr, IfSome, Some, map, slice_get, option_map, None as Nothing};
 ghost use Rattle.syntax.specs.View.{form, tree};
 ghost use Rattle.syntax.specs.Tree.{reference};
-ghost use Rattle.builtin.specs.Names.{IsFirstRepeat};
-ghost use Rattle.builtin.specs.Tagging.{has_automatic_tags};
+ghost use Rattle.builtin_types.specs.Names.{IsFirstRepeat};
+ghost use Rattle.builtin_types.specs.Tagging.{has_automatic_tags};
 ghost use Rattle.notation.specs.Known.{LeadsTo, StandsAt, IsScope, IsNewScope};
 ghost use Rattle.notation.specs.Settled.{place_in, known_at, known_of};
 
 use crate::root::Root;
 use crate::weight::Weight;
-use builtin::{enter, is_automatic};
+use builtin_types::{enter, is_automatic};
 use indexmap::IndexSet;
 use std::alloc::{AllocError, Global};
 use syntax::{Expr, Module};

@@ -11,7 +11,7 @@ ghost use Rattle.notation.specs.Weighed.{IsWeight, AreWeighed, CanWeigh};
 use crate::ordering::Waits;
 use crate::scope::{Scope, Seen};
 use crate::weight::Weight;
-use builtin::Cause;
+use builtin_types::Cause;
 use std::alloc::{AllocError, Global};
 use types::{MAX_LEVELS, MAX_NODES};
 

@@ -5,14 +5,14 @@ ghost use Rattle.std.specs.Prelude.{◌≡◌, ◌↔◌, ◌≤◌, ℕ, IfOk, 
 ghost use Rattle.syntax.specs.declared.tree.Group.{Group};
 ghost use Rattle.syntax.specs.Tree.{Tree, tagged, list, choice, enumerated, named_bits};
 ghost use Rattle.syntax.specs.View.{form, tree, component, alternative, entry, bit, components_of, alternatives_of};
-ghost use Rattle.builtin.specs.Names.{NamesDiffer};
+ghost use Rattle.builtin_types.specs.Names.{NamesDiffer};
 ghost use Rattle.notation.specs.Known.{IsScope};
 ghost use Rattle.notation.specs.Apart.{IsApart};
 ghost use Rattle.notation.specs.Weighed.{CanWeigh, IsWeight, IsOwnWeight, IsPartWeight};
 
 use crate::scope::Scope;
 use crate::weight::Weight;
-use builtin::{
+use builtin_types::{
     Cause, alternatives_differ, are_alternatives_tagged, are_bits_within, are_components_tagged,
     are_numbers_within, bit_numbers_differ, components_differ, items_differ, named_bits_differ,
     numbers_differ,

@@ -3,7 +3,7 @@
 ghost use Rattle.std.specs.Prelude.{◌≡◌, ◌≢◌, ◌+◌, ◌↔◌, IsTrue, max, None as Nothing};
 ghost use Rattle.notation.specs.Size.{counted};
 
-use builtin::Cause;
+use builtin_types::Cause;
 
 /// The nodes and levels of a type, and the first cause to refuse it, where there is one. Counts that
 /// pass what a `usize` holds stay at its greatest.

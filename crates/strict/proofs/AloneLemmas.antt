@@ -7,7 +7,7 @@ use Rattle.octets.proofs.FrontLemmas.{front_of_more}
 use Rattle.types.specs.declared.value.Value.{Value}
 use Rattle.types.specs.Shape.{Shape}
 use Rattle.types.specs.View.{value_view}
-use Rattle.contents.specs.Parts.{IsGoodType}
+use Rattle.encoding_parts.specs.Parts.{IsGoodType}
 use Rattle.strict.specs.declared.head.Inside.{Inside}
 use Rattle.strict.specs.Head.{HasConstructed, IsOpened, Fills, mark, EndsHere}
 use Rattle.strict.specs.Reading.{IsRead, HasPart, HasAlone}

@@ -14,10 +14,10 @@ use Rattle.types.proofs.BeginningLemmas.{encoding_begins, alternative_begins}
 use Rattle.types.proofs.LimitLemmas.{alternative_type}
 use Rattle.types.proofs.ListLemmas.{all_append, distinct_apart, distinct_right}
 use Rattle.types.proofs.FirstTagLemmas.{tag_within}
-use Rattle.contents.specs.Head.{IsTagWithin, IsReadTag}
-use Rattle.contents.specs.Parts.{IsGoodType}
-use Rattle.contents.proofs.ChoiceLemmas.{have_at}
-use Rattle.contents.proofs.HeadLemmas.{tag_of_front}
+use Rattle.encoding_parts.specs.Head.{IsTagWithin, IsReadTag}
+use Rattle.encoding_parts.specs.Parts.{IsGoodType}
+use Rattle.encoding_parts.proofs.ChoiceLemmas.{have_at}
+use Rattle.encoding_parts.proofs.HeadLemmas.{tag_of_front}
 use Rattle.strict.specs.Reading.{IsRead, HasPart, HasChoice}
 use Rattle.strict.proofs.FrontLemmas.{within_of}
 

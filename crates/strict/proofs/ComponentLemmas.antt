@@ -20,8 +20,8 @@ use Rattle.types.proofs.TagLemmas.{contains_either}
 use Rattle.types.proofs.NodeLemmas.{all_both}
 use Rattle.types.proofs.SlotLemmas.{filled, begin_apart, run_is, run_begins}
 use Rattle.types.proofs.FirstTagLemmas.{tag_within}
-use Rattle.contents.specs.Parts.{IsGoodType, IsGoodComponent}
-use Rattle.contents.specs.Segments.{BeginsAboveZero}
+use Rattle.encoding_parts.specs.Parts.{IsGoodType, IsGoodComponent}
+use Rattle.encoding_parts.specs.Segments.{BeginsAboveZero}
 use Rattle.strict.specs.declared.canonical.Canonical.{Canonical}
 use Rattle.strict.specs.Canonical.{rule_of}
 use Rattle.strict.specs.Head.{Fills, mark, EndsHere}

@@ -4,7 +4,7 @@ use Rattle.octets.specs.Rule.{ber, der}
 use Rattle.primitives.proofs.BitsLemmas.{canonical_bits_are_ber}
 use Rattle.primitives.proofs.BooleanLemmas.{canonical_boolean_is_ber}
 use Rattle.types.specs.Shape.{SimpleType, StringType, Shape, Val}
-use Rattle.contents.specs.Contents.{HoldsContents}
+use Rattle.encoding_parts.specs.Contents.{HoldsContents}
 
 -- what the canonical rules take BER takes
 pub contents_by_ber : (type : Shape) (v : Val) (contents : List ℕ) → HoldsContents der type v contents → HoldsContents ber type v contents

@@ -6,9 +6,9 @@ use Rattle.types.specs.Conforms.{Conforms}
 use Rattle.types.specs.Leaf.{tag_of}
 use Rattle.types.specs.Shape.{Shape}
 use Rattle.types.specs.View.{value_view}
-use Rattle.contents.specs.declared.joined.Kind.{Kind}
-use Rattle.contents.specs.declared.joined.Joined.{Joined}
-use Rattle.contents.specs.Joined.{Element, IsStringOf, string_of}
+use Rattle.encoding_parts.specs.declared.joined.Kind.{Kind}
+use Rattle.encoding_parts.specs.declared.joined.Joined.{Joined}
+use Rattle.encoding_parts.specs.Joined.{Element, IsStringOf, string_of}
 use Rattle.strict.specs.declared.head.Inside.{Inside}
 use Rattle.strict.specs.Head.{IsOpened, mark, EndsHere}
 use Rattle.strict.specs.Leaf.{HasCut, HoldsSegment, value_is}

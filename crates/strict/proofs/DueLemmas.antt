@@ -16,8 +16,8 @@ use Rattle.types.specs.FirstTags.{first_tags, AreDistinct, tags_of_components}
 use Rattle.types.specs.Order.{BeginsWith, BeginsWithOneOf, IsOrderTag, IsOrderTagIn}
 use Rattle.types.proofs.BeginningLemmas.{encoding_begins, begins_once}
 use Rattle.types.proofs.FirstTagLemmas.{tag_within}
-use Rattle.contents.specs.Parts.{IsGoodType, IsGoodComponent}
-use Rattle.contents.specs.Segments.{BeginsAboveZero}
+use Rattle.encoding_parts.specs.Parts.{IsGoodType, IsGoodComponent}
+use Rattle.encoding_parts.specs.Segments.{BeginsAboveZero}
 use Rattle.strict.specs.Head.{EndsHere}
 use Rattle.strict.specs.Components.{IsFront, EndsOrBegins, HasPresent, IsPresentRead}
 use Rattle.strict.specs.Members.{IsBegunAt, IsEmptyAt, IsOrderTagOf, ComesBehind, AreFilled, HasMembers}

@@ -12,7 +12,7 @@ use Rattle.octets.proofs.IdentifierLemmas.{identifier_unique}
 use Rattle.octets.proofs.LengthLemmas.{length_unique, IsShortestLength-short, length_begins-nil, no_length-too_great, padded}
 use Rattle.types.specs.Shape.{Shape, SimpleType, StringType}
 use Rattle.types.proofs.NestingLemmas.{no_length-128}
-use Rattle.contents.specs.Lengths.{CanHaveLength}
+use Rattle.encoding_parts.specs.Lengths.{CanHaveLength}
 use Rattle.strict.specs.declared.canonical.Canonical.{Canonical}
 use Rattle.strict.specs.declared.canonical.Canonical.TheVariants.{Cer, Der}
 use Rattle.strict.proofs.ShortLemmas.{short_whole}

@@ -14,10 +14,10 @@ use Rattle.types.specs.Leaf.{tag_of, IsLeaf}
 use Rattle.types.specs.Refusal.{IsFinal}
 use Rattle.types.specs.Shape.{Shape}
 use Rattle.types.specs.View.{ty_view, alternatives_view}
-use Rattle.contents.specs.Cut.{IsLengthCut, AreContentsCut}
-use Rattle.contents.specs.Joined.{IsString}
-use Rattle.contents.specs.Parts.{IsNodeFor}
-use Rattle.contents.proofs.ChoiceLemmas.{lead_at}
+use Rattle.encoding_parts.specs.Cut.{IsLengthCut, AreContentsCut}
+use Rattle.encoding_parts.specs.Joined.{IsString}
+use Rattle.encoding_parts.specs.Parts.{IsNodeFor}
+use Rattle.encoding_parts.proofs.ChoiceLemmas.{lead_at}
 use Rattle.strict.specs.declared.canonical.Canonical.{Canonical}
 use Rattle.strict.specs.declared.canonical.Canonical.TheVariants.{Cer, Der}
 use Rattle.strict.specs.declared.head.Inside.{Inside}

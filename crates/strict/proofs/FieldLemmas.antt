@@ -6,7 +6,7 @@ use Rattle.types.specs.declared.ty.Field.{Field}
 use Rattle.types.specs.FirstTags.{RunsAreDistinct}
 use Rattle.types.specs.View.{ComponentView, field_view, ty_view, requirement_view, components_of}
 use Rattle.types.proofs.ViewLemmas.{field_is}
-use Rattle.contents.specs.Parts.{IsGoodComponent}
+use Rattle.encoding_parts.specs.Parts.{IsGoodComponent}
 
 pub field_type : (f : Field) → (field_view f).type ≡ ty_view f.ty
 field_type f = ap (λ (c : ComponentView). c.type) (field_is f)

@@ -5,7 +5,7 @@ use Rattle.types.specs.declared.value.Value.{Value}
 use Rattle.types.specs.Shape.{SimpleType, StringType, Shape, Val}
 use Rattle.types.specs.Leaf.{tag_of, IsLeaf}
 use Rattle.types.specs.View.{value_view}
-use Rattle.contents.specs.Contents.{HoldsContents, IsFilled}
+use Rattle.encoding_parts.specs.Contents.{HoldsContents, IsFilled}
 use Rattle.strict.specs.declared.canonical.Canonical.{Canonical}
 use Rattle.strict.specs.Canonical.{rule_of}
 use Rattle.strict.specs.Leaf.{IsPlace, IsSpeltAlike}

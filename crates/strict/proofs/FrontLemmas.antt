@@ -8,8 +8,8 @@ use Rattle.octets.proofs.IdentifierLemmas.{identifier_unique}
 use Rattle.types.specs.Shape.{Shape}
 use Rattle.types.specs.FirstTags.{first_tags}
 use Rattle.types.specs.Order.{BeginsWith, BeginsWithOneOf}
-use Rattle.contents.specs.Head.{IsTagWithin, IsReadTag}
-use Rattle.contents.specs.Segments.{BeginsAboveZero}
+use Rattle.encoding_parts.specs.Head.{IsTagWithin, IsReadTag}
+use Rattle.encoding_parts.specs.Segments.{BeginsAboveZero}
 use Rattle.strict.specs.declared.canonical.Canonical.{Canonical}
 use Rattle.strict.specs.declared.canonical.Canonical.TheVariants.{Cer, Der}
 use Rattle.strict.specs.Canonical.{rule_of}

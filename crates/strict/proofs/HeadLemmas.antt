@@ -10,7 +10,7 @@ use Rattle.octets.proofs.FrontLemmas.{front_of_more}
 use Rattle.octets.proofs.IdentifierLemmas.{identifier_unique}
 use Rattle.octets.proofs.LengthLemmas.{length_unique}
 use Rattle.types.proofs.FormLemmas.{parts_of_definite, length-definite}
-use Rattle.contents.specs.Head.{IsTagWithin, IsExtentWithin}
+use Rattle.encoding_parts.specs.Head.{IsTagWithin, IsExtentWithin}
 use Rattle.strict.specs.Head.{HasDefinite, IsDefiniteAt}
 
 -- a definite encoding by what was read before it

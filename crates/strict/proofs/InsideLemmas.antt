@@ -9,7 +9,7 @@ use Rattle.octets.proofs.FrontLemmas.{front_of_more}
 use Rattle.octets.proofs.IdentifierLemmas.{identifier_unique}
 use Rattle.types.specs.Form.{IsConstructed}
 use Rattle.types.proofs.NestingLemmas.{parts_of_indefinite}
-use Rattle.contents.specs.Head.{IsTagWithin, IsExtentWithin, IsReadIndefinite}
+use Rattle.encoding_parts.specs.Head.{IsTagWithin, IsExtentWithin, IsReadIndefinite}
 use Rattle.strict.specs.declared.head.Inside.{Inside}
 use Rattle.strict.specs.Head.{HasDefinite, IsDefiniteAt, HasConstructed, IsOpened, Fills, mark, EndsHere}
 

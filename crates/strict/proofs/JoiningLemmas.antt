@@ -2,11 +2,11 @@
 use Rattle.std.proofs.Common.{◌≡◌, ◌≢◌, ℕ, ◌-◌, ◌+◌, ◌<◌, ◌≤◌, List, [], ◌++◌, Bool, true, false, All, drop, refl, sym, ◌∙◌, ap, subst, arith, slice_range}
 use Rattle.std.proofs.lemmas.List.Elements.{All-nil}
 use Rattle.primitives.specs.Bits.{bits_before, CanBeUnused}
-use Rattle.contents.specs.declared.joined.Kind.{Kind}
-use Rattle.contents.specs.declared.joined.Kind.TheVariants.{Bits, Octets}
-use Rattle.contents.specs.declared.joined.Joined.{Joined}
-use Rattle.contents.specs.Joined.{Element, segment_of, IsWholePiece, AreBitsHeld, IsHeld, IsJoined, string_of}
-use Rattle.contents.proofs.JoinedLemmas.{joins_whole, parts_whole, whole_held, unused_whole}
+use Rattle.encoding_parts.specs.declared.joined.Kind.{Kind}
+use Rattle.encoding_parts.specs.declared.joined.Kind.TheVariants.{Bits, Octets}
+use Rattle.encoding_parts.specs.declared.joined.Joined.{Joined}
+use Rattle.encoding_parts.specs.Joined.{Element, segment_of, IsWholePiece, AreBitsHeld, IsHeld, IsJoined, string_of}
+use Rattle.encoding_parts.proofs.JoinedLemmas.{joins_whole, parts_whole, whole_held, unused_whole}
 use Rattle.strict.specs.Head.{EndsHere}
 use Rattle.strict.specs.Leaf.{HoldsSegment, IsPlace}
 use Rattle.strict.specs.Segments.{AreSegmentsRead, AreJoined, IsJoinedSegment}

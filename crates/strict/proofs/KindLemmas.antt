@@ -7,11 +7,11 @@ use Rattle.primitives.proofs.BitsLemmas.{bits_before-parts, canonical_bits_are_b
 use Rattle.types.specs.Shape.{StringType, Shape}
 use Rattle.types.proofs.BitsExistenceLemmas.{bits_contents}
 use Rattle.types.proofs.CerLemmas.{bits_by_cer, bits_by_der, bits_count}
-use Rattle.contents.specs.declared.joined.Kind.{Kind}
-use Rattle.contents.specs.declared.joined.Kind.TheVariants.{Bits, Octets}
-use Rattle.contents.specs.declared.joined.Joined.{Joined}
-use Rattle.contents.specs.Joined.{Element, HoldsPiece, IsHeld, IsHeldFor, IsStringOf, string_of, typed, value_of}
-use Rattle.contents.proofs.JoinedLemmas.{length-bits_before, few_unused}
+use Rattle.encoding_parts.specs.declared.joined.Kind.{Kind}
+use Rattle.encoding_parts.specs.declared.joined.Kind.TheVariants.{Bits, Octets}
+use Rattle.encoding_parts.specs.declared.joined.Joined.{Joined}
+use Rattle.encoding_parts.specs.Joined.{Element, HoldsPiece, IsHeld, IsHeldFor, IsStringOf, string_of, typed, value_of}
+use Rattle.encoding_parts.proofs.JoinedLemmas.{length-bits_before, few_unused}
 use Rattle.strict.specs.Leaf.{HoldsSegment, IsBitString, bits_view, value_is}
 
 -- what CER takes as a segment BER takes as a piece

@@ -12,11 +12,11 @@ use Rattle.types.specs.Strings.{bit_segment, IsWholeOctets, IsCut}
 use Rattle.primitives.specs.Bits.{IsBits}
 use Rattle.types.proofs.CanonicalLemmas.{primitive_by_cer, primitive_by_der}
 use Rattle.types.proofs.CerLemmas.{bits_by_cer, bits_by_der, contents_by_cer, contents_by_der}
-use Rattle.contents.specs.declared.joined.Kind.{Kind}
-use Rattle.contents.specs.declared.joined.Kind.TheVariants.{Bits, Octets}
-use Rattle.contents.specs.Head.{IsTagWithin}
-use Rattle.contents.specs.Joined.{IsStringOf}
-use Rattle.contents.proofs.LeafLemmas.{simple_contents, contents_of_simple}
+use Rattle.encoding_parts.specs.declared.joined.Kind.{Kind}
+use Rattle.encoding_parts.specs.declared.joined.Kind.TheVariants.{Bits, Octets}
+use Rattle.encoding_parts.specs.Head.{IsTagWithin}
+use Rattle.encoding_parts.specs.Joined.{IsStringOf}
+use Rattle.encoding_parts.proofs.LeafLemmas.{simple_contents, contents_of_simple}
 use Rattle.strict.specs.declared.canonical.Canonical.{Canonical}
 use Rattle.strict.specs.declared.canonical.Canonical.TheVariants.{Cer, Der}
 use Rattle.strict.specs.Canonical.{rule_of}

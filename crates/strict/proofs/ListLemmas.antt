@@ -13,8 +13,8 @@ use Rattle.types.specs.Encoding.{IsEncoding}
 use Rattle.types.specs.Form.{IsConstructed}
 use Rattle.types.specs.View.{value_view, items_of}
 use Rattle.types.proofs.ViewLemmas.{value-Items, listed-items_of}
-use Rattle.contents.specs.Parts.{IsGoodType}
-use Rattle.contents.specs.Segments.{BeginsAboveZero}
+use Rattle.encoding_parts.specs.Parts.{IsGoodType}
+use Rattle.encoding_parts.specs.Segments.{BeginsAboveZero}
 use Rattle.strict.specs.declared.head.Inside.{Inside}
 use Rattle.strict.specs.Head.{HasConstructed, IsOpened, Fills, mark, EndsHere}
 use Rattle.strict.specs.Reading.{IsRead, HasPart}

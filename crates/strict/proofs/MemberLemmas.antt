@@ -15,7 +15,7 @@ use Rattle.types.proofs.ListLemmas.{not_in_nil, contains_first, contains_cases, 
 use Rattle.types.proofs.SortedLemmas.{AllPairs-first, AllPairs-rest}
 use Rattle.strict.specs.Head.{Fills, mark, EndsHere}
 use Rattle.strict.specs.Members.{IsEmptyAt, AreMembersLeft, AreFilled, ComesBehind, HasMembers}
-use Rattle.contents.proofs.OthersLemmas.{permutation_others}
+use Rattle.encoding_parts.proofs.OthersLemmas.{permutation_others}
 use Rattle.strict.proofs.PartLemmas.{ends_here, fills_after}
 
 -- this is the component at the place

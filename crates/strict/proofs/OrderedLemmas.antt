@@ -26,8 +26,8 @@ use Rattle.types.proofs.OrderLemmas.{padded_trans, padded_refl, nested_tie}
 use Rattle.types.proofs.SortedLemmas.{AllPairs-first, AllPairs-rest, AllPairs-from_first}
 use Rattle.types.proofs.ViewLemmas.{value-Items, listed-items_of}
 use Rattle.types.proofs.ZipLemmas.{zip_permutes}
-use Rattle.contents.specs.Parts.{IsGoodType}
-use Rattle.contents.specs.Segments.{BeginsAboveZero}
+use Rattle.encoding_parts.specs.Parts.{IsGoodType}
+use Rattle.encoding_parts.specs.Segments.{BeginsAboveZero}
 use Rattle.strict.specs.declared.canonical.Canonical.{Canonical}
 use Rattle.strict.specs.Canonical.{rule_of}
 use Rattle.strict.specs.declared.head.Inside.{Inside}

@@ -10,8 +10,8 @@ use Rattle.types.specs.View.{value_view}
 use Rattle.types.proofs.BerLemmas.{encoding_by_ber}
 use Rattle.types.proofs.BeginningLemmas.{IsOneNested, encoding_is_nested, one_nested_unique, one_nested_above}
 use Rattle.types.proofs.NestingLemmas.{not_end}
-use Rattle.contents.specs.Parts.{IsGoodType}
-use Rattle.contents.specs.Segments.{BeginsAboveZero}
+use Rattle.encoding_parts.specs.Parts.{IsGoodType}
+use Rattle.encoding_parts.specs.Segments.{BeginsAboveZero}
 use Rattle.strict.specs.Head.{Fills, mark, EndsHere}
 use Rattle.strict.specs.Reading.{IsRead}
 

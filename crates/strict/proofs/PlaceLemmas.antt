@@ -13,10 +13,10 @@ use Rattle.types.specs.Conforms.{Conforms}
 use Rattle.types.specs.Form.{IsDefinite}
 use Rattle.types.specs.Leaf.{tag_of, IsLeaf}
 use Rattle.types.specs.View.{value_view}
-use Rattle.contents.specs.Contents.{HoldsContents}
-use Rattle.contents.specs.Head.{IsReadDefinite}
-use Rattle.contents.specs.Lengths.{CanHaveLength}
-use Rattle.contents.proofs.ContentsLengthLemmas.{simple_length, string_length}
+use Rattle.encoding_parts.specs.Contents.{HoldsContents}
+use Rattle.encoding_parts.specs.Head.{IsReadDefinite}
+use Rattle.encoding_parts.specs.Lengths.{CanHaveLength}
+use Rattle.encoding_parts.proofs.ContentsLengthLemmas.{simple_length, string_length}
 use Rattle.strict.specs.declared.canonical.Canonical.{Canonical}
 use Rattle.strict.specs.Canonical.{rule_of}
 use Rattle.strict.specs.Head.{HasDefinite, IsDefiniteAt}

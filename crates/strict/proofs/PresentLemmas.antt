@@ -11,7 +11,7 @@ use Rattle.types.specs.WellFormed.{IsGoodDefault, TakesDefault}
 use Rattle.types.proofs.BerLemmas.{encoding_by_ber}
 use Rattle.types.proofs.EncodingLemmas.{value_unique}
 use Rattle.types.proofs.SameLemmas.{same_is_equal}
-use Rattle.contents.specs.Parts.{IsGoodComponent, IsSlotOf}
+use Rattle.encoding_parts.specs.Parts.{IsGoodComponent, IsSlotOf}
 use Rattle.strict.specs.Reading.{IsRead, HasPart}
 use Rattle.strict.specs.Components.{HasPresent}
 use Rattle.strict.proofs.PartLemmas.{one_of, same_part}

@@ -10,11 +10,11 @@ use Rattle.types.proofs.BitsExistenceLemmas.{bits_contents}
 use Rattle.types.proofs.CanonicalLemmas.{primitive_by_ber, primitive_by_cer, primitive_by_der}
 use Rattle.types.proofs.CerLemmas.{bits_count}
 use Rattle.types.proofs.NestingLemmas.{IsAboveZero, definite_above, not_end}
-use Rattle.contents.specs.declared.joined.Kind.{Kind}
-use Rattle.contents.specs.declared.joined.Kind.TheVariants.{Bits, Octets}
-use Rattle.contents.specs.Joined.{Element, segment_of, IsWholePiece}
-use Rattle.contents.specs.Segments.{BeginsAboveZero}
-use Rattle.contents.proofs.JoinedLemmas.{kept_segment}
+use Rattle.encoding_parts.specs.declared.joined.Kind.{Kind}
+use Rattle.encoding_parts.specs.declared.joined.Kind.TheVariants.{Bits, Octets}
+use Rattle.encoding_parts.specs.Joined.{Element, segment_of, IsWholePiece}
+use Rattle.encoding_parts.specs.Segments.{BeginsAboveZero}
+use Rattle.encoding_parts.proofs.JoinedLemmas.{kept_segment}
 use Rattle.strict.specs.Head.{HasDefinite, EndsHere}
 use Rattle.strict.specs.Leaf.{HoldsSegment, IsPlace}
 use Rattle.strict.specs.Segments.{AreSegmentsOf, CanFollow, HasSegments, GoOn, AreSegmentsRead, IsSegmentRead}

@@ -16,8 +16,8 @@ use Rattle.types.specs.Order.{BeginsWithOneOf}
 use Rattle.types.specs.Form.{IsConstructed}
 use Rattle.types.specs.View.{ComponentView, value_view, field_view, components_of, components_view, slots_of, slots_view}
 use Rattle.types.proofs.ViewLemmas.{value-Fields}
-use Rattle.contents.specs.Parts.{IsGoodType, IsGoodComponent}
-use Rattle.contents.proofs.PartsOpenLemmas.{components_good}
+use Rattle.encoding_parts.specs.Parts.{IsGoodType, IsGoodComponent}
+use Rattle.encoding_parts.proofs.PartsOpenLemmas.{components_good}
 use Rattle.strict.specs.declared.canonical.Canonical.{Canonical}
 use Rattle.strict.specs.Canonical.{rule_of}
 use Rattle.strict.specs.declared.head.Inside.{Inside}

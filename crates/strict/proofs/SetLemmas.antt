@@ -24,8 +24,8 @@ use Rattle.types.proofs.SetOrderLemmas.{one_order_tag}
 use Rattle.types.proofs.SortedLemmas.{AllPairs-first, AllPairs-rest, AllPairs-from_first}
 use Rattle.types.proofs.TagLemmas.{contains_either}
 use Rattle.types.proofs.ViewLemmas.{value-Fields}
-use Rattle.contents.specs.Parts.{IsGoodType, IsGoodComponent}
-use Rattle.contents.proofs.PartsOpenLemmas.{components_good}
+use Rattle.encoding_parts.specs.Parts.{IsGoodType, IsGoodComponent}
+use Rattle.encoding_parts.proofs.PartsOpenLemmas.{components_good}
 use Rattle.strict.specs.declared.canonical.Canonical.{Canonical}
 use Rattle.strict.specs.Canonical.{rule_of}
 use Rattle.strict.specs.declared.head.Inside.{Inside}

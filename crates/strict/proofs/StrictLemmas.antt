@@ -13,7 +13,7 @@ use Rattle.types.specs.WellFormed.{IsWellFormed}
 use Rattle.types.proofs.BerLemmas.{encoding_by_ber}
 use Rattle.types.proofs.DepthLemmas.{canonical_nested}
 use Rattle.types.proofs.EncodingLemmas.{encoding_unique}
-use Rattle.contents.specs.Parts.{IsGoodType}
+use Rattle.encoding_parts.specs.Parts.{IsGoodType}
 use Rattle.strict.specs.Reading.{IsRead, HasPart}
 
 pub good_of : (shape : Shape) → IsWellFormed shape → IsGoodType shape

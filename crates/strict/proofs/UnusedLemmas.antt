@@ -9,7 +9,7 @@ use Rattle.primitives.proofs.BitsLemmas.{length-bits_of_octet, length-bits_of, b
 use Rattle.types.specs.Shape.{StringType, StringValue, Shape, Val}
 use Rattle.types.specs.Conforms.{Conforms}
 use Rattle.types.proofs.CerLemmas.{same_fronts}
-use Rattle.contents.specs.Contents.{HoldsContents}
+use Rattle.encoding_parts.specs.Contents.{HoldsContents}
 use Rattle.strict.specs.Leaf.{IsBitString, bits_view, IsBitsOf}
 
 -- bits that end with so many zeros

@@ -8,9 +8,9 @@ use Rattle.octets.specs.Identifier.{IsIdentifier}
 use Rattle.octets.specs.Length.{IsShortestLength}
 use Rattle.types.specs.Leaf.{IsLeaf}
 use Rattle.types.specs.Shape.{Shape}
-use Rattle.contents.specs.Cut.{IsIdentifierCut, IsLengthCut, AreContentsCut}
-use Rattle.contents.specs.Lengths.{CanHaveLength}
-use Rattle.contents.specs.Parts.{IsNodeFor}
+use Rattle.encoding_parts.specs.Cut.{IsIdentifierCut, IsLengthCut, AreContentsCut}
+use Rattle.encoding_parts.specs.Lengths.{CanHaveLength}
+use Rattle.encoding_parts.specs.Parts.{IsNodeFor}
 use Rattle.strict.specs.declared.canonical.Canonical.{Canonical}
 use Rattle.strict.specs.declared.canonical.Canonical.TheVariants.{Cer, Der}
 use Rattle.strict.specs.Leaf.{IsWhole}

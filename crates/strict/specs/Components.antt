@@ -11,9 +11,9 @@ use Rattle.types.specs.View.{ComponentView, components_of, slots_of, value_view}
 use Rattle.types.specs.Conforms.{DiffersFromDefault}
 use Rattle.types.specs.FirstTags.{RunsAreDistinct}
 use Rattle.types.specs.Encoding.{IsEncoding, AreSlotEncodings, standing}
-use Rattle.contents.specs.Head.{IsTagWithin}
-use Rattle.contents.specs.Parts.{IsGoodComponent}
-use Rattle.contents.specs.Segments.{BeginsAboveZero}
+use Rattle.encoding_parts.specs.Head.{IsTagWithin}
+use Rattle.encoding_parts.specs.Parts.{IsGoodComponent}
+use Rattle.encoding_parts.specs.Segments.{BeginsAboveZero}
 use Rattle.strict.specs.Bars.{Bars}
 use Rattle.strict.specs.Head.{Fills, mark, EndsHere}
 use Rattle.strict.specs.Reading.{IsRead}

@@ -11,10 +11,10 @@ use Rattle.types.specs.Form.{IsDefinite}
 use Rattle.types.specs.Leaf.{tag_of}
 use Rattle.types.specs.Shape.{SimpleType, StringType, SimpleValue, StringValue, Shape, Val}
 use Rattle.types.specs.Strings.{segment_octets, AreOctets, IsCut}
-use Rattle.contents.specs.declared.joined.Kind.{Kind}
-use Rattle.contents.specs.declared.joined.Kind.TheVariants.{Bits, Octets}
-use Rattle.contents.specs.Contents.{HoldsContents}
-use Rattle.contents.specs.Joined.{Element, segment_of, IsWholePiece, typed}
+use Rattle.encoding_parts.specs.declared.joined.Kind.{Kind}
+use Rattle.encoding_parts.specs.declared.joined.Kind.TheVariants.{Bits, Octets}
+use Rattle.encoding_parts.specs.Contents.{HoldsContents}
+use Rattle.encoding_parts.specs.Joined.{Element, segment_of, IsWholePiece, typed}
 use Rattle.strict.specs.declared.canonical.Canonical.{Canonical}
 use Rattle.strict.specs.declared.canonical.Canonical.TheVariants.{Cer}
 use Rattle.strict.specs.Head.{HasDefinite}

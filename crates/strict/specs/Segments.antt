@@ -3,9 +3,9 @@ use Rattle.std.specs.Prelude.{◌≡◌, ◌≢◌, ◌↔◌, ◌⊎◌, ◌-�
 use Rattle.octets.specs.Rule.{cer}
 use Rattle.types.specs.Form.{IsPrimitive}
 use Rattle.types.specs.Strings.{segment_octets, AreCerSegments}
-use Rattle.contents.specs.declared.joined.Kind.{Kind}
-use Rattle.contents.specs.declared.joined.Joined.{Joined}
-use Rattle.contents.specs.Joined.{Element, segment_of, string_of, IsHeld, IsWholePiece}
+use Rattle.encoding_parts.specs.declared.joined.Kind.{Kind}
+use Rattle.encoding_parts.specs.declared.joined.Joined.{Joined}
+use Rattle.encoding_parts.specs.Joined.{Element, segment_of, string_of, IsHeld, IsWholePiece}
 use Rattle.strict.specs.Head.{EndsHere}
 use Rattle.strict.specs.Leaf.{HoldsSegment}
 

@@ -6,7 +6,7 @@ ghost use Rattle.octets.specs.declared.TheConstants.{MAX_ENCODING};
 ghost use Rattle.types.specs.FirstTags.{RunsAreDistinct};
 ghost use Rattle.types.specs.Shape.{Shape};
 ghost use Rattle.types.specs.View.{components_view, field_view};
-ghost use Rattle.contents.specs.Parts.{IsGoodType, IsGoodComponent};
+ghost use Rattle.encoding_parts.specs.Parts.{IsGoodType, IsGoodComponent};
 ghost use Rattle.strict.specs.Canonical.{rule_of};
 ghost use Rattle.strict.specs.Bars.{Bars};
 ghost use Rattle.strict.specs.Head.{EndsHere, AreFewer};
@@ -17,9 +17,9 @@ ghost use Rattle.strict.specs.Begun.{IsBegun};
 
 use crate::canonical::Canonical;
 use crate::fronts::{front_tag, is_left_out, is_next, is_spelt_out, left_over, not_next};
-use crate::head::{Inside, named, opened};
+use crate::head::{Inside, opened, refusal_inside};
 use crate::parts::read_one;
-use contents::{clear, take_slots};
+use encoding_parts::{clear, take_slots};
 use octets::{MAX_ENCODING, Tag};
 use std::alloc::Global;
 use types::{Field, Refusal, Value, may_be_absent};
@@ -54,7 +54,7 @@ pub fn read_sequence(
             *slot = Some(Value::Fields(slots));
             Ok(inside.close(used))
         }
-        Err(refusal) => Err(named(rule, inside.room, refusal)),
+        Err(refusal) => Err(refusal_inside(rule, inside.room, refusal)),
     }
 }
 

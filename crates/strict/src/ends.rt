@@ -1,7 +1,7 @@
 //! Where the contents octets of a constructed encoding end.
 
 ghost use Rattle.std.specs.Prelude.{◌≡◌, ◌⊎◌, ◌≤◌, ◌++◌, ℕ, List, length, IfOk, IfErr};
-ghost use Rattle.contents.specs.Segments.{BeginsAboveZero};
+ghost use Rattle.encoding_parts.specs.Segments.{BeginsAboveZero};
 ghost use Rattle.strict.specs.Bars.{Bars};
 ghost use Rattle.strict.specs.Head.{EndsHere, IsEndKnown, AreFewer};
 ghost use Rattle.strict.specs.Refusal.{IsOfStrictReading};

@@ -4,7 +4,7 @@ ghost use Rattle.std.specs.Prelude.{◌≡◌, IsTrue, IfSome, MatchOption};
 ghost use Rattle.octets.specs.Rule.{der};
 ghost use Rattle.types.specs.Leaf.{tag_of, IsLeaf};
 ghost use Rattle.types.specs.View.{ty_view, value_view};
-ghost use Rattle.contents.specs.Contents.{IsFilled};
+ghost use Rattle.encoding_parts.specs.Contents.{IsFilled};
 ghost use Rattle.strict.specs.declared.canonical.Canonical.{Canonical};
 ghost use Rattle.strict.specs.Canonical.{rule_of};
 ghost use Rattle.strict.specs.Leaf.{IsBitsOf, IsBooleanOf, IsSpeltAlike};
@@ -12,7 +12,7 @@ ghost use Rattle.strict.specs.Reading.{IsRead};
 
 use crate::short::short_primitive;
 use crate::values::{has_zeros_unused, read_truth, read_value};
-use contents::{fill, take_bits};
+use encoding_parts::{fill, take_bits};
 use octets::Tag;
 use primitives::read_bits_in;
 use std::alloc::Global;

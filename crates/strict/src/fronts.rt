@@ -5,14 +5,14 @@ ghost use Rattle.types.specs.Conforms.{DiffersFromDefault, MayBeAbsent};
 ghost use Rattle.types.specs.FirstTags.{first_tags};
 ghost use Rattle.types.specs.Refusal.{IsFinal};
 ghost use Rattle.types.specs.View.{ty_view, value_view, requirement_view};
-ghost use Rattle.contents.specs.Parts.{IsSlotOf};
+ghost use Rattle.encoding_parts.specs.Parts.{IsSlotOf};
 ghost use Rattle.strict.specs.Bars.{Bars};
 ghost use Rattle.strict.specs.Components.{IsFront, EndsOrBegins};
 ghost use Rattle.strict.specs.Head.{EndsHere, AreFewer};
 ghost use Rattle.strict.specs.Refusal.{IsOfStrictReading};
 
 use crate::ends::ends;
-use contents::{begins, is_default, not_due, read_head_tag};
+use encoding_parts::{begins, is_default, not_due, read_head_tag};
 use octets::Tag;
 use types::{Field, Presence, Refusal, Ty, Value, may_be_absent};
 

@@ -5,17 +5,17 @@ ghost use Rattle.octets.specs.declared.TheConstants.{MAX_ENCODING, MAX_TAG_NUMBE
 ghost use Rattle.octets.specs.declared.tag.Tag.{Tag};
 ghost use Rattle.octets.specs.Length.{IsLength, IsShortestLength};
 ghost use Rattle.octets.specs.Identifier.{IsIdentifier};
-ghost use Rattle.contents.specs.Head.{IsReadDefinite, IsReadTag, IsTagWithin};
+ghost use Rattle.encoding_parts.specs.Head.{IsReadDefinite, IsReadTag, IsTagWithin};
 ghost use Rattle.strict.specs.Canonical.{rule_of};
 ghost use Rattle.strict.specs.Bars.{Bars, MayFollow};
 ghost use Rattle.strict.specs.Head.{IsDefiniteAt, HasDefinite, IsInsideDefinite, IsOpened, HasConstructed, mark};
 ghost use Rattle.strict.specs.Refusal.{IsOfStrictReading};
-ghost use Rattle.contents.specs.Cut.{IsIdentifierCut, IsLengthCut};
+ghost use Rattle.encoding_parts.specs.Cut.{IsIdentifierCut, IsLengthCut};
 ghost use Rattle.strict.specs.Begun.{IsConstructedCut};
 
 use crate::canonical::Canonical;
 use crate::short::short_opened;
-use contents::{Extent, not_due, read_extent, read_head_tag};
+use encoding_parts::{Extent, not_due, read_extent, read_head_tag};
 use octets::{MAX_ENCODING, Tag};
 use types::Refusal;
 
@@ -146,7 +146,7 @@ fn long_opened(rule: Canonical, tag: Tag, room: usize, octets: &[u8]) -> Result<
                 room: size,
                 definite: true,
             }),
-            Err(refusal) => Err(named(rule, room, refusal)),
+            Err(refusal) => Err(refusal_inside(rule, room, refusal)),
         },
         Canonical::Cer => indefinite(tag, room, octets),
     }
@@ -206,7 +206,7 @@ pub fn is_inside_definite(rule: Canonical, room: usize) -> bool
 
 // Why a part is refused, by what is around it: one that goes on too long passes an end that length octets say, where
 // that has the definite form.
-pub fn named(rule: Canonical, room: usize, refusal: Refusal) -> Refusal
+pub fn refusal_inside(rule: Canonical, room: usize, refusal: Refusal) -> Refusal
     ensures follows { (more : List ℕ) → MayFollow result more → MayFollow refusal more }
     ensures cut { result ≡ Refusal.Truncated → refusal ≡ Refusal.Truncated }
     ensures numbers { IsOfStrictReading refusal → IsOfStrictReading result }

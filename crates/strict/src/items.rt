@@ -6,7 +6,7 @@ ghost use Rattle.std.specs.Cmp.Lexicographic.{slice_cmp};
 ghost use Rattle.octets.specs.declared.TheConstants.{MAX_ENCODING};
 ghost use Rattle.types.specs.Shape.{Shape};
 ghost use Rattle.types.specs.View.{ty_view};
-ghost use Rattle.contents.specs.Parts.{IsGoodType};
+ghost use Rattle.encoding_parts.specs.Parts.{IsGoodType};
 ghost use Rattle.strict.specs.Canonical.{rule_of};
 ghost use Rattle.strict.specs.Bars.{Bars};
 ghost use Rattle.strict.specs.Head.{EndsHere, AreFewer};
@@ -17,9 +17,9 @@ ghost use Rattle.strict.specs.Begun.{IsBegun};
 
 use crate::canonical::Canonical;
 use crate::ends::ends;
-use crate::head::{Inside, named, opened};
+use crate::head::{Inside, opened, refusal_inside};
 use crate::parts::read_one;
-use contents::take_list;
+use encoding_parts::take_list;
 use octets::{MAX_ENCODING, Tag};
 use std::alloc::Global;
 use types::{Refusal, Ty, Value};
@@ -56,7 +56,7 @@ pub fn read_list(
             *slot = Some(Value::Items(items));
             Ok(inside.close(used))
         }
-        Err(refusal) => Err(named(rule, inside.room, refusal)),
+        Err(refusal) => Err(refusal_inside(rule, inside.room, refusal)),
     }
 }
 
@@ -122,7 +122,7 @@ pub fn read_set_of(
             *slot = Some(Value::Items(items));
             Ok(inside.close(used))
         }
-        Err(refusal) => Err(named(rule, inside.room, refusal)),
+        Err(refusal) => Err(refusal_inside(rule, inside.room, refusal)),
     }
 }
 

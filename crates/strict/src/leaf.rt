@@ -6,8 +6,8 @@ ghost use Rattle.octets.specs.declared.TheConstants.{MAX_ENCODING};
 ghost use Rattle.octets.specs.declared.tag.Tag.{Tag};
 ghost use Rattle.types.specs.Leaf.{tag_of, IsLeaf};
 ghost use Rattle.types.specs.View.{ty_view};
-ghost use Rattle.contents.specs.Head.{IsReadTag};
-ghost use Rattle.contents.specs.Parts.{IsGoodType};
+ghost use Rattle.encoding_parts.specs.Head.{IsReadTag};
+ghost use Rattle.encoding_parts.specs.Parts.{IsGoodType};
 ghost use Rattle.strict.specs.Bars.{Bars, MayFollow};
 ghost use Rattle.strict.specs.Refusal.{IsOfStrictReading};
 ghost use Rattle.strict.specs.Canonical.{rule_of};
@@ -19,7 +19,7 @@ use crate::canonical::Canonical;
 use crate::head::{is_inside_definite, is_shortest, read_its_tag, read_size};
 use crate::segments::{SEGMENT_OCTETS, read_cut};
 use crate::values::read_value;
-use contents::{can_have_length, kind_of, unfit};
+use encoding_parts::{can_have_length, contents_refusal, kind_of};
 use octets::{Length, MAX_ENCODING, Tag, read_length};
 use std::alloc::Global;
 use types::{Refusal, Ty, Value};
@@ -138,7 +138,7 @@ fn read_place(
         Err(refusal) => return Err(why(rule, ty, room, &octets[identifier..], refusal)),
     };
     if !can_have_length(ty, size) {
-        return Err(unfit(ty));
+        return Err(contents_refusal(ty));
     }
     if !is_shortest(size, used) || is_to_be_cut(rule, ty, size) {
         return Err(Refusal::NotCanonical);
@@ -169,7 +169,7 @@ fn why(rule: Canonical, ty: &Ty, room: usize, octets: &[u8], refusal: Refusal) -
         return refusal;
     }
     match read_length(octets) {
-        Length::Definite { octets: size, .. } if !can_have_length(ty, size) => unfit(ty),
+        Length::Definite { octets: size, .. } if !can_have_length(ty, size) => contents_refusal(ty),
         _ => refusal,
     }
 }

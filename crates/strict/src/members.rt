@@ -7,7 +7,7 @@ ghost use Rattle.octets.specs.declared.tag.Tag.{Tag as TagOf};
 ghost use Rattle.types.specs.FirstTags.{AreDistinct, tags_of_components};
 ghost use Rattle.types.specs.Shape.{Shape};
 ghost use Rattle.types.specs.View.{field_view, components_view};
-ghost use Rattle.contents.specs.Parts.{IsGoodType, IsGoodComponent};
+ghost use Rattle.encoding_parts.specs.Parts.{IsGoodType, IsGoodComponent};
 ghost use Rattle.strict.specs.Canonical.{rule_of};
 ghost use Rattle.strict.specs.Bars.{Bars};
 ghost use Rattle.strict.specs.Head.{EndsHere, AreFewer};
@@ -19,10 +19,10 @@ ghost use Rattle.strict.specs.Begun.{IsBegun};
 use crate::canonical::Canonical;
 use crate::components::read_present;
 use crate::fronts::front_tag;
-use crate::head::{Inside, named, opened};
+use crate::head::{Inside, opened, refusal_inside};
 use crate::places::{are_filled, place_due};
 use crate::tags::{comes_behind, order_tag};
-use contents::empty_slots;
+use encoding_parts::empty_slots;
 use octets::{MAX_ENCODING, Tag};
 use std::alloc::Global;
 use types::{Field, Refusal, Value};
@@ -63,7 +63,7 @@ pub fn read_set(
             *slot = Some(Value::Fields(slots));
             Ok(inside.close(used))
         }
-        Err(refusal) => Err(named(rule, inside.room, refusal)),
+        Err(refusal) => Err(refusal_inside(rule, inside.room, refusal)),
     }
 }
 

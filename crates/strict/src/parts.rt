@@ -4,7 +4,7 @@ ghost use Rattle.std.specs.Prelude.{◌-◌, ◌≤◌, drop, IfOk, IfErr, ◌�
 ghost use Rattle.octets.specs.declared.TheConstants.{MAX_ENCODING};
 ghost use Rattle.types.specs.Shape.{Shape};
 ghost use Rattle.types.specs.View.{alternatives_view, ty_view};
-ghost use Rattle.contents.specs.Parts.{IsGoodType};
+ghost use Rattle.encoding_parts.specs.Parts.{IsGoodType};
 ghost use Rattle.strict.specs.Canonical.{rule_of};
 ghost use Rattle.strict.specs.Bars.{Bars};
 ghost use Rattle.strict.specs.Head.{EndsHere, AreFewer};
@@ -16,11 +16,11 @@ use crate::canonical::Canonical;
 use crate::components::read_sequence;
 use crate::filling::read_shortly;
 use crate::fronts::front_tag;
-use crate::head::{Inside, named, opened};
+use crate::head::{Inside, opened, refusal_inside};
 use crate::items::{read_list, read_set_of};
 use crate::leaf::read_leaf;
 use crate::members::read_set;
-use contents::{by_tag, not_due, put_chosen, read_head_tag, take_chosen};
+use encoding_parts::{by_tag, not_due, put_chosen, read_head_tag, take_chosen};
 use octets::{MAX_ENCODING, Tag};
 use std::alloc::Global;
 use types::{Alternative, Refusal, Ty, Value};
@@ -143,7 +143,7 @@ fn read_explicit(
     let behind = &octets[inside.start..];
     match read_alone(alloc, rule, inner, &inside, behind, slot) {
         Ok(used) => Ok(inside.close(used)),
-        Err(refusal) => Err(named(rule, inside.room, refusal)),
+        Err(refusal) => Err(refusal_inside(rule, inside.room, refusal)),
     }
 }
 

@@ -7,7 +7,7 @@ ghost use Rattle.types.specs.View.{field_view, components_view};
 ghost use Rattle.strict.specs.Members.{IsBegunAt, IsEmptyAt, AreFilled};
 ghost use Rattle.strict.specs.Refusal.{IsOfStrictReading};
 
-use contents::{begins, not_due};
+use encoding_parts::{begins, not_due};
 use octets::Tag;
 use types::{Field, Refusal, Value, may_be_absent};
 

@@ -3,7 +3,7 @@
 ghost use Rattle.std.specs.Prelude.{◌↔◌, ⊤, IsTrue, MatchOption};
 ghost use Rattle.octets.specs.Tag.{ComesBefore};
 ghost use Rattle.types.specs.View.{ty_view};
-ghost use Rattle.contents.specs.Parts.{IsGoodType};
+ghost use Rattle.encoding_parts.specs.Parts.{IsGoodType};
 ghost use Rattle.strict.specs.Canonical.{rule_of};
 ghost use Rattle.strict.specs.Members.{IsOrderTagOf};
 

@@ -8,17 +8,17 @@ ghost use Rattle.types.specs.Leaf.{IsLeaf};
 ghost use Rattle.types.specs.Refusal.{IsFinal};
 ghost use Rattle.types.specs.Shape.{Val};
 ghost use Rattle.types.specs.View.{ty_view, value_view};
-ghost use Rattle.contents.specs.Contents.{HoldsNoValue, HoldsValue};
+ghost use Rattle.encoding_parts.specs.Contents.{HoldsNoValue, HoldsValue};
 ghost use Rattle.strict.specs.Leaf.{IsBitString, IsBooleanOf, IsOfSpelling, bits_view};
 
-use contents::read_contents;
+use encoding_parts::read_contents;
 use primitives::{Bits, Fault, read_bits};
 use std::alloc::Global;
 use types::{Refusal, Ty, Value, conforms};
 
 // The value of a type without parts that the contents octets are, as CER and DER have them (X.690 11.1 and 11.2).
 //
-// Refused as `contents::read_contents` does where they are those of no value, and with `NotCanonical` where they are,
+// Refused as `encoding_parts::read_contents` does where they are those of no value, and with `NotCanonical` where they are,
 // but not as the rules have them.
 pub fn read_value(alloc: Global, ty: &Ty, contents: &[u8]) -> Result<Value, Refusal>
     requires { IsLeaf (ty_view ty.now) }

@@ -1,8 +1,8 @@
 //! What the strict readers answer to octets that stand behind a value, and to octets of BER alone.
 
-use crate::given::comes_to;
-use crate::made::{OctetsTable, check_octets};
 use crate::rows::two;
+use crate::type_notation::{OctetsTable, check_octets};
+use crate::value_notation::comes_to;
 use std::alloc::Global;
 use std::test::Fail;
 use strict::{read_cer, read_der};

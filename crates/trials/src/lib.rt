@@ -1,25 +1,18 @@
-//! Tests of the crates that have, read and write values, of each by itself, through what it offers: `octets` (`headed`),
-//! `primitives` (`primitive`), `strings` (`lettered`), `types` (`typed`), `contents` (`by_parts`), `whole` (`at_once`),
-//! `berreader` (`reading`), `canon` (`writing`), `strict` (`canonical`) and `texts` (`shown`). Their tables are texts
-//! (`rows`), in which types (`made`) and values (`given`) have a short notation.
+//! Tests of the crates that have, read and write values, of each by itself, through what it offers: `octets`
+//! (`identifiers_and_lengths`), `primitives` (`primitive`), `strings` (`strings_and_times`), `types` (`typed`),
+//! `encoding_parts` (`one_encoding`), `berslice` (`whole_values`), `berreader` (`reading`), `canon` (`writing`),
+//! `strict` (`canonical`) and `texts` (`shown`). Their tables are texts (`rows`), in which types (`type_notation`) and
+//! values (`value_notation`) have a short notation.
 //!
 //! They stand here and not in those crates, since the check of a crate's tests proves the crate once more.
 #![tactic(auto)]
 
 #[cfg(test)]
-mod at_once;
-#[cfg(test)]
-mod by_parts;
-#[cfg(test)]
 mod canonical;
 #[cfg(test)]
-mod given;
+mod identifiers_and_lengths;
 #[cfg(test)]
-mod headed;
-#[cfg(test)]
-mod lettered;
-#[cfg(test)]
-mod made;
+mod one_encoding;
 #[cfg(test)]
 mod primitive;
 #[cfg(test)]
@@ -29,6 +22,14 @@ mod rows;
 #[cfg(test)]
 mod shown;
 #[cfg(test)]
+mod strings_and_times;
+#[cfg(test)]
+mod type_notation;
+#[cfg(test)]
 mod typed;
+#[cfg(test)]
+mod value_notation;
+#[cfg(test)]
+mod whole_values;
 #[cfg(test)]
 mod writing;

@@ -1,7 +1,7 @@
 //! Contents octets of the types without parts, as BER reads them.
 
-use crate::given::is_value;
 use crate::rows::{Table, check, four, octets_of};
+use crate::value_notation::is_value;
 use primitives::{
     Bits, Fault, put_bits, put_boolean, put_integer, put_null, put_oid, put_relative_oid,
     read_bits, read_boolean, read_integer, read_null, read_oid, read_relative_oid,

@@ -2,9 +2,9 @@
 
 ghost use Rattle.std.specs.Prelude.{◌≤◌};
 
-use crate::given::comes_to;
-use crate::made::{OctetsTable, check_octets, typed};
 use crate::rows::{not_so, numbered, octets_of, prints, rows_of, three};
+use crate::type_notation::{OctetsTable, check_octets, typed};
+use crate::value_notation::comes_to;
 use berreader::{Reader, Step, read};
 use std::alloc::Global;
 use std::iter::once;

@@ -1,7 +1,7 @@
 //! Texts of values that are longer than any encoding.
 
-use crate::given::{ValuesTable, check_values};
 use crate::rows::octets_of;
+use crate::value_notation::{ValuesTable, check_values};
 use std::alloc::Global;
 use std::test::Fail;
 use texts::show;

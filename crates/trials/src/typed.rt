@@ -6,8 +6,8 @@ mod good_defaults;
 mod limits;
 mod refusals;
 
-use crate::made::ty_of;
 use crate::rows::{Table, two};
+use crate::type_notation::ty_of;
 use std::alloc::Global;
 use std::test::Fail;
 use types::{Ty, WellTyped};

@@ -53,11 +53,11 @@ mod shown_use;
 #[cfg(test)]
 mod spellings;
 #[cfg(test)]
+mod steps;
+#[cfg(test)]
 mod streamed;
 #[cfg(test)]
 mod tags;
-#[cfg(test)]
-mod told;
 #[cfg(test)]
 mod types_by_name;
 #[cfg(test)]

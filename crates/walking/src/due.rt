@@ -2,7 +2,7 @@
 
 use crate::open::{Due, Held};
 use crate::{Part, Reason, Step, Stop, Walk};
-use contents::{Kind, begins, is_node, node_of, not_due, segment_tag};
+use encoding_parts::{Kind, begins, is_node, node_of, not_due, segment_tag};
 use octets::Tag;
 use types::{Refusal, Value};
 

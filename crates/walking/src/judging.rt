@@ -11,7 +11,7 @@ ghost use Rattle.types.specs.View.{ty_view, value_view};
 
 use crate::Reason;
 use crate::times::why_no_time;
-use contents::read_contents;
+use encoding_parts::read_contents;
 use primitives::read_integer;
 use std::alloc::Global;
 use strings::{TextKind, TimeKind, allowed, is_time};

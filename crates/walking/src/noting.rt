@@ -4,8 +4,8 @@ use crate::opening::Opening;
 use crate::order::order_tag;
 use crate::walk::behind;
 use crate::{Note, Notes, Walk};
-use contents::{Kind, kind_of};
 use cutting::Ends;
+use encoding_parts::{Kind, kind_of};
 use strict::Canonical;
 use types::Ty;
 

@@ -1,7 +1,9 @@
 //! The open encodings of a walk.
 
 use crate::{Part, Step};
-use contents::{Frame, Kind, Seats, kind_of, next_due, only_due, seat_due, seats_of};
+use encoding_parts::{
+    Frame, Kind, SetComponents, kind_of, next_due, only_due, set_component_due, set_components_of,
+};
 use octets::{NoMemory, Tag};
 use std::alloc::Global;
 use types::{Field, Presence, Refusal, Ty, Value, may_be_absent};
@@ -35,7 +37,7 @@ pub enum Held<'a> {
     /// The components of a SEQUENCE that stand behind the one that came last.
     Sequence(&'a [Field]),
     /// The components of a SET.
-    Set(Seats<'a>),
+    Set(SetComponents<'a>),
     /// Segments of a string.
     Segments(Kind),
 }
@@ -57,9 +59,9 @@ impl<'a> Held<'a> {
         Ok(match node {
             Ty::Sequence(_, fields) => Some(Held::Sequence(fields)),
             Ty::Set(_, fields) => {
-                let each = seats_of(alloc, fields)?;
+                let each = set_components_of(alloc, fields)?;
                 let behind = 0;
-                Some(Held::Set(Seats { each, behind }))
+                Some(Held::Set(SetComponents { each, behind }))
             }
             Ty::SequenceOf(_, inner) | Ty::SetOf(_, inner) => Some(Held::Items(inner)),
             Ty::Explicit(_, inner) => Some(Held::Explicit(Some(inner))),
@@ -82,7 +84,7 @@ impl<'a> Open<'a> {
             Held::Explicit(inner) => take_inner(inner, tag, outer),
             Held::Items(ty) => take_item(ty, tag, item),
             Held::Sequence(left) => take_next(left, tag),
-            Held::Set(seats) => take_seat(seats, tag),
+            Held::Set(set_components) => take_set_component(set_components, tag),
         }
     }
 
@@ -91,7 +93,7 @@ impl<'a> Open<'a> {
         match &self.held {
             Held::Segments(_) | Held::Explicit(_) | Held::Items(_) => None,
             Held::Sequence(left) => missing_in(left),
-            Held::Set(seats) => missing_seat(seats),
+            Held::Set(set_components) => missing_set_component(set_components),
         }
     }
 }
@@ -126,14 +128,17 @@ fn take_next<'a>(left: &mut &'a [Field], tag: Tag) -> Result<Due<'a>, Refusal> {
     Ok(due_field(before.last(), ty))
 }
 
-fn take_seat<'a>(seats: &mut Seats<'a>, tag: Tag) -> Result<Due<'a>, Refusal> {
-    let (which, ty) = seat_due(&seats.each, seats.behind, tag)?;
-    seats.behind = which.saturating_add(1);
-    let Some(seat) = seats.each.get_mut(which) else {
+fn take_set_component<'a>(
+    set_components: &mut SetComponents<'a>,
+    tag: Tag,
+) -> Result<Due<'a>, Refusal> {
+    let (which, ty) = set_component_due(&set_components.each, set_components.behind, tag)?;
+    set_components.behind = which.saturating_add(1);
+    let Some(set_component) = set_components.each.get_mut(which) else {
         return Err(Refusal::Identifier);
     };
-    seat.came = true;
-    Ok(due_field(Some(seat.field), ty))
+    set_component.came = true;
+    Ok(due_field(Some(set_component.field), ty))
 }
 
 fn due_field<'a>(field: Option<&'a Field>, ty: &'a Ty) -> Due<'a> {
@@ -167,10 +172,10 @@ fn missing_in<'a>(left: &'a [Field]) -> Option<&'a str> {
     None
 }
 
-fn missing_seat<'a>(seats: &Seats<'a>) -> Option<&'a str> {
-    for seat in &seats.each {
-        if !seat.came && !may_be_absent(&seat.field.presence) {
-            return Some(seat.field.name.as_str());
+fn missing_set_component<'a>(set_components: &SetComponents<'a>) -> Option<&'a str> {
+    for set_component in &set_components.each {
+        if !set_component.came && !may_be_absent(&set_component.field.presence) {
+            return Some(set_component.field.name.as_str());
         }
     }
     None

@@ -2,10 +2,10 @@
 
 use crate::walk::behind;
 use crate::{Reason, Stop, Walk};
-use contents::{Extent, can_have_length, kind_of, read_extent, unfit};
+use berslice::MAX_NESTED;
+use encoding_parts::{Extent, can_have_length, contents_refusal, kind_of, read_extent};
 use octets::{Length, read_length};
 use types::Refusal;
-use whole::MAX_NESTED;
 
 /// Identifier octets and length octets that have been read.
 #[derive(Clone, Copy, Debug)]
@@ -90,7 +90,12 @@ impl<'a> Walk<'a> {
         if refusal == Refusal::TooLong && !self.is_inside_definite() && !self.is_in_string() {
             if let Length::Definite { octets, .. } = read_length(lengths) {
                 if part.node.has_no_parts() && !can_have_length(part.node, octets) {
-                    return Stop::of(part, unfit(part.node), at, Reason::Count(part.node, octets));
+                    return Stop::of(
+                        part,
+                        contents_refusal(part.node),
+                        at,
+                        Reason::Count(part.node, octets),
+                    );
                 }
             }
         }
@@ -114,7 +119,12 @@ impl<'a> Walk<'a> {
         }
         let at = self.taken.saturating_add(opening.identifier);
         if !self.is_in_string() && !can_have_length(part.node, count) {
-            return Err(Stop::of(*part, unfit(part.node), at, Reason::Count(part.node, count)));
+            return Err(Stop::of(
+                *part,
+                contents_refusal(part.node),
+                at,
+                Reason::Count(part.node, count),
+            ));
         }
         let there = rest.len().saturating_sub(opening.head());
         if count > there {

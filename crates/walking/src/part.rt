@@ -1,6 +1,6 @@
 //! Which part of what holds it an encoding is, and how it is named.
 
-use contents::begins;
+use encoding_parts::begins;
 use itoa::Buffer;
 use octets::{NoMemory, Tag};
 use std::string::String;

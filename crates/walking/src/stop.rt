@@ -1,7 +1,7 @@
 //! Where a walk stops, and why.
 
 use crate::{Part, Reason};
-use contents::named;
+use encoding_parts::refusal_inside;
 use types::Refusal;
 
 /// Why a walk stops.
@@ -45,9 +45,9 @@ impl<'a> Stop<'a> {
         Stop::outside(Refusal::NoMemory, at, Reason::Words("memory ran out"))
     }
 
-    /// The stop as it is named where an encoding around it has the definite form.
-    pub fn named(self, inside_definite: bool) -> Stop<'a> {
-        let refusal = named(inside_definite, self.refusal);
+    /// The stop as it is where an encoding around it has the definite form.
+    pub fn inside(self, inside_definite: bool) -> Stop<'a> {
+        let refusal = refusal_inside(inside_definite, self.refusal);
         let reason = if refusal == self.refusal {
             self.reason
         } else {

@@ -5,7 +5,7 @@ use crate::open::{Held, Open};
 use crate::opening::Opening;
 use crate::walk::behind;
 use crate::{Note, Notes, Reason, Stop, Walk, What};
-use contents::{Frame, Kind, kind_of};
+use encoding_parts::{Frame, Kind, kind_of};
 use octets::NoMemory;
 use primitives::read_bits;
 use types::{Refusal, Value};

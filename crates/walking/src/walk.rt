@@ -5,13 +5,13 @@ ghost use Rattle.std.specs.Prelude.{◌≤◌};
 use crate::judging::{is_string, why_no_value};
 use crate::open::{Held, Open};
 use crate::{Line, Notes, Part, Reason, Step, Stop, What};
-use contents::{Joined, OUTSIDE, read_end, read_head_tag, unfit};
+use berslice::MAX_NESTED;
+use encoding_parts::{Joined, OUTSIDE, contents_refusal, read_end, read_head_tag};
 use octets::{MAX_ENCODING, NoMemory, Tag};
 use std::alloc::Global;
 use std::string::String;
 use strict::Canonical;
 use types::{Refusal, Ty, WellTyped};
-use whole::MAX_NESTED;
 
 /// A walk over the octets of a value, and then of the next one, in the same room.
 #[derive(Drop)]
@@ -118,7 +118,7 @@ impl<'a> Walk<'a> {
             Some(used) => self.end(used)?,
             None => match self.part(octets, rest) {
                 Ok(()) => {}
-                Err(stop) => return Err(stop.named(self.is_inside_definite())),
+                Err(stop) => return Err(stop.inside(self.is_inside_definite())),
             },
         }
         Ok(true)
@@ -200,7 +200,7 @@ impl<'a> Walk<'a> {
             return Ok(());
         }
         let (_, reason) = why_no_value(part.node, octets.as_slice());
-        Err(Stop::of(part, unfit(part.node), self.taken, reason))
+        Err(Stop::of(part, contents_refusal(part.node), self.taken, reason))
     }
 
     // Whether the innermost open encoding is a string's.

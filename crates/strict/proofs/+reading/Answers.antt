@@ -11,8 +11,8 @@ use Rattle.types.specs.declared.ty.Ty as node
 use Rattle.types.specs.declared.ty.Field as field
 use Rattle.types.specs.declared.ty.Alternative as alternative
 use Rattle.types.proofs.LimitLemmas.{alternative_type}
-use Rattle.contents.specs.Parts.{IsGoodType, IsSlotOf}
-use Rattle.contents.specs.Segments.{BeginsAboveZero}
+use Rattle.encoding_parts.specs.Parts.{IsGoodType, IsSlotOf}
+use Rattle.encoding_parts.specs.Segments.{BeginsAboveZero}
 use Rattle.strict.specs.Canonical.{rule_of}
 use Rattle.strict.specs.Bars.{Bars}
 use Rattle.strict.specs.Head.{EndsHere, IsEndKnown, HasConstructed}
@@ -196,7 +196,7 @@ items::read_list-returns-in-Err-clause-refused t c =
     let inside = c.in_ok-inside.inside in
     let Q = HasPart rule (Shape.sequence_of c.args.tag type) c.args.room in
     let P = HasItems rule type inside.definite inside.room in
-    bars_inside c.in-Err.refusal c.named.result Q P octets inside.start c.named.ensures.follows (λ more h. items_inside rule c.args.tag type c.args.room octets more inside c.in_ok-inside.ensures.value h) c.in-Err.ensures.refused
+    bars_inside c.in-Err.refusal c.refusal_inside.result Q P octets inside.start c.refusal_inside.ensures.follows (λ more h. items_inside rule c.args.tag type c.args.room octets more inside c.in_ok-inside.ensures.value h) c.in-Err.ensures.refused
 
 pub items::read_set_of-returns-in-Ok-clause-value : goal.items::read_set_of-returns-in-Ok-clause-value
 items::read_set_of-returns-in-Ok-clause-value t c =
@@ -217,7 +217,7 @@ items::read_set_of-returns-in-Err-clause-refused t c =
     let inside = c.in_ok-inside.inside in
     let Q = HasPart rule (Shape.set_of c.args.tag type) c.args.room in
     let P = HasOrdered rule type inside.definite inside.room [] in
-    bars_inside c.in-Err.refusal c.named.result Q P octets inside.start c.named.ensures.follows (λ more h. ordered_inside c.args.rule c.args.tag type c.args.room octets more inside c.in_ok-inside.ensures.value h) c.in-Err.ensures.refused
+    bars_inside c.in-Err.refusal c.refusal_inside.result Q P octets inside.start c.refusal_inside.ensures.follows (λ more h. ordered_inside c.args.rule c.args.tag type c.args.room octets more inside c.in_ok-inside.ensures.value h) c.in-Err.ensures.refused
 
 pub parts::read_chosen-returns-in_default-clause-refused : goal.parts::read_chosen-returns-in_default-clause-refused
 parts::read_chosen-returns-in_default-clause-refused t c = λ more may h.
@@ -302,7 +302,7 @@ parts::read_explicit-returns-in-Err-clause-refused t c =
     let inside = c.in_ok-inside.inside in
     let Q = HasPart rule (Shape.explicit c.args.tag type) c.args.room in
     let P = HasAlone rule type inside.definite inside.room in
-    bars_inside c.in-Err.refusal c.named.result Q P octets inside.start c.named.ensures.follows (λ more h. alone_inside rule c.args.tag type c.args.room octets more inside c.in_ok-inside.ensures.value h) c.in-Err.ensures.refused
+    bars_inside c.in-Err.refusal c.refusal_inside.result Q P octets inside.start c.refusal_inside.ensures.follows (λ more h. alone_inside rule c.args.tag type c.args.room octets more inside c.in_ok-inside.ensures.value h) c.in-Err.ensures.refused
 
 pub components::read_sequence-read_components-requires : goal.components::read_sequence-read_components-requires
 components::read_sequence-read_components-requires t c =
@@ -329,7 +329,7 @@ components::read_sequence-returns-in-Err-clause-refused t c =
     let inside = c.in_ok-inside.inside in
     let Q = HasPart rule (Shape.sequence c.args.tag (components_view c.args.fields.now)) c.args.room in
     let P = HasComponents rule components inside.definite inside.room in
-    bars_inside c.in-Err.refusal c.named.result Q P octets inside.start c.named.ensures.follows (λ more h. components_inside rule c.args.tag components c.args.room octets more inside c.in_ok-inside.ensures.value h) c.in-Err.ensures.refused
+    bars_inside c.in-Err.refusal c.refusal_inside.result Q P octets inside.start c.refusal_inside.ensures.follows (λ more h. components_inside rule c.args.tag components c.args.room octets more inside c.in_ok-inside.ensures.value h) c.in-Err.ensures.refused
 
 pub components::read_components-loop-place-init : goal.components::read_components-loop-place-init
 components::read_components-loop-place-init t c =
@@ -599,7 +599,7 @@ items::read_list-returns-in_err-inside-clause-cut t c =
 
 pub items::read_list-returns-in-Err-clause-cut : goal.items::read_list-returns-in-Err-clause-cut
 items::read_list-returns-in-Err-clause-cut t c = λ same.
-    begun_around c.args.rule (Shape.sequence_of c.args.tag (ty_view c.args.inner.now)) c.args.tag c.args.room c.args.octets.now c.in_ok-inside.inside (refl, refl) tt c.in_ok-inside.ensures.value (c.in-Err.ensures.cut (c.named.ensures.cut same))
+    begun_around c.args.rule (Shape.sequence_of c.args.tag (ty_view c.args.inner.now)) c.args.tag c.args.room c.args.octets.now c.in_ok-inside.inside (refl, refl) tt c.in_ok-inside.ensures.value (c.in-Err.ensures.cut (c.refusal_inside.ensures.cut same))
 
 pub items::read_set_of-returns-in_err-inside-clause-cut : goal.items::read_set_of-returns-in_err-inside-clause-cut
 items::read_set_of-returns-in_err-inside-clause-cut t c =
@@ -607,7 +607,7 @@ items::read_set_of-returns-in_err-inside-clause-cut t c =
 
 pub items::read_set_of-returns-in-Err-clause-cut : goal.items::read_set_of-returns-in-Err-clause-cut
 items::read_set_of-returns-in-Err-clause-cut t c = λ same.
-    begun_around c.args.rule (Shape.set_of c.args.tag (ty_view c.args.inner.now)) c.args.tag c.args.room c.args.octets.now c.in_ok-inside.inside (refl, refl) tt c.in_ok-inside.ensures.value (c.in-Err.ensures.cut (c.named.ensures.cut same))
+    begun_around c.args.rule (Shape.set_of c.args.tag (ty_view c.args.inner.now)) c.args.tag c.args.room c.args.octets.now c.in_ok-inside.inside (refl, refl) tt c.in_ok-inside.ensures.value (c.in-Err.ensures.cut (c.refusal_inside.ensures.cut same))
 
 pub parts::read_explicit-returns-in_err-inside-clause-cut : goal.parts::read_explicit-returns-in_err-inside-clause-cut
 parts::read_explicit-returns-in_err-inside-clause-cut t c =
@@ -615,7 +615,7 @@ parts::read_explicit-returns-in_err-inside-clause-cut t c =
 
 pub parts::read_explicit-returns-in-Err-clause-cut : goal.parts::read_explicit-returns-in-Err-clause-cut
 parts::read_explicit-returns-in-Err-clause-cut t c = λ same.
-    begun_around c.args.rule (Shape.explicit c.args.tag (ty_view c.args.inner.now)) c.args.tag c.args.room c.args.octets.now c.in_ok-inside.inside (refl, refl) tt c.in_ok-inside.ensures.value (c.in-Err.ensures.cut (c.named.ensures.cut same))
+    begun_around c.args.rule (Shape.explicit c.args.tag (ty_view c.args.inner.now)) c.args.tag c.args.room c.args.octets.now c.in_ok-inside.inside (refl, refl) tt c.in_ok-inside.ensures.value (c.in-Err.ensures.cut (c.refusal_inside.ensures.cut same))
 
 pub components::read_sequence-returns-in_err-inside-clause-cut : goal.components::read_sequence-returns-in_err-inside-clause-cut
 components::read_sequence-returns-in_err-inside-clause-cut t c =
@@ -623,7 +623,7 @@ components::read_sequence-returns-in_err-inside-clause-cut t c =
 
 pub components::read_sequence-returns-in-Err-clause-cut : goal.components::read_sequence-returns-in-Err-clause-cut
 components::read_sequence-returns-in-Err-clause-cut t c = λ same.
-    begun_around c.args.rule (Shape.sequence c.args.tag (components_view c.args.fields.now)) c.args.tag c.args.room c.args.octets.now c.in_ok-inside.inside (refl, refl) tt c.in_ok-inside.ensures.value (c.in-Err.ensures.cut (c.named.ensures.cut same))
+    begun_around c.args.rule (Shape.sequence c.args.tag (components_view c.args.fields.now)) c.args.tag c.args.room c.args.octets.now c.in_ok-inside.inside (refl, refl) tt c.in_ok-inside.ensures.value (c.in-Err.ensures.cut (c.refusal_inside.ensures.cut same))
 
 pub members::read_set-returns-in_err-inside-clause-cut : goal.members::read_set-returns-in_err-inside-clause-cut
 members::read_set-returns-in_err-inside-clause-cut = set.members::read_set-returns-in_err-inside-clause-cut

@@ -1,7 +1,7 @@
 //! Which values a type has.
 
-use crate::given::{ValuesTable, check_values};
 use crate::rows::is_yes;
+use crate::value_notation::{ValuesTable, check_values};
 use std::alloc::Global;
 use std::test::Fail;
 use types::{Value, WellTyped, conforms};

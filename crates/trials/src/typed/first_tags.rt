@@ -1,8 +1,8 @@
 //! The tags that tell the parts of a type apart (X.680 25.6, 27.3 and 29.3).
 
 use super::Faults;
-use crate::made::ty_of;
 use crate::rows::{Table, check, prints, two};
+use crate::type_notation::ty_of;
 use std::alloc::Global;
 use std::test::Fail;
 

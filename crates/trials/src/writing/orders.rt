@@ -1,7 +1,7 @@
 //! Values that are the same, and values in order.
 
-use crate::given::{ValuesTable, check_values, is_value, value_of};
 use crate::rows::{is_yes, two};
+use crate::value_notation::{ValuesTable, check_values, is_value, value_of};
 use canon::{order, same};
 use octets::NoMemory;
 use std::alloc::Global;

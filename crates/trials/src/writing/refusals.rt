@@ -1,7 +1,7 @@
 //! Encodings at the limit of 1,048,576 octets and past it.
 
-use crate::given::{ValuesTable, check_values};
 use crate::rows::two;
+use crate::value_notation::{ValuesTable, check_values};
 use canon::{Canon, Cer, Der};
 use std::alloc::Global;
 use std::test::Fail;

@@ -18,11 +18,11 @@ returns-in-Ok-clause-sound c =
 
 pub returns-in-Err-clause-truncated : goal.returns-in-Err-clause-truncated
 returns-in-Err-clause-truncated c = λ same f.
-    cannot c.args.nest.now c.args.string.now c.args.octets.now c.requires.nest (c.in-Err.ensures.truncated (ap Err (c.named.ensures.truncated (cc same)))) f
+    cannot c.args.nest.now c.args.string.now c.args.octets.now c.requires.nest (c.in-Err.ensures.truncated (ap Err (c.refusal_inside.ensures.truncated (cc same)))) f
 
 pub returns-in-Err-clause-never : goal.returns-in-Err-clause-never
 returns-in-Err-clause-never c = λ final more f.
-    cannot c.args.nest.now c.args.string.now (c.args.octets.now ++ more) c.requires.nest (c.in-Err.ensures.never (c.named.ensures.never final) more) f
+    cannot c.args.nest.now c.args.string.now (c.args.octets.now ++ more) c.requires.nest (c.in-Err.ensures.never (c.refusal_inside.ensures.never final) more) f
 
 pub returns-in-Err-clause-cut : goal.returns-in-Err-clause-cut
-returns-in-Err-clause-cut c = λ same. c.in-Err.ensures.cut (ap Err (c.named.ensures.truncated (cc same)))
+returns-in-Err-clause-cut c = λ same. c.in-Err.ensures.cut (ap Err (c.refusal_inside.ensures.truncated (cc same)))

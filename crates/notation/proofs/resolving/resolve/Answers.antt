@@ -2,7 +2,7 @@ use Rattle.std.proofs.Common.{◌≡◌, Some, Result, IfOk, IfErr, map, sym, su
 use Rattle.types.specs.View.{ty_view}
 use Rattle.syntax.specs.View.{tree}
 use Rattle.syntax.specs.declared.tree.Module.{Module}
-use Rattle.builtin.specs.Names.{IsFirstRepeat}
+use Rattle.builtin_types.specs.Names.{IsFirstRepeat}
 use Rattle.notation.specs.Known.{StandsAt, IsNewScope}
 use Rattle.notation.specs.Settled.{place_in, IsSettled}
 use Rattle.notation.specs.Weighed.{AreWeighed}

@@ -9,7 +9,7 @@ use Rattle.types.specs.Shape.{Shape}
 use Rattle.types.specs.View.{field_view, components_view}
 use Rattle.types.specs.declared.ty.Ty as node
 use Rattle.types.specs.declared.ty.Field as field
-use Rattle.contents.specs.Parts.{IsGoodType, IsGoodComponent}
+use Rattle.encoding_parts.specs.Parts.{IsGoodType, IsGoodComponent}
 use Rattle.strict.specs.Canonical.{rule_of}
 use Rattle.strict.specs.Head.{EndsHere, HasConstructed}
 use Rattle.strict.specs.Reading.{HasPart}
@@ -268,7 +268,7 @@ members::read_set-returns-in-Err-clause-refused t c =
     let inside = c.in_ok-inside.inside in
     let Q = HasPart rule (Shape.set c.args.tag (components_view c.args.fields.now)) c.args.room in
     let P = HasMembers rule components (map (λ k. None) components) None inside.definite inside.room in
-    bars_inside c.in-Err.refusal c.named.result Q P octets inside.start c.named.ensures.follows (λ more h. members_inside c.args.rule c.args.tag components c.args.room octets more inside c.in_ok-inside.ensures.value h) c.in-Err.ensures.refused
+    bars_inside c.in-Err.refusal c.refusal_inside.result Q P octets inside.start c.refusal_inside.ensures.follows (λ more h. members_inside c.args.rule c.args.tag components c.args.room octets more inside c.in_ok-inside.ensures.value h) c.in-Err.ensures.refused
 
 pub members::read_set-returns-in_err-inside-clause-cut : goal.members::read_set-returns-in_err-inside-clause-cut
 members::read_set-returns-in_err-inside-clause-cut t c =
@@ -276,7 +276,7 @@ members::read_set-returns-in_err-inside-clause-cut t c =
 
 pub members::read_set-returns-in-Err-clause-cut : goal.members::read_set-returns-in-Err-clause-cut
 members::read_set-returns-in-Err-clause-cut t c = λ same.
-    begun_around c.args.rule (Shape.set c.args.tag (components_view c.args.fields.now)) c.args.tag c.args.room c.args.octets.now c.in_ok-inside.inside (refl, refl) tt c.in_ok-inside.ensures.value (c.in-Err.ensures.cut (c.named.ensures.cut same))
+    begun_around c.args.rule (Shape.set c.args.tag (components_view c.args.fields.now)) c.args.tag c.args.room c.args.octets.now c.in_ok-inside.inside (refl, refl) tt c.in_ok-inside.ensures.value (c.in-Err.ensures.cut (c.refusal_inside.ensures.cut same))
 
 pub members::read_members-returns-in_err-tag-clause-cut : goal.members::read_members-returns-in_err-tag-clause-cut
 members::read_members-returns-in_err-tag-clause-cut t c = cut_behind c.from_residual.result _ c.args.inside.now c.loop-tag.at c.args.octets.now c.from_residual.ensures.1 c.loop-tag.invariant.within c.loop-tag.invariant.there c.in_err-tag.ensures.cut

@@ -3,7 +3,7 @@ use Rattle.std.proofs.lemmas.List.{take_rest, length-take-le}
 use Rattle.octets.specs.Identifier.{IsIdentifier}
 use Rattle.octets.proofs.FrontLemmas.{front_of_more}
 use Rattle.types.proofs.NestingLemmas.{no_length-128}
-use Rattle.contents.specs.Head.{IsTagWithin, IsExtentWithin, IsReadDefinite, IsReadIndefinite}
+use Rattle.encoding_parts.specs.Head.{IsTagWithin, IsExtentWithin, IsReadDefinite, IsReadIndefinite}
 use Rattle.strict.specs.Head.{HasDefinite}
 use Rattle.strict.proofs.BarsLemmas.{bars_of, bars_by, bars_through}
 use Rattle.strict.proofs.HeadLemmas.{tag_of_definite, form_of_definite, behind_identifier, its_length, shortest_of, definite_at}

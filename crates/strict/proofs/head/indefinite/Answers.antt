@@ -4,7 +4,7 @@ use Rattle.octets.specs.Identifier.{IsIdentifier}
 use Rattle.octets.specs.Rule.{cer}
 use Rattle.octets.proofs.FrontLemmas.{front_of_more}
 use Rattle.types.proofs.NestingLemmas.{no_length-128}
-use Rattle.contents.specs.Head.{IsExtentWithin, IsReadDefinite, IsReadIndefinite}
+use Rattle.encoding_parts.specs.Head.{IsExtentWithin, IsReadDefinite, IsReadIndefinite}
 use Rattle.strict.specs.Head.{HasConstructed}
 use Rattle.strict.proofs.BarsLemmas.{bars_of, bars_by, bars_through}
 use Rattle.strict.proofs.InsideLemmas.{behind_indefinite, opened_indefinite}

@@ -13,4 +13,4 @@ returns-in-Ok-clause-value c =
 
 pub returns-in-Err-clause-cut : goal.returns-in-Err-clause-cut
 returns-in-Err-clause-cut c = λ same.
-    subst (λ r. IsConstructedCut r c.args.tag c.args.room c.args.octets.now) (sym c.in-Der.is) (c.in-Err.ensures.cut (c.named.ensures.cut same))
+    subst (λ r. IsConstructedCut r c.args.tag c.args.room c.args.octets.now) (sym c.in-Der.is) (c.in-Err.ensures.cut (c.refusal_inside.ensures.cut same))

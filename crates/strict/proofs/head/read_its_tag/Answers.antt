@@ -1,6 +1,6 @@
 use Rattle.std.proofs.Common.{◌≡◌, Err, ap, rules}
-use Rattle.contents.specs.Head.{IsTagWithin}
-use Rattle.contents.proofs.HeadLemmas.{tag_of_front}
+use Rattle.encoding_parts.specs.Head.{IsTagWithin}
+use Rattle.encoding_parts.proofs.HeadLemmas.{tag_of_front}
 use Rattle.strict.proofs.BarsLemmas.{bars_of, bars_through}
 use Rattle.strict.proofs.EndingLemmas.{cut_through}
 use Rattle.strict.proofs.head.read_its_tag.Goals as goal

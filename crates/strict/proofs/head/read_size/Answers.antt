@@ -3,13 +3,13 @@ use Rattle.std.proofs.lemmas.List.{take_rest}
 use Rattle.octets.specs.declared.tag.Tag.{Tag}
 use Rattle.octets.specs.Identifier.{IsIdentifier}
 use Rattle.octets.proofs.ResultLemmas.{IfErr-from}
-use Rattle.contents.specs.Head.{IsExtentWithin}
+use Rattle.encoding_parts.specs.Head.{IsExtentWithin}
 use Rattle.strict.specs.Bars.{Bars}
 use Rattle.strict.specs.Head.{HasDefinite}
 use Rattle.strict.proofs.BarsLemmas.{bars_of, bars_by}
 use Rattle.strict.proofs.HeadLemmas.{behind_identifier}
 use Rattle.strict.proofs.EndingLemmas.{cut_through}
-use Rattle.contents.specs.Cut.{IsLengthCut}
+use Rattle.encoding_parts.specs.Cut.{IsLengthCut}
 use Rattle.strict.proofs.head.read_size.Goals as goal
 
 pub returns-in_err-size-clause-refused : goal.returns-in_err-size-clause-refused

@@ -1,6 +1,6 @@
 use Rattle.std.proofs.Common.{◌++◌, subst, inl, take, sym, false}
 use Rattle.types.specs.View.{ty_view}
-use Rattle.contents.specs.Head.{IsTagWithin}
+use Rattle.encoding_parts.specs.Head.{IsTagWithin}
 use Rattle.strict.specs.Canonical.{rule_of}
 use Rattle.strict.specs.Reading.{HasPart}
 use Rattle.strict.proofs.BarsLemmas.{bars_by, bars_through}

@@ -2,7 +2,7 @@ use Rattle.std.proofs.Common.{◌≡◌, ◌++◌, true, false, length, take, dr
 use Rattle.std.proofs.lemmas.List.{length-take-le, length-drop, take-append-drop}
 use Rattle.types.specs.Leaf.{tag_of}
 use Rattle.types.specs.View.{ty_view}
-use Rattle.contents.specs.Lengths.{CanHaveLength}
+use Rattle.encoding_parts.specs.Lengths.{CanHaveLength}
 use Rattle.octets.specs.Length.{IsShortestLength}
 use Rattle.strict.specs.Leaf.{IsWhole}
 use Rattle.strict.proofs.LeafLemmas.{definite_of_primitive}

@@ -4,7 +4,7 @@ use Rattle.octets.specs.Rule.{cer}
 use Rattle.types.specs.Conforms.{Conforms}
 use Rattle.types.specs.Leaf.{tag_of}
 use Rattle.types.specs.View.{ty_view}
-use Rattle.contents.specs.Joined.{string_of}
+use Rattle.encoding_parts.specs.Joined.{string_of}
 use Rattle.strict.specs.Head.{IsOpened, AreFewer}
 use Rattle.strict.specs.Leaf.{HasCut, HoldsSegment, IsOfSpelling, value_is}
 use Rattle.strict.specs.Segments.{HasSomeSegments, AreSegmentsKnown}

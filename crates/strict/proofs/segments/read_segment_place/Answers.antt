@@ -2,8 +2,8 @@ use Rattle.std.proofs.Common.{◌≡◌, inl, inr, Bool, ℕ, ◌++◌, List, tr
 use Rattle.std.proofs.lemmas.List.{length-take-le, length-drop}
 use Rattle.octets.specs.declared.tag.Tag.{Tag}
 use Rattle.octets.specs.Length.{IsShortestLength}
-use Rattle.contents.specs.Head.{IsTagWithin, IsReadTag}
-use Rattle.contents.specs.Joined.{segment_of}
+use Rattle.encoding_parts.specs.Head.{IsTagWithin, IsReadTag}
+use Rattle.encoding_parts.specs.Joined.{segment_of}
 use Rattle.strict.specs.Head.{HasDefinite}
 use Rattle.strict.specs.Segments.{HasSomeSegments}
 use Rattle.strict.proofs.BarsLemmas.{bars_of, bars_by, bars_through}

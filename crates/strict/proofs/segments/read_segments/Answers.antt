@@ -1,6 +1,6 @@
 use Rattle.std.proofs.Common.{◌≡◌, ◌⊎◌, ℕ, ◌-◌, ◌++◌, List, true, false, length, take, drop, sym, ap, subst, arith, rules, length-drop}
 use Rattle.std.proofs.lemmas.List.{take_rest}
-use Rattle.contents.specs.Segments.{BeginsAboveZero}
+use Rattle.encoding_parts.specs.Segments.{BeginsAboveZero}
 use Rattle.strict.specs.Head.{EndsHere, IsEndKnown}
 use Rattle.strict.specs.Segments.{HasSomeSegments, IsJoinedSegment}
 use Rattle.strict.proofs.BarsLemmas.{bars_by, bars_through}

@@ -2,7 +2,7 @@ use Rattle.std.proofs.Common.{◌≡◌, sym, ◌∙◌, subst}
 use Rattle.octets.proofs.ResultLemmas.{IfOk-map, IfErr-map, IfErr-all}
 use Rattle.types.specs.Conforms.{Conforms}
 use Rattle.types.specs.View.{ty_view, value_view}
-use Rattle.contents.specs.Joined.{string_of}
+use Rattle.encoding_parts.specs.Joined.{string_of}
 use Rattle.strict.specs.Leaf.{value_is}
 use Rattle.strict.proofs.KindLemmas.{bits_are, octets_are}
 use Rattle.strict.proofs.segments.value_of.Goals as goal

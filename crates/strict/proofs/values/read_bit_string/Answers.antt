@@ -5,7 +5,7 @@ use Rattle.primitives.specs.Bits.{IsBits}
 use Rattle.primitives.proofs.BitsLemmas.{one_bits_value, canonical_bits_are_ber}
 use Rattle.types.specs.Conforms.{Conforms}
 use Rattle.types.specs.View.{ty_view, value_view}
-use Rattle.contents.specs.Contents.{HoldsContents}
+use Rattle.encoding_parts.specs.Contents.{HoldsContents}
 use Rattle.strict.specs.Leaf.{bits_view}
 use Rattle.strict.proofs.UnusedLemmas.{bits_held, holds_bits}
 use Rattle.strict.proofs.values.read_bit_string.Goals as goal

@@ -4,7 +4,7 @@ use Rattle.octets.proofs.ResultLemmas.{IfErr-all}
 use Rattle.types.specs.Shape.{Shape, Val}
 use Rattle.types.specs.View.{ty_view}
 use Rattle.types.proofs.ViewLemmas.{ty-Boolean}
-use Rattle.contents.specs.Contents.{HoldsContents}
+use Rattle.encoding_parts.specs.Contents.{HoldsContents}
 use Rattle.strict.proofs.values.read_value.Goals as goal
 
 pub returns-in-Boolean-clause-none : goal.returns-in-Boolean-clause-none

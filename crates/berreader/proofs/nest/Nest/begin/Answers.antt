@@ -4,12 +4,12 @@ use Rattle.types.specs.Encoding.{most_nested}
 use Rattle.types.specs.Leaf.{tag_of}
 use Rattle.types.specs.Refusal.{IsFinal}
 use Rattle.types.specs.View.{ty_view}
-use Rattle.contents.specs.Head.{IsReadTag}
+use Rattle.encoding_parts.specs.Head.{IsReadTag}
 use Rattle.berreader.specs.Nest.{CanFinish, end_inside, levels_left}
 use Rattle.berreader.specs.Stack.{layers_of}
 use Rattle.berreader.proofs.NestStepLemmas.{part_next, part_next_whole}
 use Rattle.berreader.proofs.StringLemmas.{string_opened, tag_of_leaf}
-use Rattle.contents.specs.Cut.{IsPartCut}
+use Rattle.encoding_parts.specs.Cut.{IsPartCut}
 use Rattle.berreader.proofs.CutLemmas.{part_cut}
 use Rattle.berreader.proofs.nest.Nest.begin.Goals as goal
 

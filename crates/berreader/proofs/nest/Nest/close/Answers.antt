@@ -20,8 +20,8 @@ returns-in_err-value-clause-never c =
     let v = value_ended old mid layer octets popped e h in
     c.in_err-value.ensures.none (subst IsFinal same final) v.0 v.1)
 
-pub come-requires-clause-room : goal.come-requires-clause-room
-come-requires-clause-room c =
+pub place_value-requires-clause-room : goal.place_value-requires-clause-room
+place_value-requires-clause-room c =
     let old = c.args.self.now in
     let layer = layer_view c.in-Some.open in
     let mid : Nest = record { ty = old.ty; layers = c.pop.new.self; taken = old.taken } in
@@ -37,7 +37,7 @@ returns-clause-taken c = λ octets there e.
     let counted = c.in-Some.ensures.counted c.requires.sound.counted in
     let popped : IsPopped old mid layer = record { sound = c.requires.sound; layers = c.in-Some.ensures.layers; type = refl; taken = refl; counted = counted } in
     let v = value_view c.in_ok-value.value in
-    step_come old mid c.come.new.self octets layer.type layer.tag v c.args.used c.come.new.whole c.in_ok-come.field-0 (ready_popped old mid layer octets v c.args.used popped c.in_ok-value.ensures.value there e) c.in_ok-come.ensures.come
+    step_come old mid c.place_value.new.self octets layer.type layer.tag v c.args.used c.place_value.new.whole c.in_ok-place_value.field-0 (ready_popped old mid layer octets v c.args.used popped c.in_ok-value.ensures.value there e) c.in_ok-place_value.ensures.come
 
 pub returns-clause-sound : goal.returns-clause-sound
 returns-clause-sound c =
@@ -47,5 +47,5 @@ returns-clause-sound c =
     let counted = c.in-Some.ensures.counted c.requires.sound.counted in
     let popped : IsPopped old mid layer = record { sound = c.requires.sound; layers = c.in-Some.ensures.layers; type = refl; taken = refl; counted = counted } in
     let v = value_view c.in_ok-value.value in
-    sound_come_nest mid c.come.new.self layer.type layer.tag v c.args.used c.come.new.whole c.in_ok-come.field-0 (sound_popped old mid layer popped)
-    (room_popped old mid layer c.requires.ends.0 c.args.used popped c.requires.ends.1 c.requires.ends.2) (c.in_ok-come.ensures.counted counted) c.in_ok-come.ensures.come
+    sound_come_nest mid c.place_value.new.self layer.type layer.tag v c.args.used c.place_value.new.whole c.in_ok-place_value.field-0 (sound_popped old mid layer popped)
+    (room_popped old mid layer c.requires.ends.0 c.args.used popped c.requires.ends.1 c.requires.ends.2) (c.in_ok-place_value.ensures.counted counted) c.in_ok-place_value.ensures.come

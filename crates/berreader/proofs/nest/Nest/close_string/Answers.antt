@@ -20,8 +20,8 @@ returns-in_err-value-clause-never c =
     (λ refusal same final passed more h f. c.in_err-value.ensures.none (subst IsFinal same final)
     (conforms_string nest string passed more c.requires.sound c.requires.string.segments c.requires.closed h f))
 
-pub come-requires-clause-good : goal.come-requires-clause-good
-come-requires-clause-good c =
+pub place_value-requires-clause-good : goal.place_value-requires-clause-good
+place_value-requires-clause-good c =
     let nest = c.args.self.now in
     let next = c.args.string.next in
     good_next (ty_view nest.ty.now) (layers_of nest.layers) next.which (ty_view next.ty.now) c.requires.sound.type c.requires.sound.sound c.requires.string.begun.next.due
@@ -33,14 +33,14 @@ returns-clause-taken c = λ passed h.
     let next = string.next in
     let type = ty_view next.ty.now in
     let v = value_view c.in_ok-value.value in
-    let whole = c.come.new.whole in
-    let n = c.in_ok-come.field-0 in
+    let whole = c.place_value.new.whole in
+    let n = c.in_ok-place_value.field-0 in
     let mid : Nest = record { ty = old.ty; layers = c.set_which.new.self; taken = old.taken } in
-    let new = c.come.new.self in
+    let new = c.place_value.new.self in
     let noted : IsNoted old mid next.which = record { sound = c.requires.sound; layers = c.set_which.ensures.layers; type = refl; taken = refl; counted = c.set_which.ensures.counted c.requires.sound.counted } in
     let ready = ready_string old mid string passed v noted c.requires.string.segments c.requires.closed h c.in_ok-value.ensures.value.0 c.in_ok-value.ensures.value.1 in
     let count : string.segments.taken - old.taken ≡ length passed = omega (arith, h.segments.place) in
-    let come : IsCome mid new type next.tag v (length passed) whole n = subst (λ m. IsCome mid new type next.tag v m whole n) count c.in_ok-come.ensures.come in
+    let come : IsCome mid new type next.tag v (length passed) whole n = subst (λ m. IsCome mid new type next.tag v m whole n) count c.in_ok-place_value.ensures.come in
     closed_come old mid new passed type next.tag v whole n come (step_come old mid new passed type next.tag v (length passed) whole n ready come)
 
 pub returns-clause-sound : goal.returns-clause-sound
@@ -53,4 +53,4 @@ returns-clause-sound c =
     let noted : IsNoted old mid next.which = record { sound = c.requires.sound; layers = c.set_which.ensures.layers; type = refl; taken = refl; counted = counted } in
     let used = string.segments.taken - old.taken in
     let room : old.taken + used ≤ MAX_ENCODING = omega (arith, c.requires.string.segments.place, c.requires.string.begun.segments.place) in
-    sound_come_nest mid c.come.new.self (ty_view next.ty.now) next.tag (value_view c.in_ok-value.value) used c.come.new.whole c.in_ok-come.field-0 (sound_noted old mid next.which noted) room (c.in_ok-come.ensures.counted counted) c.in_ok-come.ensures.come
+    sound_come_nest mid c.place_value.new.self (ty_view next.ty.now) next.tag (value_view c.in_ok-value.value) used c.place_value.new.whole c.in_ok-place_value.field-0 (sound_noted old mid next.which noted) room (c.in_ok-place_value.ensures.counted counted) c.in_ok-place_value.ensures.come

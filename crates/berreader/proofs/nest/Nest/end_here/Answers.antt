@@ -3,7 +3,7 @@ use Rattle.octets.proofs.ResultLemmas.{IfErr-map}
 use Rattle.types.specs.Refusal.{IsFinal}
 use Rattle.types.specs.View.{ty_view}
 use Rattle.berreader.specs.Nest.{CanComplete, CanFinish}
-use Rattle.contents.specs.Segments.{BeginsAboveZero, EndsAt}
+use Rattle.encoding_parts.specs.Segments.{BeginsAboveZero, EndsAt}
 use Rattle.berreader.specs.Stack.{layer_view}
 use Rattle.berreader.proofs.NestLemmas.{ends_or_begins}
 use Rattle.berreader.proofs.CutLemmas.{end_cut}

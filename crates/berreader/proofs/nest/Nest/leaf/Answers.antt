@@ -4,14 +4,14 @@ use Rattle.types.specs.Leaf.{tag_of}
 use Rattle.types.specs.Refusal.{IsFinal}
 use Rattle.types.specs.View.{ty_view, value_view}
 use Rattle.berreader.specs.declared.nest.Nest.{Nest}
-use Rattle.contents.specs.Head.{IsReadTag}
+use Rattle.encoding_parts.specs.Head.{IsReadTag}
 use Rattle.berreader.specs.Nest.{CanFinish, end_inside, levels_left}
 use Rattle.berreader.specs.Stack.{layers_of}
-use Rattle.contents.proofs.ChoiceLemmas.{node_good}
+use Rattle.encoding_parts.proofs.ChoiceLemmas.{node_good}
 use Rattle.berreader.proofs.NestLemmas.{own_tag}
 use Rattle.berreader.proofs.NestBackLemmas.{good_next}
 use Rattle.berreader.proofs.NestStepLemmas.{IsNoted, leaf_own, part_next, part_next_whole, sound_noted, ready_noted, step_come, sound_come_nest}
-use Rattle.contents.specs.Cut.{IsPartCut}
+use Rattle.encoding_parts.specs.Cut.{IsPartCut}
 use Rattle.berreader.proofs.CutLemmas.{part_cut}
 use Rattle.berreader.proofs.StringLemmas.{tag_of_leaf}
 use Rattle.berreader.proofs.nest.Nest.leaf.Goals as goal
@@ -51,8 +51,8 @@ returns-in_err-value-clause-never c =
     (λ refusal same final more h. c.in_err-value.ensures.never (subst IsFinal same final) more levels
     (part_next nest octets more c.args.next c.end.result levels c.requires.sound (c.requires.no_end more) c.requires.next c.end.ensures refl h))
 
-pub come-requires-clause-good : goal.come-requires-clause-good
-come-requires-clause-good c =
+pub place_value-requires-clause-good : goal.place_value-requires-clause-good
+place_value-requires-clause-good c =
     let nest = c.args.self.now in
     let next = c.args.next in
     good_next (ty_view nest.ty.now) (layers_of nest.layers) next.which (ty_view next.ty.now) c.requires.sound.type c.requires.sound.sound c.requires.next.due
@@ -70,7 +70,7 @@ returns-clause-taken c =
     let noted : IsNoted nest mid next.which = record { sound = c.requires.sound; layers = c.set_which.ensures.layers; type = refl; taken = refl; counted = counted } in
     let fits : nest.taken + used ≤ end_inside layers = subst (λ e. nest.taken + used ≤ e) c.end.ensures c.in_ok-value.ensures.there.1 in
     let ready = ready_noted nest mid octets next v used noted c.requires.no_end c.requires.next c.in_ok-value.ensures.there.0 fits (c.in_ok-value.ensures.value (levels_left layers)) in
-    step_come nest mid c.come.new.self octets (ty_view next.ty.now) next.tag v used c.come.new.whole c.in_ok-come.field-0 ready c.in_ok-come.ensures.come
+    step_come nest mid c.place_value.new.self octets (ty_view next.ty.now) next.tag v used c.place_value.new.whole c.in_ok-place_value.field-0 ready c.in_ok-place_value.ensures.come
 
 pub returns-clause-sound : goal.returns-clause-sound
 returns-clause-sound c =
@@ -85,7 +85,7 @@ returns-clause-sound c =
     let noted : IsNoted nest mid next.which = record { sound = c.requires.sound; layers = c.set_which.ensures.layers; type = refl; taken = refl; counted = counted } in
     let fits : nest.taken + used ≤ end_inside layers = subst (λ e. nest.taken + used ≤ e) c.end.ensures c.in_ok-value.ensures.there.1 in
     let ready = ready_noted nest mid octets next v used noted c.requires.no_end c.requires.next c.in_ok-value.ensures.there.0 fits (c.in_ok-value.ensures.value (levels_left layers)) in
-    sound_come_nest mid c.come.new.self (ty_view next.ty.now) next.tag v used c.come.new.whole c.in_ok-come.field-0 (sound_noted nest mid next.which noted) ready.room (c.in_ok-come.ensures.counted counted) c.in_ok-come.ensures.come
+    sound_come_nest mid c.place_value.new.self (ty_view next.ty.now) next.tag v used c.place_value.new.whole c.in_ok-place_value.field-0 (sound_noted nest mid next.which noted) ready.room (c.in_ok-place_value.ensures.counted counted) c.in_ok-place_value.ensures.come
 
 pub returns-in_err-value-clause-cut : goal.returns-in_err-value-clause-cut
 returns-in_err-value-clause-cut c = λ refused.

@@ -4,12 +4,12 @@ use Rattle.types.specs.FirstTags.{first_tags}
 use Rattle.types.specs.Refusal.{IsFinal}
 use Rattle.types.specs.View.{ty_view}
 use Rattle.types.proofs.BeginningLemmas.{begins_once}
-use Rattle.contents.specs.Head.{IsTagWithin}
+use Rattle.encoding_parts.specs.Head.{IsTagWithin}
 use Rattle.berreader.specs.Nest.{CanFinish, EndsInside}
 use Rattle.berreader.specs.Stack.{layers_of}
-use Rattle.contents.proofs.ChoiceLemmas.{begins_node}
+use Rattle.encoding_parts.proofs.ChoiceLemmas.{begins_node}
 use Rattle.berreader.proofs.NestStepLemmas.{tag_next, read_begins}
-use Rattle.contents.specs.Cut.{IsIdentifierCut}
+use Rattle.encoding_parts.specs.Cut.{IsIdentifierCut}
 use Rattle.berreader.proofs.nest.Nest.next.Goals as goal
 
 pub returns-in_err-tag-clause-truncated : goal.returns-in_err-tag-clause-truncated

@@ -4,14 +4,14 @@ use Rattle.octets.proofs.ResultLemmas.{IfErr-from, Err-known}
 use Rattle.types.specs.Refusal.{IsFinal}
 use Rattle.types.specs.View.{ty_view}
 use Rattle.berreader.specs.declared.nest.Nest.{Nest}
-use Rattle.contents.specs.Completing.{Opens}
-use Rattle.contents.specs.Head.{IsExtentWithin}
-use Rattle.contents.specs.Holding.{parts_view}
+use Rattle.encoding_parts.specs.Completing.{Opens}
+use Rattle.encoding_parts.specs.Head.{IsExtentWithin}
+use Rattle.encoding_parts.specs.HeldParts.{parts_view}
 use Rattle.berreader.specs.Nest.{CanFinish}
 use Rattle.berreader.specs.Stack.{Layer, layers_of}
 use Rattle.berreader.proofs.NestLemmas.{form_next, extent_next, own_tag}
 use Rattle.berreader.proofs.NestStepLemmas.{IsOpenedBy, opens_next, node_is_node, taken_opening, sound_opening}
-use Rattle.contents.specs.Cut.{IsLengthCut}
+use Rattle.encoding_parts.specs.Cut.{IsLengthCut}
 use Rattle.berreader.proofs.CutLemmas.{opening_cut}
 use Rattle.berreader.proofs.nest.Nest.open.Goals as goal
 
@@ -61,11 +61,11 @@ pub returns-in_default-clause-never : goal.returns-in_default-clause-never
 returns-in_default-clause-never c =
     let next = c.args.next in
     let node = ty_view next.node.now in
-    let leaf = rw c.in_default.is at c.in_ok-holding.ensures in
+    let leaf = rw c.in_default.is at c.in_ok-held_parts.ensures in
     absurd (c.requires.parts (leaf (node_is_node next.tag node (own_tag next.tag (ty_view next.ty.now) node c.requires.next.node))))
 
 -- what the callees have done
-opened : (c : goal.After-self-1) → IsOpenedBy c.args.self.now record { ty = c.args.self.now.ty; layers = c.push.new.self; taken = c.args.self.now.taken + c.args.next.identifier + c.in_ok-size.size } c.args.octets.now c.args.next c.in_ok-size.frame (parts_view c.in-Some.holding) c.in_ok-size.size
+opened : (c : goal.After-self-1) → IsOpenedBy c.args.self.now record { ty = c.args.self.now.ty; layers = c.push.new.self; taken = c.args.self.now.taken + c.args.next.identifier + c.in_ok-size.size } c.args.octets.now c.args.next c.in_ok-size.frame (parts_view c.in-Some.held_parts) c.in_ok-size.size
 opened c =
     let nest = c.args.self.now in
     let next = c.args.next in
@@ -75,8 +75,8 @@ opened c =
     let frame = c.in_ok-size.frame in
     let place = nest.taken + i in
     let all : take (length octets - i) (drop i octets) ≡ drop i octets = take_rest octets i in
-    let held = rw c.in-Some.is at c.in_ok-holding.ensures in
-    let layer : Layer = record { frame = frame; tag = next.tag; type = ty_view next.ty.now; parts = parts_view c.in-Some.holding; which = 0 } in
+    let held = rw c.in-Some.is at c.in_ok-held_parts.ensures in
+    let layer : Layer = record { frame = frame; tag = next.tag; type = ty_view next.ty.now; parts = parts_view c.in-Some.held_parts; which = 0 } in
     record {
       sound = c.requires.sound;
       no_end = c.requires.no_end;
@@ -97,13 +97,13 @@ pub returns-clause-taken : goal.returns-clause-taken
 returns-clause-taken c =
     let nest = c.args.self.now in
     let new : Nest = record { ty = nest.ty; layers = c.push.new.self; taken = nest.taken + c.args.next.identifier + c.in_ok-size.size } in
-    taken_opening nest new c.args.octets.now c.args.next c.in_ok-size.frame (parts_view c.in-Some.holding) c.in_ok-size.size (opened c)
+    taken_opening nest new c.args.octets.now c.args.next c.in_ok-size.frame (parts_view c.in-Some.held_parts) c.in_ok-size.size (opened c)
 
 pub returns-clause-sound : goal.returns-clause-sound
 returns-clause-sound c =
     let nest = c.args.self.now in
     let new : Nest = record { ty = nest.ty; layers = c.push.new.self; taken = nest.taken + c.args.next.identifier + c.in_ok-size.size } in
-    sound_opening nest new c.args.octets.now c.args.next c.in_ok-size.frame (parts_view c.in-Some.holding) c.in_ok-size.size (opened c)
+    sound_opening nest new c.args.octets.now c.args.next c.in_ok-size.frame (parts_view c.in-Some.held_parts) c.in_ok-size.size (opened c)
 
 pub returns-in_err-size-clause-cut : goal.returns-in_err-size-clause-cut
 returns-in_err-size-clause-cut c = λ refused.

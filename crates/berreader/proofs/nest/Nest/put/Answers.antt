@@ -2,7 +2,7 @@ use Rattle.std.proofs.Common.{◌+◌, refl, sym, subst}
 use Rattle.types.specs.View.{value_view}
 use Rattle.berreader.specs.declared.nest.Nest.{Nest}
 use Rattle.berreader.specs.Stack.{layers_of}
-use Rattle.contents.specs.Parts.{IsWrapped}
+use Rattle.encoding_parts.specs.Parts.{IsWrapped}
 use Rattle.berreader.specs.Nest.{HasCome, IsCome, IsLast}
 use Rattle.berreader.proofs.NestStepLemmas.{come_inside}
 use Rattle.berreader.proofs.nest.Nest.put.Goals as goal

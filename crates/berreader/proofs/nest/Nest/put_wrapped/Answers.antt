@@ -2,7 +2,7 @@ use Rattle.octets.proofs.ResultLemmas.{IfOk-map}
 use Rattle.octets.specs.declared.tag.Tag.{Tag}
 use Rattle.types.specs.Shape.{Shape, Val}
 use Rattle.types.specs.View.{ty_view, value_view}
-use Rattle.contents.specs.Parts.{IsWrapped}
+use Rattle.encoding_parts.specs.Parts.{IsWrapped}
 use Rattle.berreader.specs.Nest.{IsCome}
 use Rattle.berreader.proofs.nest.Nest.put_wrapped.Goals as goal
 

@@ -13,7 +13,7 @@ use Rattle.syntax.specs.declared.tree.Item.{Item}
 use Rattle.syntax.specs.declared.tree.NamedBit.{NamedBit}
 use Rattle.syntax.specs.Tree.{Ending, Form, tagged, list, of, choice, enumerated, named_bits}
 use Rattle.syntax.specs.View.{form, tree, component, alternative, entry, bit, components_of, alternatives_of}
-use Rattle.builtin.specs.Tagging.{has_automatic_tags}
+use Rattle.builtin_types.specs.Tagging.{has_automatic_tags}
 use Rattle.notation.specs.declared.root.Root.{Root}
 use Rattle.notation.specs.Known.{IsScope, LeadsTo, TellsChoice}
 use Rattle.notation.specs.Meaning.{IsMeaning}

@@ -10,7 +10,7 @@ use Rattle.syntax.specs.declared.tree.NamedBit.{NamedBit}
 use Rattle.syntax.specs.declared.tree.TagPrefix.{TagPrefix}
 use Rattle.syntax.specs.Tree.{Ending, Form, tagged, list, of, choice, enumerated, named_bits, simple, reference}
 use Rattle.syntax.specs.View.{form, tree, component, alternative, entry, bit, components_of, alternatives_of}
-use Rattle.builtin.specs.Tagging.{has_automatic_tags}
+use Rattle.builtin_types.specs.Tagging.{has_automatic_tags}
 use Rattle.notation.specs.Under.{IsImplicitAt}
 use Rattle.notation.specs.Known.{IsScope, TellsChoice, TellsExplicit}
 use Rattle.notation.specs.Settled.{MeansNothing, NamesTold}

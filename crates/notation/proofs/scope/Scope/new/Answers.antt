@@ -1,7 +1,7 @@
 use Rattle.std.proofs.Common.{◌∙◌, ap, rules, refl, arith, List, get_or}
 use Rattle.syntax.specs.declared.tree.Assignment.{Assignment}
 use Rattle.syntax.specs.View.{assignment}
-use Rattle.builtin.proofs.EnteredLemmas.{entered_more, repeat_place}
+use Rattle.builtin_types.proofs.EnteredLemmas.{entered_more, repeat_place}
 use Rattle.notation.proofs.NewScopeLemmas.{unknown-push, new_scope}
 use Rattle.notation.proofs.scope.Scope.new.Goals as goal
 

@@ -1,6 +1,6 @@
 use Rattle.std.proofs.Common.{◌≡◌, map, take, length}
 use Rattle.syntax.specs.View.{assignment}
-use Rattle.builtin.specs.Names.{AreEntered}
+use Rattle.builtin_types.specs.Names.{AreEntered}
 use Rattle.notation.specs.Known.{KnowsNothing}
 use Rattle.notation.proofs.scope.Scope.new.Given as goal
 

@@ -1,0 +1,239 @@
+use Rattle.std.proofs.Common.{rules, ◌≡◌, ◌+◌, ◌-◌, ◌<◌, ◌≤◌, [], ◌∷◌, ◌++◌, Some, set, refl, sym, ap, ◌∙◌, subst, arith, take, drop, map, length}
+use Rattle.std.proofs.lemmas.Bool.{ltb-true}
+use Rattle.std.proofs.lemmas.List.{take_rest, take_more_set, length-set, length-drop}
+use Rattle.octets.specs.declared.tag.Tag.{Tag}
+use Rattle.octets.specs.Rule.{ber}
+use Rattle.types.specs.declared.ty.Ty as node
+use Rattle.types.specs.declared.ty.Alternative as alternative
+use Rattle.types.specs.declared.ty.Field as field
+use Rattle.types.specs.Form.{IsConstructed}
+use Rattle.types.specs.Shape.{Shape}
+use Rattle.types.specs.View.{ty_view, value_view, field_view, components_view}
+use Rattle.encoding_parts.specs.Parts.{IsDue, IsGoodType}
+use Rattle.encoding_parts.specs.HeldParts.{parts_view}
+use Rattle.berslice.specs.Heads.{IsOpened}
+use Rattle.berslice.specs.Reading.{IsRead, IsComponentRead, AreComponentsRead, AreMoreItemsRead}
+use Rattle.berslice.specs.Renewed.{new_items}
+use Rattle.berslice.proofs.ReadingLemmas.{both_of, read_some, explicit_read, sequence_read, sequence_of_read, set_of_read, no_more_items, one_item_more, item_behind, all_items, no_components, component_read, all_components, component_stands, good_components, good_component, good_alternative, chosen_read, no_members, member_behind, member_read, member_some, field_type, due_field, set_read, good_members}
+use Rattle.berslice.proofs.+reading.Goals as goal
+
+pub reading::read_alternative-read_one-requires : goal.reading::read_alternative-read_one-requires
+reading::read_alternative-read_one-requires t c =
+    let xs = c.args.alternatives.now in
+    let a = c.index-alternatives-which.result in
+    let bound = c.requires.there in
+    let at = c.index-alternatives-which.is in
+    (search (rules, node.the_lemmas, alternative.the_lemmas, bound, at), good_alternative xs c.args.which a bound at c.requires.good)
+
+pub reading::read_alternative-returns-then-put_chosen : goal.reading::read_alternative-returns-then-put_chosen
+reading::read_alternative-returns-then-put_chosen t c =
+    let xs = c.args.alternatives.now in
+    let a = c.index-alternatives-which.result in
+    let v = c.in_ok-chosen.field-0 in
+    let used = c.in_ok-used.used in
+    let read : IsRead c.args.levels (ty_view a.ty) c.args.octets.now (Some v) used = subst (λ slot. IsRead c.args.levels (ty_view a.ty) c.args.octets.now slot used) c.in_ok-chosen.was c.in_ok-used.ensures in
+    chosen_read c.args.levels xs c.args.which a c.args.octets.now v c.put_chosen.new.slot used c.requires.there c.index-alternatives-which.is (c.put_chosen.ensures c.if-put_chosen.true) read
+
+pub components::read_component-returns-in-Some : goal.components::read_component-returns-in-Some
+components::read_component-returns-in-Some t c =
+    component_stands c.args.levels c.args.field.now c.args.octets.now c.read_one.new.slot c.drop_default.new.slot c.in-Some.used c.in-Some.ensures c.drop_default.ensures
+
+pub components::read_components-loop-place-init : goal.components::read_components-loop-place-init
+components::read_components-loop-place-init t c = (no_components c.args.levels c.args.octets.now [] refl, c.requires.slots)
+
+pub components::read_components-slice_bounds-read_component-count :
+    goal.components::read_components-slice_bounds-read_component-count
+components::read_components-slice_bounds-read_component-count t c = c.loop-place.invariant.0.there
+
+pub components::read_components-slice_bounds-read_component-start :
+    goal.components::read_components-slice_bounds-read_component-start
+components::read_components-slice_bounds-read_component-start t c = c.loop-place.invariant.0.there
+
+pub components::read_components-read_component-requires : goal.components::read_components-read_component-requires
+components::read_components-read_component-requires t c =
+    let fields = c.args.fields.now in
+    let bound : c.loop-place.place < length fields = c.loop-place-test.true in
+    let is = c.index-fields-place.is in
+    (search (rules, node.the_lemmas, field.the_lemmas, bound, is), good_component fields c.loop-place.place c.index-fields-place.result bound is c.requires.good)
+
+pub components::read_components-loop-place-preserved : goal.components::read_components-loop-place-preserved
+components::read_components-loop-place-preserved t c =
+    let fields = c.args.fields.now in
+    let octets = c.args.octets.now in
+    let i = c.loop-place.place in
+    let f = c.index-fields-place.result in
+    let bound : i < length fields = c.loop-place-test.true in
+    let at = c.loop-place.at in
+    let used = c.in_ok-at.field-0 in
+    let slots = c.loop-place.slots.items in
+    let slot = c.read_component.new.slot in
+    let one : IsComponentRead c.args.levels (field_view f) (drop at octets) slot used = subst (λ o. IsComponentRead c.args.levels (field_view f) o slot used) (take_rest octets at) c.in_ok-at.ensures in
+    let more = component_read c.args.levels fields i f octets (take i slots) slot at used bound c.index-fields-place.is c.loop-place.invariant.0 one in
+    let filled : take (i + 1) (set slots i slot) ≡ take i slots ++ (slot ∷ []) = take_more_set slots i slot (omega (arith, bound, c.loop-place.invariant.1)) in
+    (subst (λ l. AreComponentsRead c.args.levels (map field_view (take (i + 1) fields)) octets l (at + used)) (sym filled) more, length-set slots i slot ∙ c.loop-place.invariant.1)
+
+pub components::read_components-returns : goal.components::read_components-returns
+components::read_components-returns t c =
+    all_components c.args.levels c.args.fields.now c.loop-place.place c.args.octets.now c.loop-place.slots.items c.loop-place.at c.loop-place-test.false c.loop-place.invariant.1 c.loop-place.invariant.0
+
+pub reading::read_explicit-returns : goal.reading::read_explicit-returns
+reading::read_explicit-returns t c =
+    let octets = c.args.octets.now in
+    let type = ty_view c.args.inner.now in
+    let inside = c.in_ok-inside.inside in
+    both_of (λ n. n ≤ length octets) (λ n. (tag : Tag) → IsOpened tag octets inside → IsConstructed ber tag (take c.in_ok-used.used inside.octets.now) (take n octets)) (λ n. IsRead c.args.levels (Shape.explicit c.args.tag type) octets c.read_one.new.slot n)
+    c.close.result c.close.ensures.there c.close.ensures.value
+    (λ n there whole. explicit_read c.args.levels c.args.tag type octets inside.octets.now c.read_one.new.slot c.in_ok-used.used n c.requires (search rules) c.in_ok-used.ensures there (whole c.args.tag c.in_ok-inside.ensures))
+
+pub items::read_item-nonzero_div-octets : goal.items::read_item-nonzero_div-octets
+items::read_item-nonzero_div-octets t c = read_some c.args.levels (ty_view c.args.inner.now) c.args.octets.now c.read_among.new.slot c.in_ok-used.used c.in_ok-used.ensures
+
+pub items::read_item-returns-then-put-clause-some : goal.items::read_item-returns-then-put-clause-some
+items::read_item-returns-then-put-clause-some t c =
+    let type = ty_view c.args.inner.now in
+    let octets = c.args.octets.now in
+    let used = c.in_ok-used.used in
+    let v = c.in_ok-value.value in
+    record {
+      value = v;
+      joined = c.put.ensures.put c.if-put.true ∙ ap (λ l. l ++ (v ∷ [])) c.take_old-item.ensures;
+      read = subst (λ slot. IsRead c.args.levels type octets slot used) c.in_ok-value.was c.in_ok-used.ensures;
+    }
+
+pub items::fill_list-loop-alloc-init : goal.items::fill_list-loop-alloc-init
+items::fill_list-loop-alloc-init t c = no_more_items c.args.levels (ty_view c.args.inner.now) c.args.octets.now (new_items c.args.list.now)
+
+pub items::fill_list-slice_bounds-ends_at-count : goal.items::fill_list-slice_bounds-ends_at-count
+items::fill_list-slice_bounds-ends_at-count t c = c.loop-alloc.invariant.read.there
+
+pub items::fill_list-slice_bounds-ends_at-start : goal.items::fill_list-slice_bounds-ends_at-start
+items::fill_list-slice_bounds-ends_at-start t c = c.loop-alloc.invariant.read.there
+
+pub items::fill_list-loop-alloc-smaller : goal.items::fill_list-loop-alloc-smaller
+items::fill_list-loop-alloc-smaller t c =
+    let octets = c.args.octets.now in
+    let at = c.loop-alloc.at in
+    let type = ty_view c.args.inner.now in
+    let one = item_behind c.args.levels type octets at c.in-Some.used (new_items c.loop-alloc.list) (new_items c.read_item.new.list) c.in-Some.ensures.some in
+    let some = read_some c.args.levels type (drop at octets) (Some one.value) c.in-Some.used one.read in
+    let rest = length-drop at octets in
+    omega (arith, some, one.read.0, rest, c.loop-alloc.invariant.read.there)
+
+pub items::fill_list-loop-alloc-preserved : goal.items::fill_list-loop-alloc-preserved
+items::fill_list-loop-alloc-preserved t c =
+    let octets = c.args.octets.now in
+    let at = c.loop-alloc.at in
+    let type = ty_view c.args.inner.now in
+    let items = (new_items c.loop-alloc.list) in
+    let new = (new_items c.read_item.new.list) in
+    one_item_more c.args.levels type octets (new_items c.args.list.now) items new at c.in-Some.used c.loop-alloc.invariant (item_behind c.args.levels type octets at c.in-Some.used items new c.in-Some.ensures.some)
+
+pub items::fill_list-returns-in-None : goal.items::fill_list-returns-in-None
+items::fill_list-returns-in-None t c =
+    subst (λ l. AreMoreItemsRead c.args.levels (ty_view c.args.inner.now) c.args.octets.now (new_items c.args.list.now) l c.loop-alloc.at) (sym (c.in-None.ensures.none refl)) c.loop-alloc.invariant
+
+pub items::fill_list-returns : goal.items::fill_list-returns
+items::fill_list-returns t c = c.loop-alloc.invariant
+
+pub items::read_list-close-requires-clause-there : goal.items::read_list-close-requires-clause-there
+items::read_list-close-requires-clause-there t c = c.fill_list-used.ensures.read.there
+
+pub items::read_list-returns-clause-sequence : goal.items::read_list-returns-clause-sequence
+items::read_list-returns-clause-sequence t c =
+    let octets = c.args.octets.now in
+    let type = ty_view c.args.inner.now in
+    let inside = c.in_ok-inside.inside in
+    let items = c.into_items.result in
+    let used = c.fill_list-used.result in
+    let read = all_items (c.args.levels - 1) type inside.octets.now (new_items c.over-list.result) items.items used c.over-list.ensures (subst (λ l. AreMoreItemsRead (c.args.levels - 1) type inside.octets.now (new_items c.over-list.result) l used) (sym c.into_items.ensures) c.fill_list-used.ensures) in
+    both_of (λ n. n ≤ length octets) (λ n. (tag : Tag) → IsOpened tag octets inside → IsConstructed ber tag (take used inside.octets.now) (take n octets)) (λ n. IsRead c.args.levels (Shape.sequence_of c.args.tag type) octets c.fill.new.slot n)
+    c.close.result c.close.ensures.there c.close.ensures.value
+    (λ n there whole. subst (λ slot. IsRead c.args.levels (Shape.sequence_of c.args.tag type) octets slot n) (sym c.fill.ensures)
+    (sequence_of_read c.args.levels c.args.tag type octets inside.octets.now items used n c.requires.usable (search rules) read there (whole c.args.tag c.in_ok-inside.ensures)))
+
+pub items::read_list-returns-clause-set : goal.items::read_list-returns-clause-set
+items::read_list-returns-clause-set t c =
+    let octets = c.args.octets.now in
+    let type = ty_view c.args.inner.now in
+    let inside = c.in_ok-inside.inside in
+    let items = c.into_items.result in
+    let used = c.fill_list-used.result in
+    let read = all_items (c.args.levels - 1) type inside.octets.now (new_items c.over-list.result) items.items used c.over-list.ensures (subst (λ l. AreMoreItemsRead (c.args.levels - 1) type inside.octets.now (new_items c.over-list.result) l used) (sym c.into_items.ensures) c.fill_list-used.ensures) in
+    both_of (λ n. n ≤ length octets) (λ n. (tag : Tag) → IsOpened tag octets inside → IsConstructed ber tag (take used inside.octets.now) (take n octets)) (λ n. IsRead c.args.levels (Shape.set_of c.args.tag type) octets c.fill.new.slot n)
+    c.close.result c.close.ensures.there c.close.ensures.value
+    (λ n there whole. subst (λ slot. IsRead c.args.levels (Shape.set_of c.args.tag type) octets slot n) (sym c.fill.ensures)
+    (set_of_read c.args.levels c.args.tag type octets inside.octets.now items used n c.requires.usable (search rules) read there (whole c.args.tag c.in_ok-inside.ensures)))
+
+pub components::read_sequence-read_components-requires : goal.components::read_sequence-read_components-requires
+components::read_sequence-read_components-requires t c = (search rules, (good_components c.args.tag c.args.fields.now c.requires, c.in-Ok.ensures))
+
+pub components::read_sequence-returns : goal.components::read_sequence-returns
+components::read_sequence-returns t c =
+    let octets = c.args.octets.now in
+    let shape = Shape.sequence c.args.tag (components_view c.args.fields.now) in
+    let inside = c.in_ok-inside.inside in
+    let slots = c.read_components.new.slots in
+    both_of (λ n. n ≤ length octets) (λ n. (tag : Tag) → IsOpened tag octets inside → IsConstructed ber tag (take c.in_ok-used.used inside.octets.now) (take n octets)) (λ n. IsRead c.args.levels shape octets c.fill.new.slot n)
+    c.close.result c.close.ensures.there c.close.ensures.value
+    (λ n there whole. subst (λ slot. IsRead c.args.levels shape octets slot n) (sym c.fill.ensures)
+    (sequence_read c.args.levels c.args.tag c.args.fields.now octets inside.octets.now slots c.in_ok-used.used n c.requires (search rules) c.in_ok-used.ensures there (whole c.args.tag c.in_ok-inside.ensures)))
+
+pub members::read_member-read_one-requires : goal.members::read_member-read_one-requires
+members::read_member-read_one-requires t c =
+    let fields = c.args.fields.now in
+    let f = c.in_ok-field.field.now in
+    let found = c.in_ok-field.ensures.lookup in
+    let bound = ltb-true _ _ (sym found.0) in
+    let at = found.1 in
+    (search (rules, node.the_lemmas, field.the_lemmas, bound, at), subst IsGoodType (field_type f) (good_component fields c.in-Ok.which f bound at c.requires.good).type)
+
+pub members::read_member-returns-in-Ok-put : goal.members::read_member-returns-in-Ok-put
+members::read_member-returns-in-Ok-put t c =
+    let levels = c.args.levels in
+    let octets = c.args.octets.now in
+    let old = parts_view c.args.held_parts.now in
+    let which = c.in-Ok.which in
+    let type = ty_view c.in-Ok.field-0-1.now in
+    let f = c.in_ok-field.field.now in
+    let v = c.in_ok-member.field-0 in
+    let used = c.in_ok-used.used in
+    let due : IsDue old which type = c.in-Ok.ensures.value.0 in
+    let place = due_field c.in-Done.tag c.args.fields.now old which type c.requires.set_components due in
+    let read : IsRead levels (ty_view f.ty) octets (Some v) used = subst (λ slot. IsRead levels (ty_view f.ty) octets slot used) c.in_ok-member.was c.in_ok-used.ensures in
+    let here : IsRead levels type octets (Some v) used = subst (λ shape. IsRead levels shape octets (Some v) used) (place.types f c.in_ok-field.ensures.lookup.1) read in
+    record { there = here.0; which = which; type = type; value = value_view v; due = due; part = here.1; put = c.in-Ok-put.ensures }
+
+pub members::read_members-loop-alloc-smaller : goal.members::read_members-loop-alloc-smaller
+members::read_members-loop-alloc-smaller t c =
+    let octets = c.args.inside.now.octets.now in
+    let at = c.loop-alloc.at in
+    let read = member_behind c.args.levels octets at c.in_ok-at.field-0 (parts_view c.loop-alloc.held_parts) (parts_view c.read_member.new.held_parts) c.in_ok-at.ensures in
+    let some = member_some c.args.levels (drop at octets) (parts_view c.loop-alloc.held_parts) (parts_view c.read_member.new.held_parts) c.in_ok-at.field-0 read in
+    let rest = length-drop at octets in
+    omega (arith, some, read.there, rest, c.loop-alloc.invariant.there)
+
+pub members::read_members-loop-alloc-preserved : goal.members::read_members-loop-alloc-preserved
+members::read_members-loop-alloc-preserved t c =
+    let octets = c.args.inside.now.octets.now in
+    let at = c.loop-alloc.at in
+    let old = parts_view c.loop-alloc.held_parts in
+    let new = parts_view c.read_member.new.held_parts in
+    let read = member_behind c.args.levels octets at c.in_ok-at.field-0 old new c.in_ok-at.ensures in
+    member_read c.args.levels (map field_view c.args.fields.now) octets old new at c.in_ok-at.field-0 c.loop-alloc.invariant read
+
+pub members::read_set-read_members-requires : goal.members::read_set-read_members-requires
+members::read_set-read_members-requires t c =
+    let set_components = c.in-Ok.each.items in
+    (search rules, (good_members c.args.tag c.args.fields.now c.requires, no_members (c.args.levels - 1) c.args.tag c.args.fields.now c.in_ok-inside.inside.octets.now set_components c.in-Ok.ensures.components c.in-Ok.ensures.vacant))
+
+pub members::read_set-returns : goal.members::read_set-returns
+members::read_set-returns t c =
+    let octets = c.args.octets.now in
+    let shape = Shape.set c.args.tag (components_view c.args.fields.now) in
+    let inside = c.in_ok-inside.inside in
+    let parts = parts_view c.read_members.new.held_parts in
+    let v = c.in-Ok-into_value.value in
+    both_of (λ n. n ≤ length octets) (λ n. (tag : Tag) → IsOpened tag octets inside → IsConstructed ber tag (take c.in_ok-used.used inside.octets.now) (take n octets)) (λ n. IsRead c.args.levels shape octets c.fill.new.slot n)
+    c.close.result c.close.ensures.there c.close.ensures.value
+    (λ n there whole. subst (λ slot. IsRead c.args.levels shape octets slot n) (sym c.fill.ensures)
+    (set_read c.args.levels c.args.tag (map field_view c.args.fields.now) octets inside.octets.now parts v c.in_ok-used.used n c.requires (search rules) c.in_ok-used.ensures c.in-Ok-into_value.ensures.value there (whole c.args.tag c.in_ok-inside.ensures)))

@@ -1,0 +1,23 @@
+use Rattle.std.proofs.Common.{◌≡◌, length, map, take, ◌-◌}
+use Rattle.types.specs.View.{ty_view, field_view}
+use Rattle.encoding_parts.specs.HeldParts.{parts_view}
+use Rattle.berslice.specs.Reading.{AreComponentsRead, AreMoreItemsRead, AreMembersRead}
+use Rattle.berslice.specs.Renewed.{new_items}
+use Rattle.berslice.proofs.+reading.Given as goal
+
+abbrev pub invariant-components::read_components-loop-place : goal.invariant-components::read_components-loop-place
+invariant-components::read_components-loop-place l =
+    AreComponentsRead l.levels (map field_view (take l.place l.fields)) l.octets (take l.place l.slots.items) l.at
+    × (length l.slots.items ≡ length l.fields)
+
+abbrev pub invariant-items::fill_list-loop-alloc : goal.invariant-items::fill_list-loop-alloc
+invariant-items::fill_list-loop-alloc l = AreMoreItemsRead l.levels (ty_view l.inner) l.octets (new_items l.initial.list) (new_items l.list) l.at
+
+abbrev pub decreases-items::fill_list-loop-alloc : goal.decreases-items::fill_list-loop-alloc
+decreases-items::fill_list-loop-alloc l = length l.octets - l.at
+
+abbrev pub invariant-members::read_members-loop-alloc : goal.invariant-members::read_members-loop-alloc
+invariant-members::read_members-loop-alloc l = AreMembersRead l.levels (map field_view l.fields) l.inside.octets.now (parts_view l.held_parts) l.at
+
+abbrev pub decreases-members::read_members-loop-alloc : goal.decreases-members::read_members-loop-alloc
+decreases-members::read_members-loop-alloc l = length l.inside.octets.now - l.at

@@ -1,0 +1,236 @@
+-- Lemmas on values that are read at once.
+use Rattle.std.specs.List.{AllByRecursion, concat}
+use Rattle.std.proofs.Common.{◌≡◌, ◌≢◌, ◌+◌, ◌-◌, ◌<◌, ◌≤◌, ℕ, zero, suc, false, List, [], ◌∷◌, ◌++◌, Option, Some, None, Vec, Global, IfSome, MatchOption, refl, sym, ap, ◌∙◌, subst, subst₂, arith, take, drop, map, option_map, length, get_or, append-nil, append_assoc}
+use Rattle.std.proofs.Math.Seq.{take-add}
+use Rattle.std.proofs.lemmas.List.{map_push, map_more, length-drop, take_all, take_rest}
+use Rattle.octets.specs.declared.tag.Tag.{Tag}
+use Rattle.octets.specs.Rule.{ber}
+use Rattle.types.specs.declared.value.Value.{Value}
+use Rattle.types.specs.declared.value.Value.TheVariants as value
+use Rattle.types.specs.declared.ty.Field.{Field}
+use Rattle.types.specs.declared.ty.Alternative.{Alternative}
+use Rattle.types.specs.Shape.{Val, Shape}
+use Rattle.types.specs.View.{ComponentView, ty_view, value_view, field_view, requirement_view, components_view, alternatives_view, components_of, slots_of}
+use Rattle.types.specs.FirstTags.{IsUsable}
+use Rattle.types.specs.Form.{IsConstructed}
+use Rattle.types.specs.Encoding.{IsEncoding, standing}
+use Rattle.types.proofs.NestingLemmas.{nested_above}
+use Rattle.types.proofs.ViewLemmas.{value-Fields, value-Items, field_is}
+use Rattle.encoding_parts.specs.declared.set_components.SetComponent as set_component
+use Rattle.encoding_parts.specs.HeldParts.{set_component_view}
+use Rattle.encoding_parts.specs.Parts.{Parts, SetComponent, IsVacant, IsDue, IsValueOf, IsPartOf, IsCome, IsSlotOf, Holds, IsGoodType, IsGoodComponent}
+use Rattle.encoding_parts.proofs.ChoiceLemmas.{alternative_encodes, alternative_nodes}
+use Rattle.encoding_parts.proofs.PartsOpenLemmas.{none_holds, components_good, parts_good}
+use Rattle.encoding_parts.proofs.PartsPutLemmas.{standing_append, concat_more, items_more, slot_come, come_append, put_holds, put_parts_of}
+use Rattle.encoding_parts.proofs.PartsValueLemmas.{explicit_encodes, sequence_encodes, sequence_of_encodes, set_of_encodes, value_encodes}
+use Rattle.berslice.specs.Reading.{IsRead, IsComponentRead, AreComponentsRead, AreItemsRead, AreMoreItemsRead, IsItemRead, AreSetComponentsOf, AreMembersRead, IsMemberRead}
+
+-- two facts of one answer
+pub both_of : (P Q R : ℕ → Type 0) (answer : Option ℕ) → IfSome answer P → IfSome answer Q → ((n : ℕ) → P n → Q n → R n) → IfSome answer R
+both_of P Q R None p q f = tt
+both_of P Q R (Some n) p q f = f n p q
+
+one_more : (levels : ℕ) → levels ≢ 0 → suc (levels - 1) ≡ levels
+one_more zero some = absurd (some refl)
+one_more (suc n) some = omega arith
+
+-- an encoding is not empty
+pub read_some : (levels : ℕ) (type : Shape) (octets : List ℕ) (slot : Option Value) (used : ℕ) → IsRead levels type octets slot used → 0 < used
+read_some levels type octets None used h = absurd h.1
+read_some levels type octets (Some v) zero h = let above = nested_above levels [] h.1.depth in let none : above.first ∷ above.others ≡ [] = sym above.is in cc
+read_some levels type octets (Some v) (suc used) h = omega arith
+
+-- around an encoding, an explicit tag
+pub explicit_read : (levels : ℕ) (tag : Tag) (type : Shape) (octets inside : List ℕ) (slot : Option Value) (used whole : ℕ) → IsGoodType (Shape.explicit tag type) → levels ≢ 0 → IsRead (levels - 1) type inside slot used
+    → whole ≤ length octets → IsConstructed ber tag (take used inside) (take whole octets) → IsRead levels (Shape.explicit tag type) octets slot whole
+explicit_read levels tag type octets inside None used whole good some h there c = absurd h.1
+explicit_read levels tag type octets inside (Some v) used whole good some h there c =
+    (there, subst (λ n. IsPartOf n (Shape.explicit tag type) (value_view v) (take whole octets)) (one_more levels some) (explicit_encodes (levels - 1) tag type (value_view v) (take used inside) (take whole octets) good.tags.0 h.1 c))
+
+-- around components, a SEQUENCE
+pub sequence_read : (levels : ℕ) (tag : Tag) (fields : List Field) (octets inside : List ℕ) (slots : Vec (Option Value) Global) (used whole : ℕ) → IsGoodType (Shape.sequence tag (components_view fields)) → levels ≢ 0
+    → AreComponentsRead (levels - 1) (map field_view fields) inside slots.items used → whole ≤ length octets → IsConstructed ber tag (take used inside) (take whole octets) → IsRead levels (Shape.sequence tag (components_view fields)) octets (Some (value.Fields slots)) whole
+sequence_read levels tag fields octets inside slots used whole good some h there c =
+    let cs = map field_view fields in
+    let views = map (option_map value_view) slots.items in
+    let part : IsPartOf (suc (levels - 1)) (Shape.sequence tag (components_of (cs ++ []))) (Val.fields (slots_of (views ++ []))) (take whole octets) = sequence_encodes (levels - 1) tag cs [] views (take used inside) (take whole octets) good.tags.0.0 h.come tt c in
+    let here = subst (λ l. IsPartOf (suc (levels - 1)) (Shape.sequence tag (components_of l)) (Val.fields (slots_of (views ++ []))) (take whole octets)) (append-nil cs) part in
+    let there' = subst (λ l. IsPartOf (suc (levels - 1)) (Shape.sequence tag (components_of cs)) (Val.fields (slots_of l)) (take whole octets)) (append-nil views) here in
+    let viewed = subst (λ v. IsPartOf (suc (levels - 1)) (Shape.sequence tag (components_of cs)) v (take whole octets)) (sym (value-Fields slots)) there' in
+    (there, subst (λ n. IsPartOf n (Shape.sequence tag (components_of cs)) (value_view (value.Fields slots)) (take whole octets)) (one_more levels some) viewed)
+
+-- around items, a SEQUENCE OF
+pub sequence_of_read : (levels : ℕ) (tag : Tag) (type : Shape) (octets inside : List ℕ) (items : Vec Value Global) (used whole : ℕ) → IsUsable tag → levels ≢ 0
+    → AreItemsRead (levels - 1) type inside items.items used → whole ≤ length octets → IsConstructed ber tag (take used inside) (take whole octets) → IsRead levels (Shape.sequence_of tag type) octets (Some (value.Items items)) whole
+sequence_of_read levels tag type octets inside items used whole usable some h there c =
+    let part = sequence_of_encodes (levels - 1) tag type (map value_view items.items) (take used inside) (take whole octets) usable h.come c in
+    let viewed = subst (λ v. IsPartOf (suc (levels - 1)) (Shape.sequence_of tag type) v (take whole octets)) (sym (value-Items items)) part in
+    (there, subst (λ n. IsPartOf n (Shape.sequence_of tag type) (value_view (value.Items items)) (take whole octets)) (one_more levels some) viewed)
+
+-- and a SET OF
+pub set_of_read : (levels : ℕ) (tag : Tag) (type : Shape) (octets inside : List ℕ) (items : Vec Value Global) (used whole : ℕ) → IsUsable tag → levels ≢ 0
+    → AreItemsRead (levels - 1) type inside items.items used → whole ≤ length octets → IsConstructed ber tag (take used inside) (take whole octets) → IsRead levels (Shape.set_of tag type) octets (Some (value.Items items)) whole
+set_of_read levels tag type octets inside items used whole usable some h there c =
+    let part = set_of_encodes (levels - 1) tag type (map value_view items.items) (take used inside) (take whole octets) usable h.come c in
+    let viewed = subst (λ v. IsPartOf (suc (levels - 1)) (Shape.set_of tag type) v (take whole octets)) (sym (value-Items items)) part in
+    (there, subst (λ n. IsPartOf n (Shape.set_of tag type) (value_view (value.Items items)) (take whole octets)) (one_more levels some) viewed)
+
+-- no item yet
+no_items : (levels : ℕ) (type : Shape) (octets : List ℕ) (items : List Value) → items ≡ [] → AreItemsRead levels type octets items 0
+no_items levels type octets items none = rw none record { there = omega arith; come = record { encodings = []; each = tt; joined = refl } }
+
+-- one item more
+item_read : (levels : ℕ) (type : Shape) (octets : List ℕ) (items : List Value) (v : Value) (at used : ℕ) → AreItemsRead levels type octets items at → IsRead levels type (drop at octets) (Some v) used → AreItemsRead levels type octets (items ++ (v ∷ [])) (at + used)
+item_read levels type octets items v at used h is =
+    let part = take used (drop at octets) in
+    let all = items_more levels type (map value_view items) h.come.encodings (value_view v) part h.come.each is.1 in
+    let rest = length-drop at octets in
+    record {
+      there = omega (arith, h.there, is.0, rest);
+      come = rw (map_push value_view items v) record { encodings = h.come.encodings ++ (part ∷ []); each = all; joined = take-add at used octets ∙ ap (λ z. z ++ part) h.come.joined ∙ sym (concat_more h.come.encodings part) };
+    }
+
+-- the items behind those that had come
+pub no_more_items : (levels : ℕ) (type : Shape) (octets : List ℕ) (old : List Value) → AreMoreItemsRead levels type octets old old 0
+no_more_items levels type octets old = record { more = []; joined = sym (append-nil old); read = no_items levels type octets [] refl }
+
+pub item_behind : (levels : ℕ) (type : Shape) (octets : List ℕ) (at used : ℕ) (old new : List Value) → IsItemRead levels type (take (length octets - at) (drop at octets)) old new used → IsItemRead levels type (drop at octets) old new used
+item_behind levels type octets at used old new h = subst (λ o. IsItemRead levels type o old new used) (take_rest octets at) h
+
+pub one_item_more : (levels : ℕ) (type : Shape) (octets : List ℕ) (old items new : List Value) (at used : ℕ) → AreMoreItemsRead levels type octets old items at → IsItemRead levels type (drop at octets) items new used → AreMoreItemsRead levels type octets old new (at + used)
+one_item_more levels type octets old items new at used h one =
+    let last = one.value ∷ [] in record {
+      more = h.more ++ last;
+      joined = one.joined ∙ (ap (λ l. l ++ last) h.joined ∙ append_assoc old h.more last);
+      read = item_read levels type octets h.more one.value at used h.read one.read;
+    }
+
+pub all_items : (levels : ℕ) (type : Shape) (octets : List ℕ) (old new : List Value) (used : ℕ) → old ≡ [] → AreMoreItemsRead levels type octets old new used → AreItemsRead levels type octets new used
+all_items levels type octets old new used none h = subst (λ l. AreItemsRead levels type octets l used) (sym (h.joined ∙ ap (λ l. l ++ h.more) none)) h.read
+
+-- no component yet
+pub no_components : (levels : ℕ) (octets : List ℕ) (slots : List (Option Value)) → slots ≡ [] → AreComponentsRead levels [] octets slots 0
+no_components levels octets slots none = rw none record { there = omega arith; come = record { encodings = []; each = tt; joined = refl } }
+
+-- one component more
+pub component_read : (levels : ℕ) (fields : List Field) (i : ℕ) (f : Field) (octets : List ℕ) (slots : List (Option Value)) (slot : Option Value) (at used : ℕ) → i < length fields → f ≡ get_or fields i f
+    → AreComponentsRead levels (map field_view (take i fields)) octets slots at → IsComponentRead levels (field_view f) (drop at octets) slot used → AreComponentsRead levels (map field_view (take (i + 1) fields)) octets (slots ++ (slot ∷ [])) (at + used)
+component_read levels fields i f octets slots slot at used below is h one =
+    let view = option_map value_view in
+    let cs = map field_view (take i fields) in
+    let more : map field_view (take (i + 1) fields) ≡ cs ++ (field_view f ∷ []) = map_more field_view fields i f below ∙ ap (λ (x : Field). cs ++ (field_view x ∷ [])) (sym is) in
+    let come = come_append levels cs (field_view f ∷ []) (map view slots) (view slot ∷ []) h.come.encodings (one.encoding ∷ []) h.come.each (one.come, tt) in
+    let joined : take (at + used) octets ≡ concat (standing (h.come.encodings ++ (one.encoding ∷ []))) = take-add at used octets ∙ ap (λ z. z ++ take used (drop at octets)) h.come.joined ∙ ap (λ z. concat (standing h.come.encodings) ++ z) one.joined
+    ∙ sym (ap concat (standing_append h.come.encodings (one.encoding ∷ [])) ∙ concat_two (standing h.come.encodings) (standing (one.encoding ∷ []))) in
+    let rest = length-drop at octets in
+    record {
+      there = omega (arith, h.there, one.there, rest);
+      come = rw (more, map_push view slots slot) record { encodings = h.come.encodings ++ (one.encoding ∷ []); each = come; joined = joined };
+    }
+  where
+    concat_two : (xs ys : List (List ℕ)) → concat (xs ++ ys) ≡ concat xs ++ concat ys
+    concat_two [] ys = refl
+    concat_two (x ∷ xs) ys = ap (λ z. x ++ z) (concat_two xs ys) ∙ sym (append_assoc x (concat xs) (concat ys))
+
+-- a component that stands there
+pub component_stands : (levels : ℕ) (f : Field) (octets : List ℕ) (found slot : Option Value) (used : ℕ) → IsRead levels (ty_view f.ty) octets found used
+    → MatchOption found (slot ≡ None) (λ v. IsSlotOf (requirement_view f.presence) (value_view v) (option_map value_view slot)) → IsComponentRead levels (field_view f) octets slot used
+component_stands levels f octets None slot used h is = absurd h.1
+component_stands levels f octets (Some v) slot used h is =
+    let part = take used octets in
+    let c = field_view f in
+    let same = field_is f in
+    let come : IsCome levels c (option_map value_view slot) (Some part) = subst (λ (d : ComponentView). IsCome levels d (option_map value_view slot) (Some part)) (sym same) (slot_come levels f.name (ty_view f.ty) (requirement_view f.presence) (value_view v) (option_map value_view slot) part is h.1) in
+    record { there = h.0; encoding = Some part; come = come; joined = sym (append-nil part) }
+
+-- all of the components
+pub all_components : (levels : ℕ) (fields : List Field) (i : ℕ) (octets : List ℕ) (slots : List (Option Value)) (at : ℕ) → length fields ≤ i → length slots ≡ length fields
+    → AreComponentsRead levels (map field_view (take i fields)) octets (take i slots) at → AreComponentsRead levels (map field_view fields) octets slots at
+all_components levels fields i octets slots at past many read =
+    subst₂ (λ xs ys. AreComponentsRead levels (map field_view xs) octets ys at) (take_all i fields past) (take_all i slots (omega (arith, past, many))) read
+
+-- the components of a good SEQUENCE
+pub good_components : (tag : Tag) (fields : List Field) → IsGoodType (Shape.sequence tag (components_view fields)) → AllByRecursion IsGoodComponent (map field_view fields)
+good_components tag fields good = (parts_good (Shape.sequence tag (components_view fields)) (Parts.sequence [] [] (map field_view fields)) good refl (refl, refl)).0
+
+pub good_component : (fields : List Field) (i : ℕ) (f : Field) → i < length fields → f ≡ get_or fields i f → AllByRecursion IsGoodComponent (map field_view fields) → IsGoodComponent (field_view f)
+good_component [] i f below is good = absurd (omega (arith, below))
+good_component (x ∷ fields) zero f below is good = subst (λ (g : Field). IsGoodComponent (field_view g)) (sym is) good.0
+good_component (x ∷ fields) (suc i) f below is good = good_component fields i f (omega (arith, below)) is good.1
+
+-- the alternatives of a good CHOICE
+pub good_alternative : (xs : List Alternative) (which : ℕ) (a : Alternative) → which < length xs → a ≡ get_or xs which a → IsGoodType (Shape.choice (alternatives_view xs)) → IsGoodType (ty_view a.ty)
+good_alternative xs which a below is good =
+    let nodes = alternative_nodes xs which a below is (good.tags.1, good.defaults.1, good.within.1) in
+    record { within = nodes.2; tags = nodes.0; defaults = nodes.1 }
+
+-- an alternative is a value of the CHOICE
+pub chosen_read : (levels : ℕ) (xs : List Alternative) (which : ℕ) (a : Alternative) (octets : List ℕ) (v : Value) (slot : Option Value) (used : ℕ) → which < length xs → a ≡ get_or xs which a
+    → option_map value_view slot ≡ Some (Val.chosen which (value_view v)) → IsRead levels (ty_view a.ty) octets (Some v) used → IsRead levels (Shape.choice (alternatives_view xs)) octets slot used
+chosen_read levels xs which a octets v None used below is put h = absurd (cc put)
+chosen_read levels xs which a octets v (Some w) used below is put h =
+    let viewed : value_view w ≡ Val.chosen which (value_view v) = cc put in
+    let encodes : IsEncoding ber (Shape.choice (alternatives_view xs)) (Val.chosen which (value_view v)) (take used octets) = record { which = which; value = value_view v; is = refl; chosen = alternative_encodes xs which a (value_view v) (take used octets) below is h.1.encoding } in
+    (h.0, record { encoding = subst (λ x. IsEncoding ber (Shape.choice (alternatives_view xs)) x (take used octets)) (sym viewed) encodes; depth = h.1.depth })
+
+-- no component of a SET yet
+pub no_members : (levels : ℕ) (tag : Tag) (fields : List Field) (octets : List ℕ) (set_components : List set_component.SetComponent) → map (λ (s : SetComponent). s.component) (map set_component_view set_components) ≡ map field_view fields → AllByRecursion (λ (s : SetComponent). (s.slot ≡ None) × (s.came ≡ false)) (map set_component_view set_components)
+    → AreMembersRead levels (map field_view fields) octets (Parts.set (map set_component_view set_components)) 0
+no_members levels tag fields octets set_components components vacant = record { there = omega arith; set_components = λ other. ap components_of (sym components); come = none_holds levels (Parts.set (map set_component_view set_components)) vacant }
+
+-- one component more
+pub member_read : (levels : ℕ) (components : List ComponentView) (octets : List ℕ) (old new : Parts) (at used : ℕ) → AreMembersRead levels components octets old at → IsMemberRead levels (drop at octets) old new used → AreMembersRead levels components octets new (at + used)
+member_read levels components octets old new at used h one =
+    let part = take used (drop at octets) in
+    let rest = length-drop at octets in
+    record {
+      there = omega (arith, h.there, one.there, rest);
+      set_components = λ tag. put_parts_of (Shape.set tag (components_of components)) old new one.which one.value (h.set_components tag) one.put;
+      come = subst (Holds levels new) (sym (take-add at used octets)) (put_holds levels old new one.which one.type one.value (take at octets) part h.come one.due one.part one.put);
+    }
+
+-- what was read behind some octets
+pub member_behind : (levels : ℕ) (octets : List ℕ) (at used : ℕ) (old new : Parts) → IsMemberRead levels (take (length octets - at) (drop at octets)) old new used → IsMemberRead levels (drop at octets) old new used
+member_behind levels octets at used old new h = subst (λ o. IsMemberRead levels o old new used) (take_rest octets at) h
+
+-- a part is not empty
+pub member_some : (levels : ℕ) (octets : List ℕ) (old new : Parts) (used : ℕ) → IsMemberRead levels octets old new used → 0 < used
+member_some levels octets old new zero h = let above = nested_above levels [] h.part.depth in let none : above.first ∷ above.others ≡ [] = sym above.is in cc
+member_some levels octets old new (suc used) h = omega arith
+
+-- the field of a component of a SET that has not come
+pub record IsFieldAt (fields : List Field) (which : ℕ) (type : Shape) : Type 0 where
+  pub below : which < length fields
+  pub types : (f : Field) → f ≡ get_or fields which f → ty_view f.ty ≡ type
+
+pub field_type : (f : Field) → (field_view f).type ≡ ty_view f.ty
+field_type f = ap (λ (c : ComponentView). c.type) (field_is f)
+
+set_component_field : (fields : List Field) (set_components : List SetComponent) (which : ℕ) (type : Shape) → components_of (map field_view fields) ≡ components_of (map (λ s. s.component) set_components) → IsVacant set_components which type → IsFieldAt fields which type
+set_component_field fields [] which type same h = absurd h
+set_component_field [] (s ∷ set_components) which type same h = cc
+set_component_field (x ∷ fields) (s ∷ set_components) zero type same h =
+    let first : (field_view x).type ≡ s.component.type = cc same in
+    record { below = omega arith; types = λ f is. ap (λ (g : Field). ty_view g.ty) is ∙ sym (field_type x) ∙ first ∙ h.1 }
+set_component_field (x ∷ fields) (s ∷ set_components) (suc which) type same h =
+    let others : components_of (map field_view fields) ≡ components_of (map (λ s. s.component) set_components) = cc same in
+    let later = set_component_field fields set_components which type others h in
+    record { below = omega (arith, later.below); types = λ f is. later.types f is }
+
+pub due_field : (tag : Tag) (fields : List Field) (parts : Parts) (which : ℕ) (type : Shape) → AreSetComponentsOf (map field_view fields) parts → IsDue parts which type → IsFieldAt fields which type
+due_field tag fields (Parts.set set_components) which type of due = set_component_field fields set_components which type (of tag) due
+due_field tag fields (Parts.explicit inner held) which type of due = absurd (of tag)
+due_field tag fields (Parts.items inner values) which type of due = absurd (of tag)
+due_field tag fields (Parts.sequence passed slots left) which type of due = absurd (of tag)
+
+-- around components in any order, a SET
+pub set_read : (levels : ℕ) (tag : Tag) (components : List ComponentView) (octets inside : List ℕ) (parts : Parts) (v : Value) (used whole : ℕ) → IsGoodType (Shape.set tag (components_of components)) → levels ≢ 0
+    → AreMembersRead (levels - 1) components inside parts used → IsValueOf parts (value_view v) → whole ≤ length octets → IsConstructed ber tag (take used inside) (take whole octets) → IsRead levels (Shape.set tag (components_of components)) octets (Some v) whole
+set_read levels tag components octets inside parts v used whole good some h is there c =
+    let shape = Shape.set tag (components_of components) in
+    let part = value_encodes (levels - 1) shape parts tag (value_view v) (take used inside) (take whole octets) (h.set_components tag) h.come is good refl c in
+    (there, subst (λ n. IsPartOf n shape (value_view v) (take whole octets)) (one_more levels some) part)
+
+-- the components of a good SET
+pub good_members : (tag : Tag) (fields : List Field) → IsGoodType (Shape.set tag (components_view fields)) → AllByRecursion IsGoodComponent (map field_view fields)
+good_members tag fields good = components_good (map field_view fields) good.within.1 good.tags.1 good.defaults.1 good.defaults.0

@@ -1,0 +1,105 @@
+//! Components of a SEQUENCE, in order of declaration (X.690 8.9).
+
+ghost use Rattle.std.specs.Prelude.{◌≡◌, None, length, map, option_map, IfSome, MatchOption};
+ghost use Rattle.std.specs.List.{AllByRecursion};
+ghost use Rattle.types.specs.Shape.{Shape};
+ghost use Rattle.types.specs.View.{value_view, field_view, requirement_view, components_view};
+ghost use Rattle.encoding_parts.specs.Parts.{IsGoodType, IsGoodComponent, IsSlotOf};
+ghost use Rattle.berslice.specs.Reading.{IsRead, IsComponentRead, AreComponentsRead};
+
+use crate::heads::opened;
+use crate::reading::{fill, read_one};
+use encoding_parts::{clear, is_default, take_slots};
+use octets::Tag;
+use std::alloc::Global;
+use types::{Field, Presence, Value, may_be_absent};
+
+// Reads a SEQUENCE with these components at the front into the slot.
+#[cycle(reading)]
+#[inline(never)]
+pub fn read_sequence(
+    alloc: Global,
+    tag: Tag,
+    fields: &[Field],
+    levels: usize,
+    octets: &[u8],
+    slot: &mut Option<Value>,
+) -> Option<usize>
+    requires { IsGoodType (Shape.sequence tag (components_view fields.now)) }
+    ensures { IfSome result (λ used. IsRead levels (Shape.sequence tag (components_view fields.now)) octets.now slot.new used) }
+{
+    let inside = opened(tag, octets)?;
+    if levels == 0 {
+        return None;
+    }
+    let Ok(taken) = take_slots(alloc, fields, slot) else {
+        return None;
+    };
+    let mut slots = taken;
+    let used = read_components(alloc, fields, levels - 1, inside.octets, &mut slots)?;
+    fill(slot, Value::Fields(slots));
+    inside.close(octets, used)
+}
+
+// Reads the encodings of components at the front, in order of declaration, and returns how many octets they have.
+#[cycle(reading)]
+fn read_components(
+    alloc: Global,
+    fields: &[Field],
+    levels: usize,
+    octets: &[u8],
+    slots: &mut Vec<Option<Value>>,
+) -> Option<usize>
+    requires good { AllByRecursion IsGoodComponent (map field_view fields.now) }
+    requires slots { length slots.old.items ≡ length fields.now }
+    ensures { IfSome result (λ used. AreComponentsRead levels (map field_view fields.now) octets.now slots.new.items used) }
+{
+    let mut at = 0;
+    for (place, field) in fields.iter().enumerate() {
+        at += read_component(alloc, field, levels, &octets[at..], &mut slots[place])?;
+    }
+    Some(at)
+}
+
+// Reads the encoding of the component at the front, if it stands there, or none where it may be absent. A value that
+// is the default leaves an empty slot.
+#[cycle(reading)]
+fn read_component(
+    alloc: Global,
+    field: &Field,
+    levels: usize,
+    octets: &[u8],
+    slot: &mut Option<Value>,
+) -> Option<usize>
+    requires { IsGoodComponent (field_view field.now) }
+    ensures { IfSome result (λ used. IsComponentRead levels (field_view field.now) octets.now slot.new used) }
+{
+    match read_one(alloc, &field.ty, levels, octets, slot) {
+        Some(used) => {
+            drop_default(&field.presence, slot);
+            Some(used)
+        }
+        None => {
+            clear(slot);
+            if may_be_absent(&field.presence) {
+                Some(0)
+            } else {
+                None
+            }
+        }
+    }
+}
+
+// Empties the slot where the value in it is the component's default.
+fn drop_default(presence: &Presence, slot: &mut Option<Value>)
+    ensures { MatchOption slot.old (slot.new ≡ None)
+        (λ value. IsSlotOf (requirement_view presence.now) (value_view value) (option_map value_view slot.new)) }
+{
+    let is_dropped = match slot {
+        Some(value) => is_default(presence, value),
+        None => true,
+    };
+    if is_dropped {
+        clear(slot);
+    }
+}

@@ -1,0 +1,187 @@
+//! Where the contents octets of an encoding under a known tag begin and end (X.690 8.1).
+
+ghost use Rattle.std.specs.Prelude.{◌≡◌, ◌↔◌, ◌+◌, ◌∷◌, ◌≤◌, ℕ, List, [], length, take, drop, IsTrue, IfSome};
+ghost use Rattle.octets.specs.declared.tag.Tag.{Tag};
+ghost use Rattle.octets.specs.Identifier.{class_bits, IsIdentifier};
+ghost use Rattle.octets.specs.Rule.{ber};
+ghost use Rattle.types.specs.Form.{IsConstructed};
+ghost use Rattle.berslice.specs.Heads.{IsOpened, IsPrimitiveAt, StartsWithEnd};
+
+use octets::{Class, Head, Length, Tag, read_identifier, read_length};
+
+/// A constructed encoding of which the identifier octets and length octets have been read.
+#[derive(Clone, Copy)]
+pub struct Inside<'a> {
+    /// What stands behind them: of the definite form the contents octets, and else all that is there.
+    pub octets: &'a [u8],
+    /// How many octets they are.
+    pub start: usize,
+    /// Whether the encoding has the definite form.
+    pub definite: bool,
+}
+
+// The contents octets of the primitive encoding at the front, if it has the tag, and how many octets it has. Mostly
+// two octets stand before them.
+#[inline(always)]
+pub fn primitive(tag: Tag, octets: &[u8]) -> Option<(&[u8], usize)>
+    ensures { IfSome result (λ p. IsPrimitiveAt tag octets.now p.0.now p.1) }
+{
+    if tag.number < 31 && octets.len() >= 2 && octets[1] < 0x80 {
+        if octets[0] != leading_octet(tag) {
+            return None;
+        }
+        let stop = 2 + usize::from(octets[1]);
+        if stop > octets.len() {
+            return None;
+        }
+        return Some((&octets[2..stop], stop));
+    }
+    long_primitive(tag, octets)
+}
+
+// The contents octets of a primitive encoding and its end, whatever its identifier and length are.
+#[inline(never)]
+fn long_primitive(tag: Tag, octets: &[u8]) -> Option<(&[u8], usize)>
+    ensures { IfSome result (λ p. IsPrimitiveAt tag octets.now p.0.now p.1) }
+{
+    let start = begun(tag, false, octets)?;
+    let Length::Definite { octets: size, used } = read_length(&octets[start..]) else {
+        return None;
+    };
+    let start = start + used;
+    if size > octets.len() - start {
+        return None;
+    }
+    let stop = start + size;
+    Some((&octets[start..stop], stop))
+}
+
+// What stands inside the constructed encoding at the front, if it has the tag. Mostly two octets stand before it.
+#[inline(always)]
+pub fn opened(tag: Tag, octets: &[u8]) -> Option<Inside<'_>>
+    ensures { IfSome result (λ inside. IsOpened tag octets.now inside) }
+{
+    if tag.number < 31 && octets.len() >= 2 && octets[1] <= 0x80 {
+        if octets[0] != leading_octet(tag) + 0x20 {
+            return None;
+        }
+        if octets[1] == 0x80 {
+            return Some(Inside {
+                octets: &octets[2..],
+                start: 2,
+                definite: false,
+            });
+        }
+        let stop = 2 + usize::from(octets[1]);
+        if stop > octets.len() {
+            return None;
+        }
+        return Some(Inside {
+            octets: &octets[2..stop],
+            start: 2,
+            definite: true,
+        });
+    }
+    long_opened(tag, octets)
+}
+
+// What is inside a constructed encoding, whatever its identifier and length are.
+#[inline(never)]
+fn long_opened(tag: Tag, octets: &[u8]) -> Option<Inside<'_>>
+    ensures { IfSome result (λ inside. IsOpened tag octets.now inside) }
+{
+    let start = begun(tag, true, octets)?;
+    match read_length(&octets[start..]) {
+        Length::Definite { octets: size, used } => {
+            let start = start + used;
+            if size > octets.len() - start {
+                return None;
+            }
+            Some(Inside {
+                octets: &octets[start..start + size],
+                start,
+                definite: true,
+            })
+        }
+        Length::Indefinite { used } => Some(Inside {
+            octets: &octets[start + used..],
+            start: start + used,
+            definite: false,
+        }),
+        Length::More | Length::Bad => None,
+    }
+}
+
+// How many identifier octets the encoding at the front has, if they are those of the tag and the form.
+fn begun(tag: Tag, constructed: bool, octets: &[u8]) -> Option<usize>
+    ensures { IfSome result (λ used. (used ≤ length octets.now) × IsIdentifier tag constructed (take used octets.now)) }
+{
+    match read_identifier(octets) {
+        Head::Done {
+            tag: found,
+            constructed: form,
+            used,
+        } if found == tag && form == constructed => Some(used),
+        Head::Done { .. } | Head::More | Head::Bad => None,
+    }
+}
+
+// The one identifier octet of a primitive encoding (X.690 8.1.2.2).
+fn leading_octet(tag: Tag) -> u8
+    requires { tag.number ≤ 30 }
+    ensures { result ≡ class_bits tag.class + tag.number }
+{
+    let class = match tag.class {
+        Class::Universal => 0x00,
+        Class::Application => 0x40,
+        Class::Context => 0x80,
+        Class::Private => 0xC0,
+    };
+    class + tag.number as u8
+}
+
+impl<'a> Inside<'a> {
+    // Whether the contents octets end behind so many.
+    pub fn ends(&self, used: usize) -> bool
+        requires { used ≤ length self.now.octets.now }
+    {
+        ends_at(&self.octets[used..], self.definite)
+    }
+
+    // How many octets the encoding at the front has, of which this was read, if so many are its contents octets.
+    pub fn close(&self, octets: &[u8], used: usize) -> Option<usize>
+        requires there { used ≤ length self.now.octets.now }
+        requires opened { (tag : Tag) × IsOpened tag octets.now self.now }
+        ensures there { IfSome result (λ whole. whole ≤ length octets.now) }
+        ensures value { IfSome result (λ whole. (tag : Tag) → IsOpened tag octets.now self.now →
+            IsConstructed ber tag (take used self.now.octets.now) (take whole octets.now)) }
+    {
+        if self.definite {
+            if used < self.octets.len() {
+                return None;
+            }
+            return Some(self.start + used);
+        }
+        if !starts_with_end(&self.octets[used..]) {
+            return None;
+        }
+        Some(self.start + used + 2)
+    }
+}
+
+// Whether contents octets end in front of these, which of the definite form are all that are left of them.
+#[inline(always)]
+pub fn ends_at(octets: &[u8], definite: bool) -> bool {
+    if definite {
+        octets.is_empty()
+    } else {
+        starts_with_end(octets)
+    }
+}
+
+// Whether the octets begin with end-of-contents octets (X.690 8.1.5).
+fn starts_with_end(octets: &[u8]) -> bool
+    ensures { IsTrue result ↔ StartsWithEnd octets.now }
+{
+    octets.len() >= 2 && octets[0] == 0x00 && octets[1] == 0x00
+}

@@ -1,0 +1,158 @@
+//! Items of a SEQUENCE OF or SET OF, in the order in which they stand (X.690 8.10 and 8.12).
+
+ghost use Rattle.std.specs.Prelude.{◌≡◌, None, IfSome};
+ghost use Rattle.types.specs.FirstTags.{IsUsable};
+ghost use Rattle.types.specs.Shape.{Shape};
+ghost use Rattle.types.specs.View.{ty_view};
+ghost use Rattle.encoding_parts.specs.Parts.{IsGoodType};
+ghost use Rattle.berslice.specs.Reading.{IsRead, IsItemRead, AreMoreItemsRead};
+ghost use Rattle.berslice.specs.Renewed.{new_items};
+
+use crate::heads::{ends_at, opened};
+use crate::places::Places;
+use crate::reading::{fill, read_alternative, read_one};
+use crate::renewed::Renewed;
+use encoding_parts::take_list;
+use octets::Tag;
+use std::alloc::Global;
+use types::{Ty, Value};
+
+// Reads a SEQUENCE OF or SET OF at the front into the slot.
+#[cycle(reading)]
+#[inline(never)]
+pub fn read_list(
+    alloc: Global,
+    tag: Tag,
+    inner: &Ty,
+    levels: usize,
+    octets: &[u8],
+    slot: &mut Option<Value>,
+) -> Option<usize>
+    requires usable { IsUsable tag }
+    requires good { IsGoodType (ty_view inner.now) }
+    ensures sequence { IfSome result (λ used. IsRead levels (Shape.sequence_of tag (ty_view inner.now)) octets.now slot.new used) }
+    ensures set { IfSome result (λ used. IsRead levels (Shape.set_of tag (ty_view inner.now)) octets.now slot.new used) }
+{
+    let inside = opened(tag, octets)?;
+    if levels == 0 {
+        return None;
+    }
+    let mut list = Renewed::over(old_items(alloc, inner, slot));
+    let used = fill_list(
+        alloc,
+        inner,
+        levels - 1,
+        inside.octets,
+        inside.definite,
+        &mut list,
+    );
+    fill(slot, Value::Items(list.into_items()));
+    inside.close(octets, used)
+}
+
+// The items of the list that the slot holds: of a type whose values have room to give, or, emptied, of any other.
+fn old_items(alloc: Global, ty: &Ty, slot: &mut Option<Value>) -> Vec<Value> {
+    let mut items = take_list(alloc, slot);
+    if let Ty::Boolean(_) | Ty::Integer(_) | Ty::Enumerated(_, _) | Ty::Null(_) = ty {
+        items.clear();
+    }
+    items
+}
+
+/// Appends the items at the front of `octets` that are read at once, and returns how many octets they have. It goes as
+/// far as the contents octets do, which of the definite form are all of `octets`, or to an item that is cut or refused,
+/// or has a constructed string, of which it takes nothing.
+///
+/// Takes memory as the items do; where there is too little it ends.
+pub fn read_items(
+    alloc: Global,
+    inner: &Ty,
+    levels: usize,
+    octets: &[u8],
+    definite: bool,
+    items: &mut Vec<Value>,
+) -> usize
+    requires { IsGoodType (ty_view inner.now) }
+    ensures { AreMoreItemsRead levels (ty_view inner.now) octets.now items.old.items items.new.items result }
+{
+    let mut list = Renewed::behind(std::mem::replace(items, Vec::new(alloc)));
+    let used = fill_list(alloc, inner, levels, octets, definite, &mut list);
+    *items = list.into_items();
+    used
+}
+
+// Puts the items at the front of `octets` into the list, and returns how many octets they have.
+#[cycle(reading)]
+fn fill_list(
+    alloc: Global,
+    inner: &Ty,
+    levels: usize,
+    octets: &[u8],
+    definite: bool,
+    list: &mut Renewed,
+) -> usize
+    requires { IsGoodType (ty_view inner.now) }
+    ensures { AreMoreItemsRead levels (ty_view inner.now) octets.now (new_items list.old) (new_items list.new) result }
+{
+    let before = list.count;
+    let mut places = Places::of(inner);
+    let mut at = 0;
+    while !ends_at(&octets[at..], definite) {
+        let rest = &octets[at..];
+        match read_item(alloc, inner, levels, rest, before, &mut places, list) {
+            Some(used) => at += used,
+            None => return at,
+        }
+    }
+    at
+}
+
+// Puts the item at the front into the list, and returns how many octets it has. So many had come `before` these octets.
+#[cycle(reading)]
+#[inline(always)]
+fn read_item(
+    alloc: Global,
+    inner: &Ty,
+    levels: usize,
+    octets: &[u8],
+    before: usize,
+    places: &mut Option<Places>,
+    list: &mut Renewed,
+) -> Option<usize>
+    requires { IsGoodType (ty_view inner.now) }
+    ensures some { IfSome result (λ used. IsItemRead levels (ty_view inner.now) octets.now (new_items list.old) (new_items list.new) used) }
+    ensures none { result ≡ None → new_items list.new ≡ new_items list.old }
+{
+    let mut item = list.take_old();
+    let used = read_among(alloc, inner, levels, octets, places, &mut item)?;
+    let value = item?;
+    let most = before.max(octets.len() / used);
+    if list.put(value, most) {
+        Some(used)
+    } else {
+        None
+    }
+}
+
+// Reads the encoding at the front into the slot, of a type of which others may have come.
+#[cycle(reading)]
+#[inline(always)]
+fn read_among(
+    alloc: Global,
+    ty: &Ty,
+    levels: usize,
+    octets: &[u8],
+    places: &mut Option<Places>,
+    slot: &mut Option<Value>,
+) -> Option<usize>
+    requires { IsGoodType (ty_view ty.now) }
+    ensures { IfSome result (λ used. IsRead levels (ty_view ty.now) octets.now slot.new used) }
+{
+    if let Some(places) = places {
+        if let Ty::Choice(alternatives) = ty {
+            let which = places.place_of(alternatives, octets)?;
+            return read_alternative(alloc, alternatives, which, levels, octets, slot);
+        }
+    }
+    read_one(alloc, ty, levels, octets, slot)
+}

@@ -1,0 +1,45 @@
+//! Where alternatives of a CHOICE stand that have come in a list.
+
+ghost use Rattle.std.specs.Prelude.{◌<◌, length, IfSome};
+
+use encoding_parts::{begins, by_tag};
+use octets::{Head, read_identifier};
+use types::{Alternative, Ty};
+
+/// The place of the alternative that came last of each number of a tag, by the number's last eight bits. A place is a
+/// guess, and is looked at before it is taken.
+#[derive(Drop)]
+pub struct Places {
+    each: [u8; 256],
+}
+
+impl Places {
+    // Those of a list of this type: none have come; None unless it is a CHOICE.
+    pub fn of(ty: &Ty) -> Option<Places> {
+        if matches!(ty, Ty::Choice(_)) {
+            Some(Places { each: [0; 256] })
+        } else {
+            None
+        }
+    }
+
+    // The place of the alternative that begins with the identifier at the front. Those that have come are not searched
+    // for.
+    pub fn place_of(&mut self, alternatives: &[Alternative], octets: &[u8]) -> Option<usize>
+        ensures { IfSome result (λ which. which < length alternatives.now) }
+    {
+        let Head::Done { tag, .. } = read_identifier(octets) else {
+            return None;
+        };
+        let number = (tag.number % 256) as usize;
+        let guess = usize::from(self.each[number]);
+        if guess < alternatives.len() && begins(&alternatives[guess].ty, tag) {
+            return Some(guess);
+        }
+        let (which, _) = by_tag(alternatives, tag)?;
+        if which < 256 {
+            self.each[number] = which as u8;
+        }
+        Some(which)
+    }
+}

@@ -1,0 +1,153 @@
+//! Values and their parts, each by a call that nests in that of what holds it.
+
+ghost use Rattle.std.specs.Prelude.{◌≡◌, ◌↔◌, ◌<◌, ◌≤◌, Some, None, length, take, IfSome, IsSome};
+ghost use Rattle.octets.specs.Rule.{ber};
+ghost use Rattle.types.specs.Encoding.{IsAccepted};
+ghost use Rattle.types.specs.Shape.{Shape};
+ghost use Rattle.types.specs.View.{ty_view, value_view, alternatives_view};
+ghost use Rattle.encoding_parts.specs.Parts.{IsGoodType};
+ghost use Rattle.berslice.specs.Reading.{IsRead};
+
+use crate::MAX_NESTED;
+use crate::components::read_sequence;
+use crate::heads::opened;
+use crate::items::read_list;
+use crate::leaf::read_leaf;
+use crate::members::read_set;
+use encoding_parts::{by_tag, clear, put_chosen, take_chosen};
+use octets::{Head, MAX_ENCODING, Tag, read_identifier};
+use std::alloc::Global;
+use types::{Alternative, Ty, Value};
+
+/// Reads the encoding at the front of `octets` into `whole`, where all of it is there and within the limits, and
+/// returns how many octets it has. None of anything else, of which that says nothing: whoever asks then reads part
+/// by part, and refuses what there is to refuse. So it is with a constructed string.
+///
+/// Takes memory as the value does, beside the room of the value that `whole` holds, into which goes what has room
+/// there; None where there is too little.
+pub fn read_whole(alloc: Global, ty: &Ty, octets: &[u8], whole: &mut Option<Value>) -> Option<usize>
+    requires good { IsGoodType (ty_view ty.now) }
+    ensures there { IfSome result (λ used. used ≤ length octets.now) }
+    ensures value { IfSome result (λ used. IfSome whole.new (λ value.
+        IsAccepted ber (ty_view ty.now) (value_view value) (take used octets.now))) }
+    ensures some { IsSome result ↔ IsSome whole.new }
+{
+    let front = &octets[..octets.len().min(MAX_ENCODING)];
+    match read_one(alloc, ty, MAX_NESTED, front, whole) {
+        Some(used) => Some(used),
+        None => {
+            clear(whole);
+            None
+        }
+    }
+}
+
+// Reads the encoding at the front into the slot, in which at most so many constructed ones nest. Where it is not
+// read, the slot may hold anything.
+#[cycle(reading)]
+pub fn read_one(
+    alloc: Global,
+    ty: &Ty,
+    levels: usize,
+    octets: &[u8],
+    slot: &mut Option<Value>,
+) -> Option<usize>
+    requires { IsGoodType (ty_view ty.now) }
+    ensures { IfSome result (λ used. IsRead levels (ty_view ty.now) octets.now slot.new used) }
+{
+    match ty {
+        Ty::Boolean(tag)
+        | Ty::Integer(tag)
+        | Ty::Enumerated(tag, _)
+        | Ty::Null(tag)
+        | Ty::Oid(tag)
+        | Ty::RelativeOid(tag)
+        | Ty::Bits(tag)
+        | Ty::NamedBits(tag, _)
+        | Ty::Octets(tag)
+        | Ty::Text(tag, _)
+        | Ty::Time(tag, _) => read_leaf(alloc, ty, *tag, octets, slot),
+        Ty::Sequence(tag, fields) => read_sequence(alloc, *tag, fields, levels, octets, slot),
+        Ty::SequenceOf(tag, inner) | Ty::SetOf(tag, inner) => {
+            read_list(alloc, *tag, inner, levels, octets, slot)
+        }
+        Ty::Explicit(tag, inner) => read_explicit(alloc, *tag, inner, levels, octets, slot),
+        Ty::Choice(alternatives) => read_chosen(alloc, alternatives, levels, octets, slot),
+        Ty::Set(tag, fields) => read_set(alloc, *tag, fields, levels, octets, slot),
+    }
+}
+
+// Reads the encoding under an explicit tag at the front into the slot.
+#[cycle(reading)]
+#[inline(never)]
+fn read_explicit(
+    alloc: Global,
+    tag: Tag,
+    inner: &Ty,
+    levels: usize,
+    octets: &[u8],
+    slot: &mut Option<Value>,
+) -> Option<usize>
+    requires { IsGoodType (Shape.explicit tag (ty_view inner.now)) }
+    ensures { IfSome result (λ used. IsRead levels (Shape.explicit tag (ty_view inner.now)) octets.now slot.new used) }
+{
+    let inside = opened(tag, octets)?;
+    if levels == 0 {
+        return None;
+    }
+    let used = read_one(alloc, inner, levels - 1, inside.octets, slot)?;
+    inside.close(octets, used)
+}
+
+// Reads an encoding of one of the alternatives at the front into the slot: tags tell them apart.
+#[cycle(reading)]
+#[inline(never)]
+fn read_chosen(
+    alloc: Global,
+    alternatives: &[Alternative],
+    levels: usize,
+    octets: &[u8],
+    slot: &mut Option<Value>,
+) -> Option<usize>
+    requires { IsGoodType (Shape.choice (alternatives_view alternatives.now)) }
+    ensures { IfSome result (λ used. IsRead levels (Shape.choice (alternatives_view alternatives.now)) octets.now slot.new used) }
+{
+    let Head::Done { tag, .. } = read_identifier(octets) else {
+        return None;
+    };
+    let (which, _) = by_tag(alternatives, tag)?;
+    read_alternative(alloc, alternatives, which, levels, octets, slot)
+}
+
+// Reads an encoding of the alternative at this place at the front into the slot.
+#[cycle(reading)]
+#[inline(always)]
+pub fn read_alternative(
+    alloc: Global,
+    alternatives: &[Alternative],
+    which: usize,
+    levels: usize,
+    octets: &[u8],
+    slot: &mut Option<Value>,
+) -> Option<usize>
+    requires there { which < length alternatives.now }
+    requires good { IsGoodType (Shape.choice (alternatives_view alternatives.now)) }
+    ensures { IfSome result (λ used. IsRead levels (Shape.choice (alternatives_view alternatives.now)) octets.now slot.new used) }
+{
+    let alternative = &alternatives[which];
+    let mut chosen = take_chosen(slot);
+    let used = read_one(alloc, &alternative.ty, levels, octets, &mut chosen)?;
+    if put_chosen(alloc, which, chosen?, slot) {
+        Some(used)
+    } else {
+        None
+    }
+}
+
+// Puts the value into the slot.
+#[inline(always)]
+pub fn fill(slot: &mut Option<Value>, value: Value)
+    ensures { slot.new ≡ Some value }
+{
+    *slot = Some(value);
+}

@@ -1,6 +1,0 @@
-use Rattle.types.proofs.LoopLemmas.{IsLeftTo}
-use Rattle.builtin.proofs.BitLemmas.{NumbersWithin}
-use Rattle.builtin.proofs.bits.are_bits_within.Given as goal
-
-abbrev pub invariant-loop-bit : goal.invariant-loop-bit
-invariant-loop-bit l = IsLeftTo NumbersWithin l.bits l.bit-index

@@ -1,6 +1,0 @@
-use Rattle.std.proofs.Common.{refl}
-use Rattle.builtin.proofs.EnteredLemmas.{enter_told}
-use Rattle.builtin.proofs.differing.enter.Goals as goal
-
-pub returns : goal.returns
-returns c = enter_told (λ k. k.now) c.args.name.now c.args.names.now.keys c.insert.new.self.keys c.args.name c.in_ok-insert.field-0 refl c.in_ok-insert.ensures.added c.in_ok-insert.ensures.keys

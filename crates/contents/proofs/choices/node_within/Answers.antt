@@ -1,6 +1,0 @@
-use Rattle.types.specs.View.{ty_view}
-use Rattle.contents.proofs.ChoiceLemmas.{own_node}
-use Rattle.contents.proofs.choices.node_within.Goals as goal
-
-pub returns-then-is_node : goal.returns-then-is_node
-returns-then-is_node c = own_node c.args.tag (ty_view c.args.ty.now) (c.is_node.ensures.node.0 c.if-is_node.true) c.requires

@@ -1,9 +1,0 @@
-use Rattle.std.proofs.Common.{Err, ap}
-use Rattle.contents.proofs.segments.Segments.pass.Goals as goal
-
-pub returns-in-Err-clause-never : goal.returns-in-Err-clause-never
-returns-in-Err-clause-never c = λ final more h. c.in-Err.ensures.never (c.named.ensures.never final) more h
-
-pub returns-in-Err-clause-cut : goal.returns-in-Err-clause-cut
-returns-in-Err-clause-cut c = λ same.
-    record { frame = c.in-Some.frame; top = c.in-Some.ensures; cut = c.in-Err.ensures.cut (ap Err (c.named.ensures.truncated (cc same))) }

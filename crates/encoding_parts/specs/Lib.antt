@@ -1,0 +1,10 @@
+pub mod Contents
+pub mod Lengths
+pub mod Head
+pub mod Joined
+pub mod Completing
+pub mod Passed
+pub mod Segments
+pub mod Parts
+pub mod HeldParts
+pub mod Cut

@@ -1,0 +1,267 @@
+//! A constructed string, read part by part.
+
+ghost use Rattle.std.specs.Prelude.{◌≡◌, ◌≢◌, ◌↔◌, IsTrue, ◌+◌, ◌<◌, ◌≤◌, ◌++◌, ℕ, List, [], true, false, take, length, slice_range, IfOk, IfErr, OnOk, MatchOption, ◌⊎◌};
+ghost use Rattle.octets.specs.declared.TheConstants.{MAX_ENCODING};
+ghost use Rattle.octets.specs.declared.tag.Tag.{Tag};
+ghost use Rattle.octets.specs.Identifier.{IsIdentifier};
+ghost use Rattle.octets.specs.Rule.{ber};
+ghost use Rattle.types.specs.Form.{IsPrimitive};
+ghost use Rattle.types.specs.Refusal.{IsFinal, IsOfReading};
+ghost use Rattle.encoding_parts.specs.Completing.{IsEndOf, Opens};
+ghost use Rattle.encoding_parts.specs.Cut.{IsCutInside, IsEndCut, IsStringCut};
+ghost use Rattle.encoding_parts.specs.Head.{IsExtentWithin, IsPrimitiveWithin, IsReadTag};
+ghost use Rattle.encoding_parts.specs.Joined.{segment_of};
+ghost use Rattle.encoding_parts.specs.Segments.{BeginsAboveZero, CanComplete, EndsAt, IsOpened, IsSound, IsTaken, IsTop};
+
+use crate::frame::{Frame, INLINE_FRAMES, close, open, top};
+use crate::head::{END_OF_CONTENTS, read_tag, refusal_inside};
+use crate::joined::{Joined, Kind, segment_tag};
+use crate::parts::{read_contents_place, read_opening};
+use smallvec::SmallVec;
+use std::alloc::Global;
+use types::Refusal;
+
+/// A constructed string whose parts are being read.
+#[derive(Debug, Drop)]
+pub struct Segments {
+    /// The open encodings, the outermost first.
+    pub frames: SmallVec<Frame, INLINE_FRAMES>,
+    /// How many of them may nest.
+    pub levels: usize,
+    /// How many octets have been taken, counted from the front of the outermost encoding.
+    pub taken: usize,
+    /// The string so far.
+    pub joined: Joined,
+}
+
+impl Segments {
+    // A string of which only this encoding's identifier octets and length octets have been taken.
+    pub(crate) fn new(
+        alloc: Global,
+        levels: usize,
+        frame: Frame,
+        taken: usize,
+    ) -> Result<Segments, Refusal>
+        ensures opened { IfOk result (λ segments. IsOpened levels frame taken segments) }
+        ensures numbers { IfErr result (λ refusal. refusal ≡ Refusal.NoMemory) }
+    {
+        let mut frames = SmallVec::new(alloc);
+        match open(&mut frames, frame) {
+            Ok(()) => Ok(Segments {
+                frames,
+                levels,
+                taken,
+                joined: Joined::new(alloc),
+            }),
+            Err(_) => Err(Refusal::NoMemory),
+        }
+    }
+
+    /// Whether the last of its ends has come. Takes no memory.
+    pub fn is_closed(&self) -> bool
+        ensures { IsTrue result ↔ (self.now.frames.items ≡ []) }
+    {
+        self.frames.is_empty()
+    }
+
+    /// Takes what stands next at the front of `octets`, and answers how many octets it has: the end of the
+    /// innermost open encoding, a primitive segment, or the identifier octets and length octets of a constructed
+    /// one (X.690 8.6.4 and 8.7.3). After `Truncated` nothing has been taken.
+    ///
+    /// Refused with `Truncated` where octets are missing, with another of the refusals 2 to 11 where no octets
+    /// after these complete the string, and with `NoMemory`: what is joined takes memory, and so do more than
+    /// eight open encodings.
+    pub fn pass(&mut self, kind: Kind, octets: &[u8]) -> Result<usize, Refusal>
+        requires open { self.old.frames.items ≢ [] }
+        requires sound { IsSound kind self.old }
+        ensures taken { IfOk result (λ used. IsTaken kind self.old self.new octets.now used) }
+        ensures sound { OnOk result (IsSound kind self.new) }
+        ensures smaller { IfOk result (λ used.
+            length self.new.frames.items < length self.old.frames.items + used) }
+        ensures truncated { result ≡ Err Refusal.Truncated →
+            ¬ CanComplete kind self.old octets.now }
+        ensures cut { result ≡ Err Refusal.Truncated → IsStringCut kind self.old octets.now }
+        ensures never { IfErr result (λ refusal. IsFinal refusal → (more : List ℕ) →
+            ¬ CanComplete kind self.old (octets.now ++ more)) }
+        ensures unchanged { result ≡ Err Refusal.Truncated → self.new ≡ self.old }
+        ensures numbers { IfErr result IsOfReading }
+    {
+        let Some(frame) = top(&self.frames) else {
+            return Ok(0);
+        };
+        match self.step(kind, frame, octets) {
+            Ok(used) => Ok(used),
+            Err(refusal) => Err(self.refusal_inside(refusal)),
+        }
+    }
+
+    // Takes what stands next in the innermost open encoding, and answers how many octets it has: its
+    // end, a primitive segment, or the identifier octets and length octets of a constructed one.
+    fn step(&mut self, kind: Kind, frame: Frame, octets: &[u8]) -> Result<usize, Refusal>
+        requires top { IsTop frame self.old.frames.items }
+        requires sound { IsSound kind self.old }
+        ensures taken { IfOk result (λ used. IsTaken kind self.old self.new octets.now used) }
+        ensures sound { OnOk result (IsSound kind self.new) }
+        ensures smaller { IfOk result (λ used.
+            length self.new.frames.items < length self.old.frames.items + used) }
+        ensures truncated { result ≡ Err Refusal.Truncated →
+            ¬ CanComplete kind self.old octets.now }
+        ensures cut { result ≡ Err Refusal.Truncated → IsCutInside kind self.old frame octets.now }
+        ensures never { IfErr result (λ refusal. IsFinal refusal → (more : List ℕ) →
+            ¬ CanComplete kind self.old (octets.now ++ more)) }
+        ensures unchanged { result ≡ Err Refusal.Truncated → self.new ≡ self.old }
+        ensures numbers { IfErr result IsOfReading }
+    {
+        match read_end(frame, self.taken, octets) {
+            Ok(Some(used)) => {
+                close(&mut self.frames);
+                self.taken += used;
+                Ok(used)
+            }
+            Ok(None) => self.segment(kind, frame, octets),
+            Err(refusal) => Err(refusal),
+        }
+    }
+
+    // Why a part is refused, by the encodings that are open.
+    fn refusal_inside(&self, refusal: Refusal) -> Refusal
+        ensures truncated { result ≡ Refusal.Truncated → refusal ≡ Refusal.Truncated }
+        ensures never { IsFinal result → IsFinal refusal }
+        ensures numbers { IsOfReading refusal → IsOfReading result }
+    {
+        refusal_inside(self.frames.iter().any(|frame| frame.definite), refusal)
+    }
+
+    // Takes a segment, or the beginning of a constructed one.
+    fn segment(&mut self, kind: Kind, frame: Frame, octets: &[u8]) -> Result<usize, Refusal>
+        requires top { IsTop frame self.old.frames.items }
+        requires sound { IsSound kind self.old }
+        requires no_end { (more : List ℕ) →
+            ¬ EndsAt frame self.old.taken (octets.now ++ more) }
+        ensures taken { IfOk result (λ used. IsTaken kind self.old self.new octets.now used) }
+        ensures sound { OnOk result (IsSound kind self.new) }
+        ensures smaller { IfOk result (λ used.
+            length self.new.frames.items < length self.old.frames.items + used) }
+        ensures truncated { result ≡ Err Refusal.Truncated →
+            ¬ CanComplete kind self.old octets.now }
+        ensures cut { result ≡ Err Refusal.Truncated → IsCutInside kind self.old frame octets.now }
+        ensures never { IfErr result (λ refusal. IsFinal refusal → (more : List ℕ) →
+            ¬ CanComplete kind self.old (octets.now ++ more)) }
+        ensures unchanged { result ≡ Err Refusal.Truncated → self.new ≡ self.old }
+        ensures numbers { IfErr result IsOfReading }
+    {
+        let (constructed, identifier) = read_tag(segment_tag(kind), frame.end, self.taken, octets)?;
+        if self.joined.unused != 0 {
+            return Err(Refusal::Contents);
+        }
+        if constructed {
+            self.constructed(kind, frame, identifier, octets)
+        } else {
+            self.primitive(kind, frame, identifier, octets)
+        }
+    }
+
+    // Takes the length octets of a constructed segment, and opens it.
+    fn constructed(
+        &mut self,
+        kind: Kind,
+        frame: Frame,
+        identifier: usize,
+        octets: &[u8],
+    ) -> Result<usize, Refusal>
+        requires top { IsTop frame self.old.frames.items }
+        requires sound { IsSound kind self.old }
+        requires no_end { (more : List ℕ) →
+            ¬ EndsAt frame self.old.taken (octets.now ++ more) }
+        requires whole { self.old.joined.unused ≡ 0 }
+        requires tagged { IsReadTag (segment_of kind) frame.end self.old.taken octets.now true identifier }
+        ensures taken { IfOk result (λ used. IsTaken kind self.old self.new octets.now used) }
+        ensures sound { OnOk result (IsSound kind self.new) }
+        ensures smaller { IfOk result (λ used.
+            length self.new.frames.items < length self.old.frames.items + used) }
+        ensures truncated { result ≡ Err Refusal.Truncated →
+            ¬ CanComplete kind self.old octets.now }
+        ensures cut { result ≡ Err Refusal.Truncated → IsCutInside kind self.old frame octets.now }
+        ensures never { IfErr result (λ refusal. IsFinal refusal → (more : List ℕ) →
+            ¬ CanComplete kind self.old (octets.now ++ more)) }
+        ensures unchanged { result ≡ Err Refusal.Truncated → self.new ≡ self.old }
+        ensures numbers { IfErr result IsOfReading }
+    {
+        if self.frames.len() >= self.levels {
+            return Err(Refusal::TooDeep);
+        }
+        let after = self.taken + identifier;
+        let (used, opened) = read_opening(frame.end, after, &octets[identifier..])?;
+        match open(&mut self.frames, opened) {
+            Ok(()) => {
+                self.taken = after + used;
+                Ok(identifier + used)
+            }
+            Err(_) => Err(Refusal::NoMemory),
+        }
+    }
+
+    // Takes the rest of a primitive segment.
+    fn primitive(
+        &mut self,
+        kind: Kind,
+        frame: Frame,
+        identifier: usize,
+        octets: &[u8],
+    ) -> Result<usize, Refusal>
+        requires top { IsTop frame self.old.frames.items }
+        requires sound { IsSound kind self.old }
+        requires no_end { (more : List ℕ) →
+            ¬ EndsAt frame self.old.taken (octets.now ++ more) }
+        requires whole { self.old.joined.unused ≡ 0 }
+        requires tagged { IsReadTag (segment_of kind) frame.end self.old.taken octets.now false identifier }
+        ensures taken { IfOk result (λ used. IsTaken kind self.old self.new octets.now used) }
+        ensures sound { OnOk result (IsSound kind self.new) }
+        ensures smaller { IfOk result (λ used.
+            length self.new.frames.items < length self.old.frames.items + used) }
+        ensures truncated { result ≡ Err Refusal.Truncated →
+            ¬ CanComplete kind self.old octets.now }
+        ensures cut { result ≡ Err Refusal.Truncated → IsCutInside kind self.old frame octets.now }
+        ensures never { IfErr result (λ refusal. IsFinal refusal → (more : List ℕ) →
+            ¬ CanComplete kind self.old (octets.now ++ more)) }
+        ensures unchanged { result ≡ Err Refusal.Truncated → self.new ≡ self.old }
+        ensures numbers { IfErr result IsOfReading }
+    {
+        let (start, end) = read_contents_place(frame.end, self.taken, identifier, octets)?;
+        self.joined.join(kind, &octets[start..end])?;
+        self.taken += end;
+        Ok(end)
+    }
+}
+
+/// How many octets the end of the open encoding has, if it ends at the front of `octets`, with `taken` octets
+/// before them: none in the definite form, and two in the indefinite one (X.690 8.1.5).
+///
+/// Refused with `Truncated` where octets are missing, and with `EndOfContents` where the octet 00 begins no end
+/// that fits. Takes no memory.
+pub fn read_end(frame: Frame, taken: usize, octets: &[u8]) -> Result<Option<usize>, Refusal>
+    ensures value { IfOk result (λ found. MatchOption found
+        ((more : List ℕ) → ¬ EndsAt frame taken (octets.now ++ more))
+        (λ used. (used ≤ length octets.now) × IsEndOf frame taken (take used octets.now))) }
+    ensures truncated { result ≡ Err Refusal.Truncated →
+        ¬ (EndsAt frame taken octets.now ⊎ BeginsAboveZero octets.now) }
+    ensures cut { result ≡ Err Refusal.Truncated → IsEndCut frame taken octets.now }
+    ensures never { IfErr result (λ refusal. IsFinal refusal → (more : List ℕ) →
+        ¬ (EndsAt frame taken (octets.now ++ more) ⊎ BeginsAboveZero (octets.now ++ more))) }
+    ensures numbers { IfErr result IsOfReading }
+{
+    if frame.definite {
+        return Ok(if taken == frame.end { Some(0) } else { None });
+    }
+    let Some((&first, others)) = octets.split_first() else {
+        return Err(Refusal::Truncated);
+    };
+    if first != 0 {
+        return Ok(None);
+    }
+    match others.first() {
+        Some(0) if taken <= frame.end => Ok(Some(END_OF_CONTENTS)),
+        None if taken <= frame.end => Err(Refusal::Truncated),
+        _ => Err(Refusal::EndOfContents),
+    }
+}

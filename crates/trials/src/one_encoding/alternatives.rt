@@ -1,0 +1,62 @@
+//! Alternatives of a CHOICE, by the tag that an encoding begins with.
+
+use crate::rows::{Table, check, tag_of, three};
+use crate::type_notation::typed;
+use crate::value_notation::value_of;
+use encoding_parts::{begins, is_node, node_of, node_within, wrap};
+use octets::Tag;
+use std::alloc::Global;
+use std::test::Fail;
+use types::{Ty, WellTyped};
+
+// Whether the node of the encodings that begin with the tag is found, and is no CHOICE.
+fn has_node(ty: &Ty, tag: Tag) -> bool {
+    let found = match node_of(ty, tag) {
+        Some(node) => is_node(node) && node.tag() == Some(tag),
+        None => false,
+    };
+    found && begins(ty, tag) && node_within(ty, tag).is_some()
+}
+
+// Whether the value of the node, in its alternatives, is this one.
+fn is_wrapped(
+    alloc: Global,
+    ty: &WellTyped,
+    tag: Tag,
+    value: &str,
+    want: &str,
+) -> Result<bool, Fail> {
+    let value = value_of(alloc, value)?;
+    let wrapped = wrap(alloc, ty.as_type(), tag, value)?;
+    Ok(wrapped == value_of(alloc, want)?)
+}
+
+// a tag of an encoding of the CHOICE | the value of its node | the value of the CHOICE; `none` where none begins so
+const NODES: &str = "\
+UNIVERSAL.5 | NULL      | 0( NULL )
+UNIVERSAL.4 | octets:41 | 1( 0( octets:41 ) )
+UNIVERSAL.1 | TRUE      | 1( 1( TRUE ) )
+UNIVERSAL.2 | none      | none
+UNIVERSAL.0 | none      | none";
+
+struct Nodes;
+
+impl Table for Nodes {
+    fn holds(alloc: Global, row: &str) -> Result<bool, Fail> {
+        let (tag, value, want) = three(row)?;
+        let tag = tag_of(tag)?;
+        let ty = typed(alloc, "CHOICE{ NULL CHOICE{ OCTETS BOOLEAN } }")?;
+        if is_node(ty.as_type()) {
+            return Ok(false);
+        }
+        if want == "none" {
+            return Ok(!begins(ty.as_type(), tag) && node_of(ty.as_type(), tag).is_none());
+        }
+        Ok(has_node(ty.as_type(), tag) && is_wrapped(alloc, &ty, tag, value, want)?)
+    }
+}
+
+#[test]
+fn nodes_and_wrapped_values(rt: HostRuntime) -> Result<(), Fail> {
+    check::<Nodes>(rt.alloc(), NODES)
+}

@@ -1,0 +1,113 @@
+//! What open encodings hold of their parts.
+
+use crate::rows::{Table, check, four, is_refused, is_yes, tag_of};
+use crate::type_notation::ty_of;
+use crate::value_notation::{is_value, value_of};
+use encoding_parts::{HeldParts, held_parts_of};
+use std::alloc::Global;
+use std::test::Fail;
+use types::Refusal;
+
+// Puts the parts of a column into what holds them, to the first that is refused.
+fn put_parts(
+    alloc: Global,
+    held: &mut HeldParts<'_>,
+    column: &str,
+) -> Result<Option<Refusal>, Fail> {
+    if column == "none" {
+        return Ok(None);
+    }
+    for part in column.split(' ') {
+        let (tag, value) = part.split_once('=').ok_or("a part without a value")?;
+        match held.due(tag_of(tag)?) {
+            Ok((which, _)) => held.put(which, value_of(alloc, value)?)?,
+            Err(refusal) => return Ok(Some(refusal)),
+        }
+    }
+    Ok(None)
+}
+
+struct Parts;
+
+impl Table for Parts {
+    fn holds(alloc: Global, row: &str) -> Result<bool, Fail> {
+        let (ty, parts, definite, want) = four(row)?;
+        let definite = is_yes(definite)?;
+        let ty = ty_of(alloc, ty)?;
+        let mut held = held_parts_of(alloc, &ty)?.ok_or("a type without parts")?;
+        if let Some(refusal) = put_parts(alloc, &mut held, parts)? {
+            return is_refused(refusal, want);
+        }
+        // a list is the same whether it is fitted or not
+        match held.into_value(definite, definite) {
+            Ok(value) => is_value(alloc, &value, want),
+            Err(refusal) => is_refused(refusal, want),
+        }
+    }
+}
+
+// type | the tags of the parts that come, each with its value | whether the form is definite | the value or the refusal
+const SEQUENCES: &str = "\
+SEQUENCE{ } | none | yes | fields( )
+SEQUENCE{ } | 0=5 | yes | refused 2
+SEQUENCE{ } | UNIVERSAL.0=7 | yes | refused 2
+SEQUENCE{ [0]INTEGER [1]INTEGER } | 0=5 1=7 | yes | fields( 5 7 )
+SEQUENCE{ [0]INTEGER [1]INTEGER } | 0=5 | yes | refused 8
+SEQUENCE{ [0]INTEGER [1]INTEGER } | 1=5 | yes | refused 8
+SEQUENCE{ [0]INTEGER [1]INTEGER } | 2=5 | yes | refused 2
+SEQUENCE{ [0]INTEGER [1]INTEGER } | UNIVERSAL.0=7 | yes | refused 5
+SEQUENCE{ [0]INTEGER [1]INTEGER } | 0=5 1=5 UNIVERSAL.0=7 | yes | refused 2
+SEQUENCE{ [0]INTEGER [1]INTEGER } | 0=5 0=5 | yes | refused 2
+SEQUENCE{ [0]INTEGER? [1]INTEGER? [2]INTEGER } | 2=5 | yes | fields( - - 5 )
+SEQUENCE{ [0]INTEGER? [1]INTEGER? [2]INTEGER } | 1=5 2=5 | yes | fields( - 5 5 )
+SEQUENCE{ [0]INTEGER? [1]INTEGER? [2]INTEGER } | 1=5 0=5 | yes | refused 2
+SEQUENCE{ [0]INTEGER [1]INTEGER? } | 0=5 UNIVERSAL.0=7 | yes | refused 5
+SEQUENCE{ [0]INTEGER=5 [1]INTEGER=5 [2]INTEGER? } | 0=5 1=7 | yes | fields( - 7 - )
+SEQUENCE{ [0]INTEGER=5 [1]INTEGER=5 [2]INTEGER? } | none | yes | fields( - - - )
+SEQUENCE{ [0]INTEGER [1]INTEGER? [2]INTEGER=5 } | 0=7 2=7 | yes | fields( 7 - 7 )";
+
+#[test]
+fn sequences(rt: HostRuntime) -> Result<(), Fail> {
+    check::<Parts>(rt.alloc(), SEQUENCES)
+}
+
+// type | the tags of the parts that come, each with its value | whether the form is definite | the value or the refusal
+const SETS: &str = "\
+SET{ } | none | yes | fields( )
+SET{ } | 0=5 | yes | refused 2
+SET{ } | UNIVERSAL.0=7 | yes | refused 2
+SET{ [0]INTEGER [1]INTEGER } | 0=5 1=7 | yes | fields( 5 7 )
+SET{ [0]INTEGER [1]INTEGER } | 1=7 0=5 | yes | fields( 5 7 )
+SET{ [0]INTEGER [1]INTEGER } | 1=5 | yes | refused 8
+SET{ [0]INTEGER [1]INTEGER } | 1=5 1=5 | yes | refused 9
+SET{ [0]INTEGER [1]INTEGER } | 1=5 2=5 | yes | refused 2
+SET{ [0]INTEGER [1]INTEGER } | 1=5 UNIVERSAL.0=7 | yes | refused 5
+SET{ [0]INTEGER [1]INTEGER } | 1=5 0=5 UNIVERSAL.0=7 | yes | refused 2
+SET{ [0]INTEGER [1]INTEGER [2]INTEGER } | 1=7 0=5 2=7 | yes | fields( 5 7 7 )
+SET{ [0]INTEGER? [1]INTEGER=5 [2]INTEGER } | 2=5 | yes | fields( - - 5 )
+SET{ [0]INTEGER? [1]INTEGER=5 [2]INTEGER } | 1=5 1=5 | yes | refused 9
+SET{ [0]INTEGER? [1]INTEGER=5 [2]INTEGER } | 1=7 2=5 | yes | fields( - 7 5 )";
+
+#[test]
+fn sets(rt: HostRuntime) -> Result<(), Fail> {
+    check::<Parts>(rt.alloc(), SETS)
+}
+
+// type | the tags of the parts that come, each with its value | whether the form is definite | the value or the refusal
+const OTHERS: &str = "\
+SET-OF{ [1]INTEGER } | none | no | items( )
+SET-OF{ [1]INTEGER } | 1=7 1=5 1=7 | no | items( 7 5 7 )
+SET-OF{ [1]INTEGER } | 1=5 0=5 | no | refused 2
+SET-OF{ [1]INTEGER } | 1=5 UNIVERSAL.0=7 | no | refused 5
+[30]{ [1]INTEGER } | none | yes | refused 4
+[30]{ [1]INTEGER } | none | no | refused 5
+[30]{ [1]INTEGER } | 1=7 | yes | 7
+[30]{ [1]INTEGER } | 0=5 | yes | refused 2
+[30]{ [1]INTEGER } | UNIVERSAL.0=7 | yes | refused 5
+[30]{ [1]INTEGER } | 1=5 1=5 | yes | refused 2
+[30]{ [1]INTEGER } | 1=5 UNIVERSAL.0=7 | yes | refused 2";
+
+#[test]
+fn items_and_explicit_tags(rt: HostRuntime) -> Result<(), Fail> {
+    check::<Parts>(rt.alloc(), OTHERS)
+}
