@@ -11,6 +11,7 @@ pub mod PassedLemmas
 pub mod SegmentsLemmas
 pub mod WithinLemmas
 pub mod TypedLemmas
+pub mod RefusesLemmas
 pub mod ReadingLemmas
 pub mod ChoiceLemmas
 pub mod EndLemmas

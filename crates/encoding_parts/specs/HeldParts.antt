@@ -1,5 +1,7 @@
 -- What an open encoding of the code holds of its parts, and why it refuses one.
-use Rattle.std.specs.Prelude.{⊤, length, take, drop, map, option_map, List, Option}
+use Rattle.std.specs.Prelude.{⊤, ◌≡◌, false, length, take, drop, map, option_map, Contains, List, Option}
+use Rattle.octets.specs.declared.tag.Tag.{Tag}
+use Rattle.types.specs.FirstTags.{first_tags}
 use Rattle.types.specs.Shape.{Val, Shape}
 use Rattle.types.specs.View.{ComponentView, ty_view, value_view, field_view}
 use Rattle.types.specs.declared.refusal.Refusal.{Refusal}
@@ -11,6 +13,10 @@ use Rattle.encoding_parts.specs.Parts.{Parts, SetComponent}
 
 abbrev pub set_component_view : set_components.SetComponent → SetComponent
 set_component_view s = record { component = field_view s.field.now; slot = option_map value_view s.slot; came = s.came }
+
+-- the component of a SET has not come, and can begin with the tag
+abbrev pub IsAwaited : set_components.SetComponent → Tag → Type 0
+IsAwaited s tag = (s.came ≡ false) × Contains (first_tags (ty_view s.field.now.ty)) tag
 
 -- as many components of a SEQUENCE have come or been passed over as there are slots
 abbrev pub run_view : List ComponentView → List (Option Val) → Parts

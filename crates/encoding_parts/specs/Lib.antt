@@ -8,3 +8,4 @@ pub mod Segments
 pub mod Parts
 pub mod HeldParts
 pub mod Cut
+pub mod Refuses

@@ -1,11 +1,12 @@
 -- What is known of a constructed string whose parts are being read.
-use Rattle.std.specs.Prelude.{◌≡◌, ℕ, ◌+◌, ◌<◌, ◌≤◌, false, List, [], ◌∷◌, ◌++◌, length, take, drop, reverse, All}
+use Rattle.std.specs.Prelude.{◌≡◌, ℕ, ◌+◌, ◌<◌, ◌≤◌, Bool, false, List, [], ◌∷◌, ◌++◌, length, take, drop, reverse, All}
 use Rattle.octets.specs.declared.TheConstants.{MAX_ENCODING}
 use Rattle.types.specs.Shape.{Shape}
 use Rattle.encoding_parts.specs.declared.frame.Frame.{Frame}
 use Rattle.encoding_parts.specs.declared.joined.Kind.{Kind}
 use Rattle.encoding_parts.specs.declared.segments.Segments.{Segments}
 use Rattle.encoding_parts.specs.Completing.{Completes, IsEndOf, Opens}
+use Rattle.encoding_parts.specs.Head.{IsReadTag}
 use Rattle.encoding_parts.specs.Joined.{Element, segment_of, HoldsPiece, IsWholePiece, string_of, IsHeld, IsStringOf}
 use Rattle.encoding_parts.specs.Passed.{StandsIn}
 
@@ -71,6 +72,20 @@ pub record EndsAt (frame : Frame) (taken : ℕ) (octets : List ℕ) : Type 0 whe
 -- no end-of-contents octets: they do not begin with 00
 abbrev pub BeginsAboveZero : List ℕ → Type 0
 BeginsAboveZero octets = (first : ℕ) × (others : List ℕ) × (0 < first) × (octets ≡ first ∷ others)
+
+-- so many of the octets were taken, which leaves a sound string of which less is to come
+pub record Passes (kind : Kind) (old new : Segments) (octets : List ℕ) (used : ℕ) : Type 0 where
+  pub taken : IsTaken kind old new octets used
+  pub sound : IsSound kind new
+  pub smaller : length new.frames.items < length old.frames.items + used
+
+-- the identifier octets of a segment were read, where one may stand in the innermost open encoding
+pub record IsSegmentDue (kind : Kind) (segments : Segments) (frame : Frame) (octets : List ℕ) (constructed : Bool) (identifier : ℕ) : Type 0 where
+  pub top : IsTop frame segments.frames.items
+  pub sound : IsSound kind segments
+  pub no_end : (more : List ℕ) → ¬ EndsAt frame segments.taken (octets ++ more)
+  pub whole : segments.joined.unused ≡ 0
+  pub tagged : IsReadTag (segment_of kind) frame.end segments.taken octets constructed identifier
 
 -- one encoding is open of at most so many, and nothing of the string has come
 pub record IsOpened (levels : ℕ) (frame : Frame) (taken : ℕ) (segments : Segments) : Type 0 where

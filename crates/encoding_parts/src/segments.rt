@@ -9,9 +9,8 @@ ghost use Rattle.types.specs.Form.{IsPrimitive};
 ghost use Rattle.types.specs.Refusal.{IsFinal, IsOfReading};
 ghost use Rattle.encoding_parts.specs.Completing.{IsEndOf, Opens};
 ghost use Rattle.encoding_parts.specs.Cut.{IsCutInside, IsEndCut, IsStringCut};
-ghost use Rattle.encoding_parts.specs.Head.{IsExtentWithin, IsPrimitiveWithin, IsReadTag};
-ghost use Rattle.encoding_parts.specs.Joined.{segment_of};
-ghost use Rattle.encoding_parts.specs.Segments.{BeginsAboveZero, CanComplete, EndsAt, IsOpened, IsSound, IsTaken, IsTop};
+ghost use Rattle.encoding_parts.specs.Refuses.{Refuses};
+ghost use Rattle.encoding_parts.specs.Segments.{BeginsAboveZero, CanComplete, EndsAt, IsOpened, IsSegmentDue, IsSound, IsTaken, IsTop, Passes};
 
 use crate::frame::{Frame, INLINE_FRAMES, close, open, top};
 use crate::head::{END_OF_CONTENTS, read_tag, refusal_inside};
@@ -91,7 +90,10 @@ impl Segments {
         };
         match self.step(kind, frame, octets) {
             Ok(used) => Ok(used),
-            Err(refusal) => Err(self.refusal_inside(refusal)),
+            Err(refusal) => {
+                let is_inside_definite = self.frames.iter().any(|frame| frame.definite);
+                Err(refusal_inside(is_inside_definite, refusal))
+            }
         }
     }
 
@@ -100,17 +102,9 @@ impl Segments {
     fn step(&mut self, kind: Kind, frame: Frame, octets: &[u8]) -> Result<usize, Refusal>
         requires top { IsTop frame self.old.frames.items }
         requires sound { IsSound kind self.old }
-        ensures taken { IfOk result (λ used. IsTaken kind self.old self.new octets.now used) }
-        ensures sound { OnOk result (IsSound kind self.new) }
-        ensures smaller { IfOk result (λ used.
-            length self.new.frames.items < length self.old.frames.items + used) }
-        ensures truncated { result ≡ Err Refusal.Truncated →
-            ¬ CanComplete kind self.old octets.now }
-        ensures cut { result ≡ Err Refusal.Truncated → IsCutInside kind self.old frame octets.now }
-        ensures never { IfErr result (λ refusal. IsFinal refusal → (more : List ℕ) →
-            ¬ CanComplete kind self.old (octets.now ++ more)) }
+        ensures passed { IfOk result (Passes kind self.old self.new octets.now) }
+        ensures refused { IfErr result (Refuses (CanComplete kind self.old) (IsCutInside kind self.old frame) octets.now) }
         ensures unchanged { result ≡ Err Refusal.Truncated → self.new ≡ self.old }
-        ensures numbers { IfErr result IsOfReading }
     {
         match read_end(frame, self.taken, octets) {
             Ok(Some(used)) => {
@@ -123,32 +117,15 @@ impl Segments {
         }
     }
 
-    // Why a part is refused, by the encodings that are open.
-    fn refusal_inside(&self, refusal: Refusal) -> Refusal
-        ensures truncated { result ≡ Refusal.Truncated → refusal ≡ Refusal.Truncated }
-        ensures never { IsFinal result → IsFinal refusal }
-        ensures numbers { IsOfReading refusal → IsOfReading result }
-    {
-        refusal_inside(self.frames.iter().any(|frame| frame.definite), refusal)
-    }
-
     // Takes a segment, or the beginning of a constructed one.
     fn segment(&mut self, kind: Kind, frame: Frame, octets: &[u8]) -> Result<usize, Refusal>
         requires top { IsTop frame self.old.frames.items }
         requires sound { IsSound kind self.old }
         requires no_end { (more : List ℕ) →
             ¬ EndsAt frame self.old.taken (octets.now ++ more) }
-        ensures taken { IfOk result (λ used. IsTaken kind self.old self.new octets.now used) }
-        ensures sound { OnOk result (IsSound kind self.new) }
-        ensures smaller { IfOk result (λ used.
-            length self.new.frames.items < length self.old.frames.items + used) }
-        ensures truncated { result ≡ Err Refusal.Truncated →
-            ¬ CanComplete kind self.old octets.now }
-        ensures cut { result ≡ Err Refusal.Truncated → IsCutInside kind self.old frame octets.now }
-        ensures never { IfErr result (λ refusal. IsFinal refusal → (more : List ℕ) →
-            ¬ CanComplete kind self.old (octets.now ++ more)) }
+        ensures passed { IfOk result (Passes kind self.old self.new octets.now) }
+        ensures refused { IfErr result (Refuses (CanComplete kind self.old) (IsCutInside kind self.old frame) octets.now) }
         ensures unchanged { result ≡ Err Refusal.Truncated → self.new ≡ self.old }
-        ensures numbers { IfErr result IsOfReading }
     {
         let (constructed, identifier) = read_tag(segment_tag(kind), frame.end, self.taken, octets)?;
         if self.joined.unused != 0 {
@@ -169,23 +146,10 @@ impl Segments {
         identifier: usize,
         octets: &[u8],
     ) -> Result<usize, Refusal>
-        requires top { IsTop frame self.old.frames.items }
-        requires sound { IsSound kind self.old }
-        requires no_end { (more : List ℕ) →
-            ¬ EndsAt frame self.old.taken (octets.now ++ more) }
-        requires whole { self.old.joined.unused ≡ 0 }
-        requires tagged { IsReadTag (segment_of kind) frame.end self.old.taken octets.now true identifier }
-        ensures taken { IfOk result (λ used. IsTaken kind self.old self.new octets.now used) }
-        ensures sound { OnOk result (IsSound kind self.new) }
-        ensures smaller { IfOk result (λ used.
-            length self.new.frames.items < length self.old.frames.items + used) }
-        ensures truncated { result ≡ Err Refusal.Truncated →
-            ¬ CanComplete kind self.old octets.now }
-        ensures cut { result ≡ Err Refusal.Truncated → IsCutInside kind self.old frame octets.now }
-        ensures never { IfErr result (λ refusal. IsFinal refusal → (more : List ℕ) →
-            ¬ CanComplete kind self.old (octets.now ++ more)) }
+        requires due { IsSegmentDue kind self.old frame octets.now true identifier }
+        ensures passed { IfOk result (Passes kind self.old self.new octets.now) }
+        ensures refused { IfErr result (Refuses (CanComplete kind self.old) (IsCutInside kind self.old frame) octets.now) }
         ensures unchanged { result ≡ Err Refusal.Truncated → self.new ≡ self.old }
-        ensures numbers { IfErr result IsOfReading }
     {
         if self.frames.len() >= self.levels {
             return Err(Refusal::TooDeep);
@@ -209,23 +173,10 @@ impl Segments {
         identifier: usize,
         octets: &[u8],
     ) -> Result<usize, Refusal>
-        requires top { IsTop frame self.old.frames.items }
-        requires sound { IsSound kind self.old }
-        requires no_end { (more : List ℕ) →
-            ¬ EndsAt frame self.old.taken (octets.now ++ more) }
-        requires whole { self.old.joined.unused ≡ 0 }
-        requires tagged { IsReadTag (segment_of kind) frame.end self.old.taken octets.now false identifier }
-        ensures taken { IfOk result (λ used. IsTaken kind self.old self.new octets.now used) }
-        ensures sound { OnOk result (IsSound kind self.new) }
-        ensures smaller { IfOk result (λ used.
-            length self.new.frames.items < length self.old.frames.items + used) }
-        ensures truncated { result ≡ Err Refusal.Truncated →
-            ¬ CanComplete kind self.old octets.now }
-        ensures cut { result ≡ Err Refusal.Truncated → IsCutInside kind self.old frame octets.now }
-        ensures never { IfErr result (λ refusal. IsFinal refusal → (more : List ℕ) →
-            ¬ CanComplete kind self.old (octets.now ++ more)) }
+        requires due { IsSegmentDue kind self.old frame octets.now false identifier }
+        ensures passed { IfOk result (Passes kind self.old self.new octets.now) }
+        ensures refused { IfErr result (Refuses (CanComplete kind self.old) (IsCutInside kind self.old frame) octets.now) }
         ensures unchanged { result ≡ Err Refusal.Truncated → self.new ≡ self.old }
-        ensures numbers { IfErr result IsOfReading }
     {
         let (start, end) = read_contents_place(frame.end, self.taken, identifier, octets)?;
         self.joined.join(kind, &octets[start..end])?;

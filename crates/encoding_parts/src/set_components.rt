@@ -7,7 +7,7 @@ ghost use Rattle.types.specs.FirstTags.{first_tags};
 ghost use Rattle.types.specs.Refusal.{IsFinal};
 ghost use Rattle.types.specs.Shape.{Shape, Val};
 ghost use Rattle.types.specs.View.{ty_view, value_view, field_view, requirement_view};
-ghost use Rattle.encoding_parts.specs.HeldParts.{set_component_view, IsOfDue, IsOfParts};
+ghost use Rattle.encoding_parts.specs.HeldParts.{set_component_view, IsAwaited, IsOfDue, IsOfParts};
 ghost use Rattle.encoding_parts.specs.Parts.{IsVacant, IsSlotOf, IsSetComponentTaken, IsValueOf, Parts};
 
 use crate::choices::begins;
@@ -136,8 +136,7 @@ fn vacant<'a>(set_components: &[SetComponent<'a>], tag: Tag) -> Option<(usize, &
 
 // Whether the component begins with the tag and has not come.
 fn is_due(set_component: &SetComponent<'_>, tag: Tag) -> bool
-    ensures { IsTrue result ↔ ((set_component.now.came ≡ false)
-        × Contains (first_tags (ty_view set_component.now.field.now.ty)) tag) }
+    ensures { IsTrue result ↔ IsAwaited set_component.now tag }
 {
     !set_component.came && begins(&set_component.field.ty, tag)
 }
