@@ -13,9 +13,8 @@ use Rattle.strict.specs.declared.head.Inside.{Inside}
 use Rattle.strict.specs.Head.{IsOpened, mark, EndsHere}
 use Rattle.strict.specs.Leaf.{HasCut, HoldsSegment, value_is}
 use Rattle.strict.specs.Reading.{IsRead}
-use Rattle.strict.specs.Segments.{AreSegmentsOf, CanFollow, HasSegments, AreSegmentsKnown}
+use Rattle.strict.specs.Segments.{AreSegmentsOf, CanFollow, HasSegments, AreSegmentsKnown, IsLong}
 use Rattle.strict.proofs.InsideLemmas.{closed}
-use Rattle.strict.proofs.KindLemmas.{IsLong}
 use Rattle.strict.proofs.LeafLemmas.{constructed_of_cut, cut_encodes}
 use Rattle.strict.proofs.SegmentLemmas.{nothing_held, none_at_end}
 

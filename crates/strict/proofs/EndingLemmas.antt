@@ -1,17 +1,13 @@
 -- Lemmas on octets that end inside the encoding at their front.
-use Rattle.std.proofs.Common.{◌≡◌, inl, inr, ℕ, ◌+◌, ◌-◌, ◌<◌, ◌≤◌, List, [], ◌∷◌, ◌++◌, Bool, true, false, Ok, Err, IfErr, IsErrAnd, length, take, drop, get_or, replicate, refl, sym, ◌∙◌, ap, subst, arith, append_assoc, append-nil, length-append}
+use Rattle.std.proofs.Common.{◌≡◌, inl, inr, ℕ, ◌+◌, ◌-◌, ◌<◌, ◌≤◌, List, [], ◌∷◌, ◌++◌, Bool, true, false, length, take, drop, get_or, replicate, refl, sym, ◌∙◌, ap, subst, arith, append_assoc, append-nil, length-append}
 use Rattle.std.proofs.lemmas.List.{length-replicate, length-take-le, length-drop, take_rest, take-append-drop}
-use Rattle.std.specs.declared.result.Result.{Result}
 use Rattle.octets.specs.declared.tag.Tag.{Tag}
 use Rattle.octets.specs.Identifier.{IsIdentifier}
 use Rattle.octets.specs.Length.{IsShortestLength}
 use Rattle.octets.specs.Rule.{cer, der}
 use Rattle.octets.proofs.FrontLemmas.{same_front}
-use Rattle.types.specs.declared.refusal.Refusal.{Refusal}
-use Rattle.types.specs.declared.refusal.Refusal.TheVariants.{Truncated}
 use Rattle.types.specs.declared.ty.Alternative.{Alternative}
 use Rattle.types.specs.Leaf.{tag_of, IsLeaf}
-use Rattle.types.specs.Refusal.{IsFinal}
 use Rattle.types.specs.Shape.{Shape}
 use Rattle.types.specs.View.{ty_view, alternatives_view}
 use Rattle.encoding_parts.specs.Cut.{IsLengthCut, AreContentsCut}
@@ -25,26 +21,12 @@ use Rattle.strict.specs.Begun.{CanBeConstructed, AreOpenContentsBegun, IsPrimiti
 use Rattle.strict.specs.Canonical.{rule_of}
 use Rattle.strict.specs.Head.{AreFewer, IsOpened, mark}
 
--- through a `?`
-pub cut_through : {T : Type 0} (result : Result T Refusal) (x : Refusal) (P : Type 0) → IsErrAnd result (λ e. e ≡ x) → (x ≡ Truncated → P) → IfErr result (λ r. r ≡ Truncated → P)
-cut_through (Ok v) x P h cut = tt
-cut_through (Err e) x P h cut = λ same. cut (sym h ∙ same)
-
--- what is refused for good is not cut
-pub never_cut : (r : Refusal) (P : Type 0) → IsFinal r → r ≡ Truncated → P
-never_cut r P final same = absurd (subst IsFinal same final)
-
 -- too few behind so many are too few
 pub fewer_behind : (d : Bool) (room at : ℕ) (octets : List ℕ) → at ≤ room → at ≤ length octets → AreFewer d (room - at) (take (length octets - at) (drop at octets)) → AreFewer d room octets
 fewer_behind d room at octets within there h = omega (arith, h, within, there, ap length (take_rest octets at), length-drop at octets)
 
 pub less_behind : (d : Bool) (room at : ℕ) (octets : List ℕ) → at ≤ room → at ≤ length octets → length (take (length octets - at) (drop at octets)) < room - at → AreFewer d room octets
 less_behind d room at octets within there h = omega (arith, h, within, there, ap length (take_rest octets at), length-drop at octets)
-
--- and both through a `?`
-pub cut_behind : {T : Type 0} (result : Result T Refusal) (x : Refusal) (inside : Inside) (at : ℕ) (octets : List ℕ) → IsErrAnd result (λ e. e ≡ x) → at ≤ inside.room → at ≤ length octets → (x ≡ Truncated → AreFewer inside.definite (inside.room - at) (take (length octets - at) (drop at octets)))
-    → IfErr result (λ r. r ≡ Truncated → AreFewer inside.definite inside.room octets)
-cut_behind result x inside at octets is within there cut = cut_through result x (AreFewer inside.definite inside.room octets) is (λ same. fewer_behind inside.definite inside.room at octets within there (cut same))
 
 contents_short : (contents room taken : ℕ) (octets : List ℕ) → AreContentsCut contents room taken octets → taken + length octets < room
 contents_short contents room taken octets h = omega (arith, h.fewer, h.fits, ap length h.joined, length-append h.size h.some)
@@ -72,12 +54,9 @@ begun_short rule type room octets (inr h) =
     let b = h.begun in
     omega (arith, form_short rule h.node h.constructed room (length b.identifier) b.others b.behind, ap length b.joined, length-append b.identifier b.others)
 
--- so what holds an item that has begun has too few, through a `?`
-pub item_behind : {T : Type 0} (result : Result T Refusal) (x : Refusal) (rule : Canonical) (type : Shape) (inside : Inside) (at : ℕ) (octets : List ℕ) → IsErrAnd result (λ e. e ≡ x) → at ≤ inside.room → at ≤ length octets
-    → (x ≡ Truncated → IsBegun rule type (inside.room - at) (take (length octets - at) (drop at octets))) → IfErr result (λ r. r ≡ Truncated → AreFewer inside.definite inside.room octets)
-item_behind result x rule type inside at octets is within there cut =
-    cut_through result x (AreFewer inside.definite inside.room octets) is
-    (λ same. less_behind inside.definite inside.room at octets within there (begun_short rule type (inside.room - at) (take (length octets - at) (drop at octets)) (cut same)))
+-- so what holds an item that has begun has too few
+pub item_behind : (rule : Canonical) (type : Shape) (d : Bool) (room at : ℕ) (octets : List ℕ) → at ≤ room → at ≤ length octets → IsBegun rule type (room - at) (take (length octets - at) (drop at octets)) → AreFewer d room octets
+item_behind rule type d room at octets within there begun = less_behind d room at octets within there (begun_short rule type (room - at) (take (length octets - at) (drop at octets)) begun)
 
 -- length octets that are not complete behind those of the identifier
 pub length_cut : (rule : Canonical) (tag : Tag) (room i : ℕ) (octets : List ℕ) → i ≤ length octets → IsIdentifier tag true (take i octets) → IsLengthCut room i (take (length octets - i) (drop i octets)) → IsConstructedCut rule tag room octets

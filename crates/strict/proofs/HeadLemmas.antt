@@ -10,7 +10,7 @@ use Rattle.octets.proofs.FrontLemmas.{front_of_more}
 use Rattle.octets.proofs.IdentifierLemmas.{identifier_unique}
 use Rattle.octets.proofs.LengthLemmas.{length_unique}
 use Rattle.types.proofs.FormLemmas.{parts_of_definite, length-definite}
-use Rattle.encoding_parts.specs.Head.{IsTagWithin, IsExtentWithin}
+use Rattle.encoding_parts.specs.Head.{IsReadTag, IsTagWithin, IsExtentWithin}
 use Rattle.strict.specs.Head.{HasDefinite, IsDefiniteAt}
 
 -- a definite encoding by what was read before it
@@ -23,6 +23,10 @@ tag_of_definite tag j room octets h = record {
   fits = omega (arith, h.fits, length-definite der tag j h.contents h.part h.whole);
   parts = h.parts ∙ parts_of_definite der tag j h.contents h.part h.rest h.whole;
 }
+
+-- identifier octets of the one tag and form are of the other, which are the same
+pub tagged_so : (tag other : Tag) (room i : ℕ) (octets : List ℕ) (f g : Bool) → tag ≡ other → f ≡ g → IsReadTag tag room 0 octets f i → IsReadTag other room 0 octets g i
+tagged_so tag other room i octets f g same form h = subst (λ x. IsReadTag other room 0 octets x i) form (subst (λ t. IsReadTag t room 0 octets f i) same h)
 
 -- the form is that of the identifier octets
 pub form_of_definite : (tag : Tag) (f j : Bool) (room i : ℕ) (octets more : List ℕ) → IsIdentifier tag f (take i octets) → HasDefinite tag j room (octets ++ more) → f ≡ j

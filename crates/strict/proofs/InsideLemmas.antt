@@ -10,8 +10,15 @@ use Rattle.octets.proofs.IdentifierLemmas.{identifier_unique}
 use Rattle.types.specs.Form.{IsConstructed}
 use Rattle.types.proofs.NestingLemmas.{parts_of_indefinite}
 use Rattle.encoding_parts.specs.Head.{IsTagWithin, IsExtentWithin, IsReadIndefinite}
+use Rattle.types.specs.declared.refusal.Refusal.{Refusal}
+use Rattle.strict.specs.declared.canonical.Canonical.{Canonical}
+use Rattle.strict.specs.declared.canonical.Canonical.TheVariants.{Cer, Der}
 use Rattle.strict.specs.declared.head.Inside.{Inside}
+use Rattle.strict.specs.Bars.{RefusesStrictly}
+use Rattle.strict.specs.Begun.{IsConstructedCut}
+use Rattle.strict.specs.Canonical.{rule_of}
 use Rattle.strict.specs.Head.{HasDefinite, IsDefiniteAt, HasConstructed, IsOpened, Fills, mark, EndsHere}
+use Rattle.strict.proofs.BarsLemmas.{refused_by}
 
 -- of the definite form
 pub opened_definite : (tag : Tag) (room start size : ℕ) (octets : List ℕ) → IsDefiniteAt tag true room octets start size → IsOpened der tag room octets record { start = start; room = size; definite = true }
@@ -25,6 +32,10 @@ opened_definite tag room start size octets h = record {
       let o = h.only more d in
       (record { within = omega (arith, o.0); exact = λ same. o.0 }, o.1);
 }
+
+pub refused_definite : (rule : Canonical) (tag : Tag) (room : ℕ) (octets : List ℕ) (r : Refusal) → rule ≡ Der → RefusesStrictly (HasDefinite tag true room) (IsConstructedCut Der tag room) octets r → RefusesStrictly (HasConstructed (rule_of rule) tag room) (IsConstructedCut rule tag room) octets r
+refused_definite Der tag room octets r is h = refused_by h (λ more k. record { contents = k.contents; part = k.part; rest = k.rest; whole = k.whole; fits = k.fits; parts = k.parts }) (λ k. k)
+refused_definite Cer tag room octets r is h = absurd (cc is)
 
 length-indefinite : (tag : Tag) (room : ℕ) (octets : List ℕ) (h : HasConstructed cer tag room octets) → length h.part ≡ length h.whole.identifier + 1 + length h.contents + 2
 length-indefinite tag room octets h = omega (arith, ap length h.whole.joined, length-append h.whole.identifier (128 ∷ (h.contents ++ (0 ∷ 0 ∷ []))), length-append h.contents (0 ∷ 0 ∷ []))

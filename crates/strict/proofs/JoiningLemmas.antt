@@ -32,6 +32,8 @@ joined_segment kind room start stop octets old new full no_end place short befor
     λ on. ((to on).0, whole_piece kind old new j.piece before j.joined (to on).1),
     λ h. from (h.0, none_unused kind old new j.piece j.held before j.joined h.1),
   );
+  held = j.held;
+  whole = λ on. (to on).1;
 }
 
 -- nothing has been joined
@@ -49,8 +51,8 @@ none_joined kind room octets joined none unused =
     record { read = subst (λ s. AreSegmentsRead kind room octets s true 0) (sym both.1) (none_read kind room octets); held = both.0; whole = λ on. unused }
 
 -- one more segment has been joined
-pub more_joined : (kind : Kind) (room at used : ℕ) (octets : List ℕ) (old new : Joined) (before full : Bool) → AreJoined kind room octets old before at → before ≡ true → IsJoinedSegment kind (room - at) (drop at octets) old new full used → IsHeld kind new
-    → (full ≡ true → new.unused ≡ 0) → AreJoined kind room octets new full (at + used)
-more_joined kind room at used octets old new before full h on one held whole =
+pub more_joined : (kind : Kind) (room at used : ℕ) (octets : List ℕ) (old new : Joined) (before full : Bool) → AreJoined kind room octets old before at → before ≡ true → IsJoinedSegment kind (room - at) (drop at octets) old new full used
+    → AreJoined kind room octets new full (at + used)
+more_joined kind room at used octets old new before full h on one =
     let read = more_read kind room at used octets (string_of kind old) one.piece full (subst (λ b. AreSegmentsRead kind room octets (string_of kind old) b at) on h.read) one.read in
-    record { read = subst (λ s. AreSegmentsRead kind room octets s full (at + used)) (sym one.joined) read; held = held; whole = whole }
+    record { read = subst (λ s. AreSegmentsRead kind room octets s full (at + used)) (sym one.joined) read; held = one.held; whole = one.whole }

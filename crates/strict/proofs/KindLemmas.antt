@@ -13,6 +13,7 @@ use Rattle.encoding_parts.specs.declared.joined.Joined.{Joined}
 use Rattle.encoding_parts.specs.Joined.{Element, HoldsPiece, IsHeld, IsHeldFor, IsStringOf, string_of, typed, value_of}
 use Rattle.encoding_parts.proofs.JoinedLemmas.{length-bits_before, few_unused}
 use Rattle.strict.specs.Leaf.{HoldsSegment, IsBitString, bits_view, value_is}
+use Rattle.strict.specs.Segments.{IsLong}
 
 -- what CER takes as a segment BER takes as a piece
 pub held_by_ber : (kind : Kind) (piece : List (Element kind)) (contents : List ℕ) → HoldsSegment kind piece contents → HoldsPiece kind piece contents
@@ -49,9 +50,6 @@ tells_octets Octets false contents is some none =
     λ piece holds. (λ on. absurd (cc on), λ h. absurd (h.1 (sym holds ∙ empty)))
 
 -- a string of bits is too long for one segment from 1000 octets on, and one of octets from 1001
-abbrev pub IsLong : Kind → Joined → Type 0
-IsLong kind joined = (contents : List ℕ) → HoldsSegment kind (string_of kind joined) contents → 1000 < length contents
-
 pub long_bits : (kind : Kind) (joined : Joined) → kind ≡ Bits → IsHeld kind joined → 1000 ≤ length joined.octets.items → IsLong kind joined
 long_bits Bits joined is held many = λ contents h.
     let octets = joined.octets.items in

@@ -85,6 +85,9 @@ has_last contents (o ∷ octets) unused is two =
       split = parts ∙ ap (λ x. take (length octets) (o ∷ octets) ++ (x ∷ [])) (sym last);
     }
 
+pub unused_low : (bits : List Bool) (contents : List ℕ) → IsBits ber bits contents → get_or contents 0 0 ≤ 7
+unused_low bits contents h = omega (arith, h.at_most_7, ap (λ c. get_or c 0 0) h.contents_are)
+
 -- the unused bits are 0 exactly if the last octet ends with as many
 pub unused_zeros : (bits : List Bool) (contents : List ℕ) → 2 ≤ length contents → IsBits ber bits contents
     → (EndsWithZeros (get_or contents (length contents - 1) 0) (get_or contents 0 0) → IsBits der bits contents) × (IsBits der bits contents → EndsWithZeros (get_or contents (length contents - 1) 0) (get_or contents 0 0))

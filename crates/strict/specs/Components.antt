@@ -4,7 +4,6 @@ use Rattle.std.specs.Prelude.{◌≡◌, ◌-◌, ◌≤◌, ◌⊎◌, ℕ, Boo
 use Rattle.std.specs.List.{AllByRecursion, concat}
 use Rattle.octets.specs.declared.tag.Tag.{Tag}
 use Rattle.octets.specs.Rule.{Rule}
-use Rattle.types.specs.declared.refusal.Refusal.{Refusal}
 use Rattle.types.specs.declared.value.Value.{Value}
 use Rattle.types.specs.Shape.{Val, Slots}
 use Rattle.types.specs.View.{ComponentView, components_of, slots_of, value_view}
@@ -14,7 +13,6 @@ use Rattle.types.specs.Encoding.{IsEncoding, AreSlotEncodings, standing}
 use Rattle.encoding_parts.specs.Head.{IsTagWithin}
 use Rattle.encoding_parts.specs.Parts.{IsGoodComponent}
 use Rattle.encoding_parts.specs.Segments.{BeginsAboveZero}
-use Rattle.strict.specs.Bars.{Bars}
 use Rattle.strict.specs.Head.{Fills, mark, EndsHere}
 use Rattle.strict.specs.Reading.{IsRead}
 
@@ -65,6 +63,6 @@ abbrev pub IsComponentRead : Rule → ComponentView → Bool → ℕ → List �
 IsComponentRead rule c definite room octets slot used = (others : List ComponentView) → RunsAreDistinct (components_of (c ∷ others)) → AllByRecursion IsGoodComponent others
     → AreComponentsRead rule (c ∷ []) others definite room octets (slot ∷ []) used
 
-abbrev pub BarsComponents : Rule → ComponentView → Bool → ℕ → List ℕ → Refusal → Type 0
-BarsComponents rule c definite room octets refusal = (others : List ComponentView) → RunsAreDistinct (components_of (c ∷ others)) → AllByRecursion IsGoodComponent others
-    → Bars refusal (HasComponents rule (c ∷ others) definite room) octets
+-- the octets begin with the encodings of it and of some others up to an end
+abbrev pub HasComponentFirst : Rule → ComponentView → Bool → ℕ → List ℕ → Type 0
+HasComponentFirst rule c definite room octets = (others : List ComponentView) × RunsAreDistinct (components_of (c ∷ others)) × AllByRecursion IsGoodComponent others × HasComponents rule (c ∷ others) definite room octets

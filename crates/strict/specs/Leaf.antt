@@ -9,7 +9,7 @@ use Rattle.types.specs.declared.refusal.Refusal.TheVariants.{Contents, Alphabet,
 use Rattle.types.specs.Conforms.{Conforms}
 use Rattle.types.specs.Form.{IsDefinite}
 use Rattle.types.specs.Leaf.{tag_of}
-use Rattle.types.specs.Shape.{SimpleType, StringType, SimpleValue, StringValue, Shape, Val}
+use Rattle.types.specs.Shape.{StringType, SimpleValue, StringValue, Shape, Val}
 use Rattle.types.specs.Strings.{segment_octets, AreOctets, IsCut}
 use Rattle.encoding_parts.specs.declared.joined.Kind.{Kind}
 use Rattle.encoding_parts.specs.declared.joined.Kind.TheVariants.{Bits, Octets}
@@ -96,13 +96,6 @@ pub record IsBitsOf (v : Val) (contents : List ℕ) : Type 0 where
   pub bits : List Bool
   pub is : v ≡ bits_view bits
   pub spelt : IsBits der bits contents
-
--- the contents octets of a value of the type are alike under every rule
-abbrev pub IsSpeltAlike : Shape → Type 0
-IsSpeltAlike (Shape.simple tag SimpleType.boolean) = ⊥
-IsSpeltAlike (Shape.string tag StringType.bit_string) = ⊥
-IsSpeltAlike (Shape.string tag (StringType.named_bits names)) = ⊥
-IsSpeltAlike type = ⊤
 
 -- 6, 7, 12 and 17: what contents octets are refused with
 abbrev pub IsOfSpelling : Refusal → Type 0

@@ -1,10 +1,15 @@
--- A value that has been read at the front of some octets, and what can stand there.
+-- A value that has been read at the front of some octets, what can stand there, and why it cannot.
 use Rattle.std.specs.Prelude.{◌≡◌, ◌≤◌, ℕ, Bool, List, ◌++◌, Option, length, take, MatchOption}
 use Rattle.octets.specs.Rule.{Rule}
+use Rattle.types.specs.declared.refusal.Refusal.{Refusal}
 use Rattle.types.specs.declared.value.Value.{Value}
 use Rattle.types.specs.Shape.{Val, Shape}
 use Rattle.types.specs.View.{AlternativeView, alternatives_of, value_view}
 use Rattle.types.specs.Encoding.{IsEncoding, IsAlternativeEncoding}
+use Rattle.strict.specs.declared.canonical.Canonical.{Canonical}
+use Rattle.strict.specs.Bars.{RefusesStrictly}
+use Rattle.strict.specs.Begun.{IsBegun}
+use Rattle.strict.specs.Canonical.{rule_of}
 use Rattle.strict.specs.Head.{Fills, mark}
 
 -- so many octets are an encoding of the value in the slot
@@ -19,6 +24,10 @@ pub record HasPart (rule : Rule) (type : Shape) (room : ℕ) (octets : List ℕ)
   pub encoding : IsEncoding rule type value part
   pub fits : length part ≤ room
   pub parts : octets ≡ part ++ rest
+
+-- they are refused where they are to begin so
+abbrev pub RefusesPart : Canonical → Shape → ℕ → List ℕ → Refusal → Type 0
+RefusesPart rule type room octets = RefusesStrictly (HasPart (rule_of rule) type room) (IsBegun rule type room) octets
 
 -- they begin with an encoding of one of the alternatives
 pub record HasChoice (rule : Rule) (left : List AlternativeView) (room : ℕ) (octets : List ℕ) : Type 0 where

@@ -1,5 +1,5 @@
 -- Segments of a string that CER cuts (X.690 9.2), up to the end-of-contents octets.
-use Rattle.std.specs.Prelude.{◌≡◌, ◌≢◌, ◌↔◌, ◌⊎◌, ◌-◌, ◌≤◌, ℕ, Bool, true, false, List, [], ◌∷◌, ◌++◌, length, take, drop}
+use Rattle.std.specs.Prelude.{◌≡◌, ◌≢◌, ◌↔◌, ◌⊎◌, ◌-◌, ◌<◌, ◌≤◌, ℕ, Bool, true, false, List, [], ◌∷◌, ◌++◌, length, take, drop}
 use Rattle.octets.specs.Rule.{cer}
 use Rattle.types.specs.Form.{IsPrimitive}
 use Rattle.types.specs.Strings.{segment_octets, AreCerSegments}
@@ -59,14 +59,20 @@ pub record IsSegmentRead (kind : Kind) (room : ℕ) (octets : List ℕ) (piece :
   pub exact : (full ≡ true) ↔ ((length contents ≡ segment_octets) × IsWholePiece kind piece)
   pub forth : GoOn kind true room octets piece full used
 
--- it was joined
+-- it was joined, and bits are unused behind it only where no other segment may follow
 pub record IsJoinedSegment (kind : Kind) (room : ℕ) (octets : List ℕ) (old new : Joined) (full : Bool) (used : ℕ) : Type 0 where
   pub piece : List (Element kind)
   pub joined : string_of kind new ≡ string_of kind old ++ piece
   pub read : IsSegmentRead kind room octets piece full used
+  pub held : IsHeld kind new
+  pub whole : full ≡ true → new.unused ≡ 0
 
 -- the segments that were read make this string, behind which bits are unused only where no other segment may follow
 pub record AreJoined (kind : Kind) (room : ℕ) (octets : List ℕ) (joined : Joined) (full : Bool) (used : ℕ) : Type 0 where
   pub read : AreSegmentsRead kind room octets (string_of kind joined) full used
   pub held : IsHeld kind joined
   pub whole : full ≡ true → joined.unused ≡ 0
+
+-- the string has more contents octets than one segment may have
+abbrev pub IsLong : Kind → Joined → Type 0
+IsLong kind joined = (contents : List ℕ) → HoldsSegment kind (string_of kind joined) contents → segment_octets < length contents

@@ -1,6 +1,6 @@
 //! SEQUENCEs: components in order of declaration (X.690 8.9 and 11.5).
 
-ghost use Rattle.std.specs.Prelude.{◌≡◌, ◌-◌, ◌<◌, ◌≤◌, ℕ, [], length, map, drop, IfOk, IfErr};
+ghost use Rattle.std.specs.Prelude.{◌≡◌, ◌-◌, ◌<◌, ◌≤◌, [], length, map, drop, IfOk, IfErr};
 ghost use Rattle.std.specs.List.{AllByRecursion};
 ghost use Rattle.octets.specs.declared.TheConstants.{MAX_ENCODING};
 ghost use Rattle.types.specs.FirstTags.{RunsAreDistinct};
@@ -8,12 +8,10 @@ ghost use Rattle.types.specs.Shape.{Shape};
 ghost use Rattle.types.specs.View.{components_view, field_view};
 ghost use Rattle.encoding_parts.specs.Parts.{IsGoodType, IsGoodComponent};
 ghost use Rattle.strict.specs.Canonical.{rule_of};
-ghost use Rattle.strict.specs.Bars.{Bars};
+ghost use Rattle.strict.specs.Bars.{RefusesStrictly};
 ghost use Rattle.strict.specs.Head.{EndsHere, AreFewer};
-ghost use Rattle.strict.specs.Reading.{IsRead, HasPart};
-ghost use Rattle.strict.specs.Components.{IsFront, HasPresent, IsPresentRead, HasComponents, AreComponentsRead, IsComponentRead, BarsComponents};
-ghost use Rattle.strict.specs.Refusal.{IsOfStrictReading};
-ghost use Rattle.strict.specs.Begun.{IsBegun};
+ghost use Rattle.strict.specs.Reading.{IsRead, RefusesPart};
+ghost use Rattle.strict.specs.Components.{HasPresent, IsPresentRead, HasComponents, AreComponentsRead, IsComponentRead, HasComponentFirst};
 
 use crate::canonical::Canonical;
 use crate::fronts::{front_tag, is_left_out, is_next, is_spelt_out, left_over, not_next};
@@ -39,9 +37,7 @@ pub fn read_sequence(
     requires good { IsGoodType (Shape.sequence tag (components_view fields.now)) }
     requires room { room ≤ MAX_ENCODING }
     ensures value { IfOk result (λ used. IsRead (rule_of rule) (Shape.sequence tag (components_view fields.now)) room octets.now slot.new used) }
-    ensures refused { IfErr result (λ refusal. Bars refusal (HasPart (rule_of rule) (Shape.sequence tag (components_view fields.now)) room) octets.now) }
-    ensures cut { IfErr result (λ refusal. refusal ≡ Refusal.Truncated → IsBegun rule (Shape.sequence tag (components_view fields.now)) room octets.now) }
-    ensures numbers { IfErr result IsOfStrictReading }
+    ensures refused { IfErr result (RefusesPart rule (Shape.sequence tag (components_view fields.now)) room octets.now) }
 {
     let inside = opened(rule, tag, room, octets)?;
     let behind = &octets[inside.start..];
@@ -74,9 +70,7 @@ fn read_components(
     requires slots { length slots.old.items ≡ length fields.now }
     ensures value { IfOk result (λ used. AreComponentsRead (rule_of rule) (map field_view fields.now) [] inside.now.definite inside.now.room octets.now slots.new.items used
         × EndsHere inside.now.definite (inside.now.room - used) (drop used octets.now)) }
-    ensures refused { IfErr result (λ refusal. Bars refusal (HasComponents (rule_of rule) (map field_view fields.now) inside.now.definite inside.now.room) octets.now) }
-    ensures cut { IfErr result (λ refusal. refusal ≡ Refusal.Truncated → AreFewer inside.now.definite inside.now.room octets.now) }
-    ensures numbers { IfErr result IsOfStrictReading }
+    ensures refused { IfErr result (RefusesStrictly (HasComponents (rule_of rule) (map field_view fields.now) inside.now.definite inside.now.room) (AreFewer inside.now.definite inside.now.room) octets.now) }
 {
     let mut at = 0;
     for (place, field) in fields.iter().enumerate() {
@@ -118,9 +112,7 @@ fn read_component(
     requires room { room ≤ MAX_ENCODING }
     requires place { place < length fields.now }
     ensures value { IfOk result (λ used. IsComponentRead (rule_of rule) (field_view field.now) definite room octets.now slot.new used) }
-    ensures refused { IfErr result (λ refusal. BarsComponents (rule_of rule) (field_view field.now) definite room octets.now refusal) }
-    ensures cut { IfErr result (λ refusal. refusal ≡ Refusal.Truncated → AreFewer definite room octets.now) }
-    ensures numbers { IfErr result IsOfStrictReading }
+    ensures refused { IfErr result (RefusesStrictly (HasComponentFirst (rule_of rule) (field_view field.now) definite room) (AreFewer definite room) octets.now) }
 {
     if is_left_out(&field.presence, definite, room) {
         clear(slot);
@@ -155,9 +147,7 @@ pub fn read_present(
     requires good { IsGoodComponent (field_view field.now) }
     requires room { room ≤ MAX_ENCODING }
     ensures value { IfOk result (λ used. IsPresentRead (rule_of rule) (field_view field.now) room octets.now slot.new used) }
-    ensures refused { IfErr result (λ refusal. Bars refusal (HasPresent (rule_of rule) (field_view field.now) room) octets.now) }
-    ensures cut { IfErr result (λ refusal. refusal ≡ Refusal.Truncated → length octets.now < room) }
-    ensures numbers { IfErr result IsOfStrictReading }
+    ensures refused { IfErr result (RefusesStrictly (HasPresent (rule_of rule) (field_view field.now) room) (λ o. length o < room) octets.now) }
 {
     let used = read_one(alloc, rule, &field.ty, room, octets, slot)?;
     if is_spelt_out(&field.presence, slot) {

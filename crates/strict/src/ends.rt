@@ -1,10 +1,9 @@
 //! Where the contents octets of a constructed encoding end.
 
-ghost use Rattle.std.specs.Prelude.{◌≡◌, ◌⊎◌, ◌≤◌, ◌++◌, ℕ, List, length, IfOk, IfErr};
+ghost use Rattle.std.specs.Prelude.{◌⊎◌, IfOk, IfErr};
 ghost use Rattle.encoding_parts.specs.Segments.{BeginsAboveZero};
-ghost use Rattle.strict.specs.Bars.{Bars};
+ghost use Rattle.strict.specs.Bars.{RefusesStrictly};
 ghost use Rattle.strict.specs.Head.{EndsHere, IsEndKnown, AreFewer};
-ghost use Rattle.strict.specs.Refusal.{IsOfStrictReading};
 
 use types::Refusal;
 
@@ -12,10 +11,7 @@ use types::Refusal;
 #[inline(always)]
 pub fn ends(definite: bool, room: usize, octets: &[u8]) -> Result<bool, Refusal>
     ensures value { IfOk result (λ ended. IsEndKnown ended definite room octets.now) }
-    ensures refused { IfErr result (λ refusal.
-        Bars refusal (λ o. EndsHere definite room o ⊎ BeginsAboveZero o) octets.now) }
-    ensures cut { IfErr result (λ refusal. refusal ≡ Refusal.Truncated → AreFewer definite room octets.now) }
-    ensures numbers { IfErr result IsOfStrictReading }
+    ensures refused { IfErr result (RefusesStrictly (λ o. EndsHere definite room o ⊎ BeginsAboveZero o) (AreFewer definite room) octets.now) }
 {
     if definite {
         return Ok(room == 0);

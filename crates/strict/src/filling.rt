@@ -7,7 +7,7 @@ ghost use Rattle.types.specs.View.{ty_view, value_view};
 ghost use Rattle.encoding_parts.specs.Contents.{IsFilled};
 ghost use Rattle.strict.specs.declared.canonical.Canonical.{Canonical};
 ghost use Rattle.strict.specs.Canonical.{rule_of};
-ghost use Rattle.strict.specs.Leaf.{IsBitsOf, IsBooleanOf, IsSpeltAlike};
+ghost use Rattle.strict.specs.Leaf.{IsBitsOf, IsBooleanOf};
 ghost use Rattle.strict.specs.Reading.{IsRead};
 
 use crate::short::short_primitive;
@@ -90,18 +90,8 @@ fn fill_canonical(alloc: Global, ty: &Ty, contents: &[u8], slot: &mut Option<Val
         | Ty::SequenceOf(_, _)
         | Ty::SetOf(_, _)
         | Ty::Choice(_)
-        | Ty::Explicit(_, _) => fill_alike(alloc, ty, contents, slot),
+        | Ty::Explicit(_, _) => fill(alloc, ty, contents, slot),
     }
-}
-
-// Fills in a value whose contents octets are alike under every rule.
-#[inline(always)]
-fn fill_alike(alloc: Global, ty: &Ty, contents: &[u8], slot: &mut Option<Value>) -> bool
-    requires leaf { IsLeaf (ty_view ty.now) }
-    requires alike { IsSpeltAlike (ty_view ty.now) }
-    ensures { IsTrue result → IsFilled der (ty_view ty.now) contents.now slot.new }
-{
-    fill(alloc, ty, contents, slot)
 }
 
 // Fills in a BOOLEAN.

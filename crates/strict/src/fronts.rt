@@ -6,7 +6,7 @@ ghost use Rattle.types.specs.FirstTags.{first_tags};
 ghost use Rattle.types.specs.Refusal.{IsFinal};
 ghost use Rattle.types.specs.View.{ty_view, value_view, requirement_view};
 ghost use Rattle.encoding_parts.specs.Parts.{IsSlotOf};
-ghost use Rattle.strict.specs.Bars.{Bars};
+ghost use Rattle.strict.specs.Bars.{RefusesStrictly};
 ghost use Rattle.strict.specs.Components.{IsFront, EndsOrBegins};
 ghost use Rattle.strict.specs.Head.{EndsHere, AreFewer};
 ghost use Rattle.strict.specs.Refusal.{IsOfStrictReading};
@@ -19,9 +19,7 @@ use types::{Field, Presence, Refusal, Ty, Value, may_be_absent};
 // The tag at the front, or none where the contents octets end there.
 pub fn front_tag(definite: bool, room: usize, octets: &[u8]) -> Result<Option<Tag>, Refusal>
     ensures value { IfOk result (λ front. IsFront front definite room octets.now) }
-    ensures refused { IfErr result (λ refusal. Bars refusal (EndsOrBegins definite room) octets.now) }
-    ensures cut { IfErr result (λ refusal. refusal ≡ Refusal.Truncated → AreFewer definite room octets.now) }
-    ensures numbers { IfErr result IsOfStrictReading }
+    ensures refused { IfErr result (RefusesStrictly (EndsOrBegins definite room) (AreFewer definite room) octets.now) }
 {
     if ends(definite, room, octets)? {
         return Ok(None);

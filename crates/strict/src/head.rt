@@ -1,15 +1,13 @@
 //! Identifier octets and length octets as CER and DER have them (X.690 9.1 and 10.1).
 
-ghost use Rattle.std.specs.Prelude.{◌≡◌, ◌≢◌, ◌↔◌, ◌+◌, ◌^◌, ◌<◌, ◌≤◌, ◌++◌, ℕ, List, length, take, drop, true, false, IsTrue, IfOk, IfErr};
+ghost use Rattle.std.specs.Prelude.{◌≡◌, ◌↔◌, ◌+◌, ◌^◌, ◌<◌, ◌≤◌, ℕ, List, length, drop, true, false, IsTrue, IfOk, IfErr};
 ghost use Rattle.octets.specs.declared.TheConstants.{MAX_ENCODING, MAX_TAG_NUMBER};
 ghost use Rattle.octets.specs.declared.tag.Tag.{Tag};
 ghost use Rattle.octets.specs.Length.{IsLength, IsShortestLength};
-ghost use Rattle.octets.specs.Identifier.{IsIdentifier};
-ghost use Rattle.encoding_parts.specs.Head.{IsReadDefinite, IsReadTag, IsTagWithin};
+ghost use Rattle.encoding_parts.specs.Head.{IsExtentWithin, IsReadDefinite, IsReadTag, IsTagWithin};
 ghost use Rattle.strict.specs.Canonical.{rule_of};
-ghost use Rattle.strict.specs.Bars.{Bars, MayFollow};
+ghost use Rattle.strict.specs.Bars.{RefusesStrictly, StandsFor};
 ghost use Rattle.strict.specs.Head.{IsDefiniteAt, HasDefinite, IsInsideDefinite, IsOpened, HasConstructed, mark};
-ghost use Rattle.strict.specs.Refusal.{IsOfStrictReading};
 ghost use Rattle.encoding_parts.specs.Cut.{IsIdentifierCut, IsLengthCut};
 ghost use Rattle.strict.specs.Begun.{IsConstructedCut};
 
@@ -36,9 +34,7 @@ pub struct Inside {
 pub fn read_its_tag(tag: Tag, room: usize, octets: &[u8]) -> Result<(bool, usize), Refusal>
     requires { tag.number ≤ MAX_TAG_NUMBER }
     ensures value { IfOk result (λ p. IsReadTag tag room 0 octets.now p.0 p.1) }
-    ensures refused { IfErr result (λ refusal. Bars refusal (IsTagWithin tag room 0) octets.now) }
-    ensures cut { IfErr result (λ refusal. refusal ≡ Refusal.Truncated → IsIdentifierCut room 0 octets.now) }
-    ensures numbers { IfErr result IsOfStrictReading }
+    ensures refused { IfErr result (RefusesStrictly (IsTagWithin tag room 0) (IsIdentifierCut room 0) octets.now) }
 {
     let (found, constructed, used) = read_head_tag(room, 0, octets)?;
     if found != tag {
@@ -53,9 +49,7 @@ fn definite(tag: Tag, room: usize, octets: &[u8]) -> Result<(usize, usize), Refu
     requires tag { tag.number ≤ MAX_TAG_NUMBER }
     requires room { room ≤ MAX_ENCODING }
     ensures value { IfOk result (λ p. IsDefiniteAt tag true room octets.now p.0 p.1) }
-    ensures refused { IfErr result (λ refusal. Bars refusal (HasDefinite tag true room) octets.now) }
-    ensures cut { IfErr result (λ refusal. refusal ≡ Refusal.Truncated → IsConstructedCut Canonical.Der tag room octets.now) }
-    ensures numbers { IfErr result IsOfStrictReading }
+    ensures refused { IfErr result (RefusesStrictly (HasDefinite tag true room) (IsConstructedCut Canonical.Der tag room) octets.now) }
 {
     let (constructed, identifier) = read_its_tag(tag, room, octets)?;
     if !constructed {
@@ -78,10 +72,7 @@ pub fn read_size(room: usize, identifier: usize, octets: &[u8]) -> Result<(usize
     requires there { identifier ≤ length octets.now }
     requires room { room ≤ MAX_ENCODING }
     ensures value { IfOk result (λ p. IsReadDefinite room identifier (drop identifier octets.now) p.0 p.1) }
-    ensures refused { IfErr result (λ refusal. (tag : Tag) → IsIdentifier tag false (take identifier octets.now) →
-        Bars refusal (HasDefinite tag false room) octets.now) }
-    ensures cut { IfErr result (λ refusal. refusal ≡ Refusal.Truncated → IsLengthCut room identifier (drop identifier octets.now)) }
-    ensures numbers { IfErr result IsOfStrictReading }
+    ensures refused { IfErr result (RefusesStrictly (IsExtentWithin false room identifier) (IsLengthCut room identifier) (drop identifier octets.now)) }
 {
     match read_extent(false, room, identifier, &octets[identifier..])? {
         Extent::Definite { octets: size, used } => Ok((size, used)),
@@ -119,9 +110,7 @@ pub fn opened(rule: Canonical, tag: Tag, room: usize, octets: &[u8]) -> Result<I
     requires tag { tag.number ≤ MAX_TAG_NUMBER }
     requires room { room ≤ MAX_ENCODING }
     ensures value { IfOk result (λ inside. IsOpened (rule_of rule) tag room octets.now inside) }
-    ensures refused { IfErr result (λ refusal. Bars refusal (HasConstructed (rule_of rule) tag room) octets.now) }
-    ensures cut { IfErr result (λ refusal. refusal ≡ Refusal.Truncated → IsConstructedCut rule tag room octets.now) }
-    ensures numbers { IfErr result IsOfStrictReading }
+    ensures refused { IfErr result (RefusesStrictly (HasConstructed (rule_of rule) tag room) (IsConstructedCut rule tag room) octets.now) }
 {
     match short_opened(rule, tag, room, octets) {
         Some(inside) => Ok(inside),
@@ -135,9 +124,7 @@ fn long_opened(rule: Canonical, tag: Tag, room: usize, octets: &[u8]) -> Result<
     requires tag { tag.number ≤ MAX_TAG_NUMBER }
     requires room { room ≤ MAX_ENCODING }
     ensures value { IfOk result (λ inside. IsOpened (rule_of rule) tag room octets.now inside) }
-    ensures refused { IfErr result (λ refusal. Bars refusal (HasConstructed (rule_of rule) tag room) octets.now) }
-    ensures cut { IfErr result (λ refusal. refusal ≡ Refusal.Truncated → IsConstructedCut rule tag room octets.now) }
-    ensures numbers { IfErr result IsOfStrictReading }
+    ensures refused { IfErr result (RefusesStrictly (HasConstructed (rule_of rule) tag room) (IsConstructedCut rule tag room) octets.now) }
 {
     match rule {
         Canonical::Der => match definite(tag, room, octets) {
@@ -158,9 +145,7 @@ pub fn indefinite(tag: Tag, room: usize, octets: &[u8]) -> Result<Inside, Refusa
     requires room { room ≤ MAX_ENCODING }
     ensures value { IfOk result (λ inside. IsOpened (rule_of Canonical.Cer) tag room octets.now inside) }
     ensures form { IfOk result (λ inside. inside.definite ≡ false) }
-    ensures refused { IfErr result (λ refusal. Bars refusal (HasConstructed (rule_of Canonical.Cer) tag room) octets.now) }
-    ensures cut { IfErr result (λ refusal. refusal ≡ Refusal.Truncated → IsConstructedCut Canonical.Cer tag room octets.now) }
-    ensures numbers { IfErr result IsOfStrictReading }
+    ensures refused { IfErr result (RefusesStrictly (HasConstructed (rule_of Canonical.Cer) tag room) (IsConstructedCut Canonical.Cer tag room) octets.now) }
 {
     let (form, identifier) = read_its_tag(tag, room, octets)?;
     if !form {
@@ -207,9 +192,7 @@ pub fn is_inside_definite(rule: Canonical, room: usize) -> bool
 // Why a part is refused, by what is around it: one that goes on too long passes an end that length octets say, where
 // that has the definite form.
 pub fn refusal_inside(rule: Canonical, room: usize, refusal: Refusal) -> Refusal
-    ensures follows { (more : List ℕ) → MayFollow result more → MayFollow refusal more }
-    ensures cut { result ≡ Refusal.Truncated → refusal ≡ Refusal.Truncated }
-    ensures numbers { IsOfStrictReading refusal → IsOfStrictReading result }
+    ensures { StandsFor result refusal }
 {
     if refusal == Refusal::TooLong && is_inside_definite(rule, room) {
         Refusal::Length

@@ -8,12 +8,10 @@ ghost use Rattle.types.specs.Shape.{Shape};
 ghost use Rattle.types.specs.View.{ty_view};
 ghost use Rattle.encoding_parts.specs.Parts.{IsGoodType};
 ghost use Rattle.strict.specs.Canonical.{rule_of};
-ghost use Rattle.strict.specs.Bars.{Bars};
+ghost use Rattle.strict.specs.Bars.{RefusesStrictly};
 ghost use Rattle.strict.specs.Head.{EndsHere, AreFewer};
-ghost use Rattle.strict.specs.Reading.{IsRead, HasPart};
+ghost use Rattle.strict.specs.Reading.{IsRead, RefusesPart};
 ghost use Rattle.strict.specs.Items.{HasItems, AreItemsRead, HasOrdered, AreOrderedRead};
-ghost use Rattle.strict.specs.Refusal.{IsOfStrictReading};
-ghost use Rattle.strict.specs.Begun.{IsBegun};
 
 use crate::canonical::Canonical;
 use crate::ends::ends;
@@ -43,9 +41,7 @@ pub fn read_list(
     requires good { IsGoodType (Shape.sequence_of tag (ty_view inner.now)) }
     requires room { room ≤ MAX_ENCODING }
     ensures value { IfOk result (λ used. IsRead (rule_of rule) (Shape.sequence_of tag (ty_view inner.now)) room octets.now slot.new used) }
-    ensures refused { IfErr result (λ refusal. Bars refusal (HasPart (rule_of rule) (Shape.sequence_of tag (ty_view inner.now)) room) octets.now) }
-    ensures cut { IfErr result (λ refusal. refusal ≡ Refusal.Truncated → IsBegun rule (Shape.sequence_of tag (ty_view inner.now)) room octets.now) }
-    ensures numbers { IfErr result IsOfStrictReading }
+    ensures refused { IfErr result (RefusesPart rule (Shape.sequence_of tag (ty_view inner.now)) room octets.now) }
 {
     let inside = opened(rule, tag, room, octets)?;
     let behind = &octets[inside.start..];
@@ -75,9 +71,7 @@ fn read_items(
     requires none { items.old.items ≡ [] }
     ensures value { IfOk result (λ used. AreItemsRead (rule_of rule) (ty_view inner.now) inside.now.definite inside.now.room octets.now items.new.items used
         × EndsHere inside.now.definite (inside.now.room - used) (drop used octets.now)) }
-    ensures refused { IfErr result (λ refusal. Bars refusal (HasItems (rule_of rule) (ty_view inner.now) inside.now.definite inside.now.room) octets.now) }
-    ensures cut { IfErr result (λ refusal. refusal ≡ Refusal.Truncated → AreFewer inside.now.definite inside.now.room octets.now) }
-    ensures numbers { IfErr result IsOfStrictReading }
+    ensures refused { IfErr result (RefusesStrictly (HasItems (rule_of rule) (ty_view inner.now) inside.now.definite inside.now.room) (AreFewer inside.now.definite inside.now.room) octets.now) }
 {
     let mut at = 0;
     while !ends(inside.definite, inside.room - at, &octets[at..])? {
@@ -109,9 +103,7 @@ pub fn read_set_of(
     requires good { IsGoodType (Shape.set_of tag (ty_view inner.now)) }
     requires room { room ≤ MAX_ENCODING }
     ensures value { IfOk result (λ used. IsRead (rule_of rule) (Shape.set_of tag (ty_view inner.now)) room octets.now slot.new used) }
-    ensures refused { IfErr result (λ refusal. Bars refusal (HasPart (rule_of rule) (Shape.set_of tag (ty_view inner.now)) room) octets.now) }
-    ensures cut { IfErr result (λ refusal. refusal ≡ Refusal.Truncated → IsBegun rule (Shape.set_of tag (ty_view inner.now)) room octets.now) }
-    ensures numbers { IfErr result IsOfStrictReading }
+    ensures refused { IfErr result (RefusesPart rule (Shape.set_of tag (ty_view inner.now)) room octets.now) }
 {
     let inside = opened(rule, tag, room, octets)?;
     let behind = &octets[inside.start..];
@@ -141,9 +133,7 @@ fn read_ordered(
     requires none { items.old.items ≡ [] }
     ensures value { IfOk result (λ used. (before : ℕ) × AreOrderedRead (rule_of rule) (ty_view inner.now) inside.now.definite inside.now.room octets.now items.new.items before used
         × EndsHere inside.now.definite (inside.now.room - used) (drop used octets.now)) }
-    ensures refused { IfErr result (λ refusal. Bars refusal (HasOrdered (rule_of rule) (ty_view inner.now) inside.now.definite inside.now.room []) octets.now) }
-    ensures cut { IfErr result (λ refusal. refusal ≡ Refusal.Truncated → AreFewer inside.now.definite inside.now.room octets.now) }
-    ensures numbers { IfErr result IsOfStrictReading }
+    ensures refused { IfErr result (RefusesStrictly (HasOrdered (rule_of rule) (ty_view inner.now) inside.now.definite inside.now.room []) (AreFewer inside.now.definite inside.now.room) octets.now) }
 {
     let mut at = 0;
     let mut before = 0;

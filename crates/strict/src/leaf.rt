@@ -1,19 +1,18 @@
 //! Encodings of types without parts (X.690 8.2 to 8.8, 8.19, 8.20, 8.23, 8.25, 9.2 and 10.2): a primitive one, or a
 //! string that CER cuts.
 
-ghost use Rattle.std.specs.Prelude.{◌≡◌, ◌↔◌, ◌+◌, ◌≤◌, ℕ, List, true, false, IsTrue, IfOk, IfErr, drop};
+ghost use Rattle.std.specs.Prelude.{◌≡◌, ◌↔◌, ◌+◌, ◌≤◌, ℕ, false, IfOk, IfErr, drop};
 ghost use Rattle.octets.specs.declared.TheConstants.{MAX_ENCODING};
 ghost use Rattle.octets.specs.declared.tag.Tag.{Tag};
 ghost use Rattle.types.specs.Leaf.{tag_of, IsLeaf};
 ghost use Rattle.types.specs.View.{ty_view};
 ghost use Rattle.encoding_parts.specs.Head.{IsReadTag};
 ghost use Rattle.encoding_parts.specs.Parts.{IsGoodType};
-ghost use Rattle.strict.specs.Bars.{Bars, MayFollow};
-ghost use Rattle.strict.specs.Refusal.{IsOfStrictReading};
+ghost use Rattle.strict.specs.Bars.{RefusesStrictly, StandsFor};
 ghost use Rattle.strict.specs.Canonical.{rule_of};
 ghost use Rattle.strict.specs.Leaf.{HasPrimitive, IsPlace, IsWhole};
-ghost use Rattle.strict.specs.Reading.{HasPart, IsRead};
-ghost use Rattle.strict.specs.Begun.{IsBegun, IsPrimitiveBegun};
+ghost use Rattle.strict.specs.Reading.{RefusesPart, IsRead};
+ghost use Rattle.strict.specs.Begun.{IsPrimitiveBegun};
 
 use crate::canonical::Canonical;
 use crate::head::{is_inside_definite, is_shortest, read_its_tag, read_size};
@@ -25,7 +24,7 @@ use std::alloc::Global;
 use types::{Refusal, Ty, Value};
 
 // Reads the encoding at the front, of a type without parts under this tag, into the slot, and returns how many octets it
-// has: at most `room`. All values but those of BOOLEAN, INTEGER within 128 bits, ENUMERATED and NULL take memory.
+// has: at most `room`. Strings alone have constructed ones, and of CER the long ones. All values but those of BOOLEAN, INTEGER within 128 bits, ENUMERATED and NULL take memory.
 pub fn read_leaf(
     alloc: Global,
     rule: Canonical,
@@ -40,83 +39,26 @@ pub fn read_leaf(
     requires good { IsGoodType (ty_view ty.now) }
     requires room { room ≤ MAX_ENCODING }
     ensures value { IfOk result (λ used. IsRead (rule_of rule) (ty_view ty.now) room octets.now slot.new used) }
-    ensures refused { IfErr result (λ refusal. Bars refusal (HasPart (rule_of rule) (ty_view ty.now) room) octets.now) }
-    ensures cut { IfErr result (λ refusal. refusal ≡ Refusal.Truncated → IsBegun rule (ty_view ty.now) room octets.now) }
-    ensures numbers { IfErr result IsOfStrictReading }
+    ensures refused { IfErr result (RefusesPart rule (ty_view ty.now) room octets.now) }
 {
     let (constructed, identifier) = read_its_tag(tag, room, octets)?;
     if constructed {
-        read_constructed(alloc, rule, ty, tag, room, octets, slot)
-    } else {
-        read_primitive(alloc, rule, ty, identifier, room, octets, slot)
+        let Some(kind) = kind_of(ty) else {
+            return Err(Refusal::Form);
+        };
+        return match rule {
+            Canonical::Cer => read_cut(alloc, kind, ty, tag, room, octets, slot),
+            Canonical::Der => Err(Refusal::NotCanonical),
+        };
     }
-}
-
-// Reads the constructed encoding at the front: strings alone have such, and of CER the long ones.
-fn read_constructed(
-    alloc: Global,
-    rule: Canonical,
-    ty: &Ty,
-    tag: Tag,
-    room: usize,
-    octets: &[u8],
-    slot: &mut Option<Value>,
-) -> Result<usize, Refusal>
-    requires leaf { IsLeaf (ty_view ty.now) }
-    requires tag { tag_of (ty_view ty.now) ≡ tag }
-    requires good { IsGoodType (ty_view ty.now) }
-    requires room { room ≤ MAX_ENCODING }
-    requires tagged { (identifier : ℕ) × IsReadTag tag room 0 octets.now true identifier }
-    ensures value { IfOk result (λ used. IsRead (rule_of rule) (ty_view ty.now) room octets.now slot.new used) }
-    ensures refused { IfErr result (λ refusal. Bars refusal (HasPart (rule_of rule) (ty_view ty.now) room) octets.now) }
-    ensures cut { IfErr result (λ refusal. refusal ≡ Refusal.Truncated → IsBegun rule (ty_view ty.now) room octets.now) }
-    ensures numbers { IfErr result IsOfStrictReading }
-{
-    let Some(kind) = kind_of(ty) else {
-        return Err(Refusal::Form);
-    };
-    if cuts(rule) {
-        read_cut(alloc, kind, ty, tag, room, octets, slot)
-    } else {
-        Err(Refusal::NotCanonical)
-    }
-}
-
-// Whether the rule cuts long strings into segments (X.690 9.2 and 10.2).
-fn cuts(rule: Canonical) -> bool
-    ensures { IsTrue result ↔ (rule ≡ Canonical.Cer) }
-{
-    match rule {
-        Canonical::Cer => true,
-        Canonical::Der => false,
-    }
-}
-
-// Reads the primitive encoding at the front, behind so many identifier octets.
-fn read_primitive(
-    alloc: Global,
-    rule: Canonical,
-    ty: &Ty,
-    identifier: usize,
-    room: usize,
-    octets: &[u8],
-    slot: &mut Option<Value>,
-) -> Result<usize, Refusal>
-    requires leaf { IsLeaf (ty_view ty.now) }
-    requires room { room ≤ MAX_ENCODING }
-    requires tagged { IsReadTag (tag_of (ty_view ty.now)) room 0 octets.now false identifier }
-    ensures value { IfOk result (λ used. IsRead (rule_of rule) (ty_view ty.now) room octets.now slot.new used) }
-    ensures refused { IfErr result (λ refusal. Bars refusal (HasPart (rule_of rule) (ty_view ty.now) room) octets.now) }
-    ensures cut { IfErr result (λ refusal. refusal ≡ Refusal.Truncated → IsPrimitiveBegun rule (ty_view ty.now) room identifier (drop identifier octets.now)) }
-    ensures numbers { IfErr result IsOfStrictReading }
-{
     let (start, stop) = read_place(rule, ty, identifier, room, octets)?;
     let value = read_value(alloc, ty, &octets[start..stop])?;
     *slot = Some(value);
     Ok(stop)
 }
 
-// Where its contents octets begin and end: as many as the type can have.
+// Where the contents octets of the primitive encoding at the front begin and end, behind so many identifier octets: as
+// many as the type can have.
 fn read_place(
     rule: Canonical,
     ty: &Ty,
@@ -129,9 +71,7 @@ fn read_place(
     requires tagged { IsReadTag (tag_of (ty_view ty.now)) room 0 octets.now false identifier }
     ensures place { IfOk result (λ p. IsPlace (tag_of (ty_view ty.now)) room octets.now p.0 p.1) }
     ensures whole { IfOk result (λ p. (size : ℕ) → p.1 ≡ p.0 + size → IsWhole rule (ty_view ty.now) size) }
-    ensures refused { IfErr result (λ refusal. Bars refusal (HasPrimitive rule (ty_view ty.now) room) octets.now) }
-    ensures cut { IfErr result (λ refusal. refusal ≡ Refusal.Truncated → IsPrimitiveBegun rule (ty_view ty.now) room identifier (drop identifier octets.now)) }
-    ensures numbers { IfErr result IsOfStrictReading }
+    ensures refused { IfErr result (RefusesStrictly (HasPrimitive rule (ty_view ty.now) room) (λ o. IsPrimitiveBegun rule (ty_view ty.now) room identifier (drop identifier o)) octets.now) }
 {
     let (size, used) = match read_size(room, identifier, octets) {
         Ok(read) => read,
@@ -150,20 +90,21 @@ fn read_place(
     Ok((start, start + size))
 }
 
-// Whether a string of so many contents octets is one that CER cuts (X.690 9.2).
+// Whether a string of so many contents octets is one that CER cuts, and DER none (X.690 9.2 and 10.2).
 fn is_to_be_cut(rule: Canonical, ty: &Ty, size: usize) -> bool
     requires { IsLeaf (ty_view ty.now) }
     ensures { result ≡ false ↔ IsWhole rule (ty_view ty.now) size }
 {
-    cuts(rule) && size > SEGMENT_OCTETS && kind_of(ty).is_some()
+    match rule {
+        Canonical::Cer => size > SEGMENT_OCTETS && kind_of(ty).is_some(),
+        Canonical::Der => false,
+    }
 }
 
 // Why an encoding is refused whose length octets are: a length that no value of the type has is refused before one that
 // passes the end of all, but not before one that passes the end of a definite encoding around it.
 fn why(rule: Canonical, ty: &Ty, room: usize, octets: &[u8], refusal: Refusal) -> Refusal
-    ensures follows { (more : List ℕ) → MayFollow result more → MayFollow refusal more }
-    ensures cut { result ≡ Refusal.Truncated → refusal ≡ Refusal.Truncated }
-    ensures numbers { IsOfStrictReading refusal → IsOfStrictReading result }
+    ensures { StandsFor result refusal }
 {
     if refusal != Refusal::TooLong || is_inside_definite(rule, room) {
         return refusal;

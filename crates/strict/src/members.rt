@@ -1,6 +1,6 @@
 //! SETs: components in the order of their tags (X.690 8.11, 9.3 and 10.3).
 
-ghost use Rattle.std.specs.Prelude.{◌≡◌, ◌-◌, ◌≤◌, ℕ, Option, None, map, drop, IfOk, IfErr};
+ghost use Rattle.std.specs.Prelude.{◌≡◌, ◌-◌, ◌≤◌, Option, None, map, drop, IfOk, IfErr};
 ghost use Rattle.std.specs.List.{AllByRecursion};
 ghost use Rattle.octets.specs.declared.TheConstants.{MAX_ENCODING};
 ghost use Rattle.octets.specs.declared.tag.Tag.{Tag as TagOf};
@@ -9,12 +9,10 @@ ghost use Rattle.types.specs.Shape.{Shape};
 ghost use Rattle.types.specs.View.{field_view, components_view};
 ghost use Rattle.encoding_parts.specs.Parts.{IsGoodType, IsGoodComponent};
 ghost use Rattle.strict.specs.Canonical.{rule_of};
-ghost use Rattle.strict.specs.Bars.{Bars};
+ghost use Rattle.strict.specs.Bars.{RefusesStrictly};
 ghost use Rattle.strict.specs.Head.{EndsHere, AreFewer};
-ghost use Rattle.strict.specs.Reading.{IsRead, HasPart};
+ghost use Rattle.strict.specs.Reading.{IsRead, RefusesPart};
 ghost use Rattle.strict.specs.Members.{HasMembers, AreMembersRead, AreFilled};
-ghost use Rattle.strict.specs.Refusal.{IsOfStrictReading};
-ghost use Rattle.strict.specs.Begun.{IsBegun};
 
 use crate::canonical::Canonical;
 use crate::components::read_present;
@@ -42,9 +40,7 @@ pub fn read_set(
     requires good { IsGoodType (Shape.set tag (components_view fields.now)) }
     requires room { room ≤ MAX_ENCODING }
     ensures value { IfOk result (λ used. IsRead (rule_of rule) (Shape.set tag (components_view fields.now)) room octets.now slot.new used) }
-    ensures refused { IfErr result (λ refusal. Bars refusal (HasPart (rule_of rule) (Shape.set tag (components_view fields.now)) room) octets.now) }
-    ensures cut { IfErr result (λ refusal. refusal ≡ Refusal.Truncated → IsBegun rule (Shape.set tag (components_view fields.now)) room octets.now) }
-    ensures numbers { IfErr result IsOfStrictReading }
+    ensures refused { IfErr result (RefusesPart rule (Shape.set tag (components_view fields.now)) room octets.now) }
 {
     let inside = opened(rule, tag, room, octets)?;
     let Ok(empty) = empty_slots(alloc, fields) else {
@@ -84,9 +80,7 @@ fn read_members(
     ensures value { IfOk result (λ used. AreFilled (map field_view fields.now) slots.new.items
         × ((last : Option TagOf) × AreMembersRead (rule_of rule) (map field_view fields.now) slots.new.items last inside.now.definite inside.now.room octets.now used)
         × EndsHere inside.now.definite (inside.now.room - used) (drop used octets.now)) }
-    ensures refused { IfErr result (λ refusal. Bars refusal (HasMembers (rule_of rule) (map field_view fields.now) (map (λ c. None) (map field_view fields.now)) None inside.now.definite inside.now.room) octets.now) }
-    ensures cut { IfErr result (λ refusal. refusal ≡ Refusal.Truncated → AreFewer inside.now.definite inside.now.room octets.now) }
-    ensures numbers { IfErr result IsOfStrictReading }
+    ensures refused { IfErr result (RefusesStrictly (HasMembers (rule_of rule) (map field_view fields.now) (map (λ c. None) (map field_view fields.now)) None inside.now.definite inside.now.room) (AreFewer inside.now.definite inside.now.room) octets.now) }
 {
     let mut at = 0;
     let mut behind = 0;

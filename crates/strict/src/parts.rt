@@ -1,16 +1,14 @@
 //! Values of any type, each part by a call that nests in that of what holds it.
 
-ghost use Rattle.std.specs.Prelude.{◌-◌, ◌≤◌, drop, IfOk, IfErr, ◌≡◌};
+ghost use Rattle.std.specs.Prelude.{◌-◌, ◌≤◌, drop, IfOk, IfErr};
 ghost use Rattle.octets.specs.declared.TheConstants.{MAX_ENCODING};
 ghost use Rattle.types.specs.Shape.{Shape};
 ghost use Rattle.types.specs.View.{alternatives_view, ty_view};
 ghost use Rattle.encoding_parts.specs.Parts.{IsGoodType};
 ghost use Rattle.strict.specs.Canonical.{rule_of};
-ghost use Rattle.strict.specs.Bars.{Bars};
+ghost use Rattle.strict.specs.Bars.{RefusesStrictly};
 ghost use Rattle.strict.specs.Head.{EndsHere, AreFewer};
-ghost use Rattle.strict.specs.Reading.{IsRead, HasPart, HasAlone};
-ghost use Rattle.strict.specs.Refusal.{IsOfStrictReading};
-ghost use Rattle.strict.specs.Begun.{IsBegun};
+ghost use Rattle.strict.specs.Reading.{IsRead, RefusesPart, HasAlone};
 
 use crate::canonical::Canonical;
 use crate::components::read_sequence;
@@ -40,9 +38,7 @@ pub fn read_one(
     requires good { IsGoodType (ty_view ty.now) }
     requires room { room ≤ MAX_ENCODING }
     ensures value { IfOk result (λ used. IsRead (rule_of rule) (ty_view ty.now) room octets.now slot.new used) }
-    ensures refused { IfErr result (λ refusal. Bars refusal (HasPart (rule_of rule) (ty_view ty.now) room) octets.now) }
-    ensures cut { IfErr result (λ refusal. refusal ≡ Refusal.Truncated → IsBegun rule (ty_view ty.now) room octets.now) }
-    ensures numbers { IfErr result IsOfStrictReading }
+    ensures refused { IfErr result (RefusesPart rule (ty_view ty.now) room octets.now) }
 {
     match read_shortly(alloc, ty, room, octets, slot) {
         Some(used) => Ok(used),
@@ -63,9 +59,7 @@ fn read_any(
     requires good { IsGoodType (ty_view ty.now) }
     requires room { room ≤ MAX_ENCODING }
     ensures value { IfOk result (λ used. IsRead (rule_of rule) (ty_view ty.now) room octets.now slot.new used) }
-    ensures refused { IfErr result (λ refusal. Bars refusal (HasPart (rule_of rule) (ty_view ty.now) room) octets.now) }
-    ensures cut { IfErr result (λ refusal. refusal ≡ Refusal.Truncated → IsBegun rule (ty_view ty.now) room octets.now) }
-    ensures numbers { IfErr result IsOfStrictReading }
+    ensures refused { IfErr result (RefusesPart rule (ty_view ty.now) room octets.now) }
 {
     match ty {
         Ty::Boolean(tag)
@@ -102,9 +96,7 @@ fn read_chosen(
     requires good { IsGoodType (Shape.choice (alternatives_view alternatives.now)) }
     requires room { room ≤ MAX_ENCODING }
     ensures value { IfOk result (λ used. IsRead (rule_of rule) (Shape.choice (alternatives_view alternatives.now)) room octets.now slot.new used) }
-    ensures refused { IfErr result (λ refusal. Bars refusal (HasPart (rule_of rule) (Shape.choice (alternatives_view alternatives.now)) room) octets.now) }
-    ensures cut { IfErr result (λ refusal. refusal ≡ Refusal.Truncated → IsBegun rule (Shape.choice (alternatives_view alternatives.now)) room octets.now) }
-    ensures numbers { IfErr result IsOfStrictReading }
+    ensures refused { IfErr result (RefusesPart rule (Shape.choice (alternatives_view alternatives.now)) room octets.now) }
 {
     let (tag, _, _) = read_head_tag(room, 0, octets)?;
     let Some((which, alternative)) = by_tag(alternatives, tag) else {
@@ -135,9 +127,7 @@ fn read_explicit(
     requires good { IsGoodType (Shape.explicit tag (ty_view inner.now)) }
     requires room { room ≤ MAX_ENCODING }
     ensures value { IfOk result (λ used. IsRead (rule_of rule) (Shape.explicit tag (ty_view inner.now)) room octets.now slot.new used) }
-    ensures refused { IfErr result (λ refusal. Bars refusal (HasPart (rule_of rule) (Shape.explicit tag (ty_view inner.now)) room) octets.now) }
-    ensures cut { IfErr result (λ refusal. refusal ≡ Refusal.Truncated → IsBegun rule (Shape.explicit tag (ty_view inner.now)) room octets.now) }
-    ensures numbers { IfErr result IsOfStrictReading }
+    ensures refused { IfErr result (RefusesPart rule (Shape.explicit tag (ty_view inner.now)) room octets.now) }
 {
     let inside = opened(rule, tag, room, octets)?;
     let behind = &octets[inside.start..];
@@ -161,9 +151,7 @@ fn read_alone(
     requires room { inside.now.room ≤ MAX_ENCODING }
     ensures value { IfOk result (λ used. IsRead (rule_of rule) (ty_view ty.now) inside.now.room octets.now slot.new used
         × EndsHere inside.now.definite (inside.now.room - used) (drop used octets.now)) }
-    ensures refused { IfErr result (λ refusal. Bars refusal (HasAlone (rule_of rule) (ty_view ty.now) inside.now.definite inside.now.room) octets.now) }
-    ensures cut { IfErr result (λ refusal. refusal ≡ Refusal.Truncated → AreFewer inside.now.definite inside.now.room octets.now) }
-    ensures numbers { IfErr result IsOfStrictReading }
+    ensures refused { IfErr result (RefusesStrictly (HasAlone (rule_of rule) (ty_view ty.now) inside.now.definite inside.now.room) (AreFewer inside.now.definite inside.now.room) octets.now) }
 {
     let used = read_one(alloc, rule, ty, inside.room, octets, slot)?;
     match front_tag(inside.definite, inside.room - used, &octets[used..])? {

@@ -1,6 +1,6 @@
 //! Strings that CER cuts into segments (X.690 9.2).
 
-ghost use Rattle.std.specs.Prelude.{◌≡◌, ◌≢◌, ◌↔◌, ◌+◌, ◌-◌, ◌≤◌, ◌<◌, ◌++◌, [], ℕ, List, length, drop, true, false, IsTrue, IfOk, IfErr, OnOk};
+ghost use Rattle.std.specs.Prelude.{◌≡◌, ◌≢◌, ◌↔◌, ◌+◌, ◌-◌, ◌≤◌, ◌<◌, ◌++◌, [], ℕ, List, length, true, false, IsTrue, IfOk, IfErr, OnOk};
 ghost use Rattle.octets.specs.declared.TheConstants.{MAX_ENCODING, MAX_TAG_NUMBER};
 ghost use Rattle.octets.specs.declared.tag.Tag.{Tag};
 ghost use Rattle.octets.specs.Rule.{cer};
@@ -9,12 +9,11 @@ ghost use Rattle.types.specs.Leaf.{tag_of};
 ghost use Rattle.types.specs.Refusal.{IsFinal};
 ghost use Rattle.types.specs.View.{ty_view, value_view};
 ghost use Rattle.encoding_parts.specs.Joined.{Element, HoldsPiece, IsHeld, IsStringOf, segment_of, string_of};
-ghost use Rattle.strict.specs.Bars.{Bars};
+ghost use Rattle.strict.specs.Bars.{RefusesStrictly};
 ghost use Rattle.strict.specs.Head.{EndsHere, AreFewer};
 ghost use Rattle.strict.specs.Leaf.{HasCut, HoldsSegment, IsOfSpelling, IsPlace, value_is};
 ghost use Rattle.strict.specs.Reading.{IsRead};
-ghost use Rattle.strict.specs.Segments.{AreSegmentsKnown, HasSomeSegments, IsJoinedSegment};
-ghost use Rattle.strict.specs.Refusal.{IsOfStrictReading};
+ghost use Rattle.strict.specs.Segments.{AreSegmentsKnown, HasSomeSegments, IsJoinedSegment, IsLong};
 ghost use Rattle.strict.specs.Begun.{IsConstructedCut};
 ghost use Rattle.strict.specs.declared.canonical.Canonical.{Canonical};
 
@@ -47,9 +46,7 @@ pub fn read_cut(
     requires within { tag.number ≤ MAX_TAG_NUMBER }
     requires room { room ≤ MAX_ENCODING }
     ensures value { IfOk result (λ used. IsRead cer (ty_view ty.now) room octets.now slot.new used) }
-    ensures refused { IfErr result (λ refusal. Bars refusal (HasCut kind (ty_view ty.now) room) octets.now) }
-    ensures cut { IfErr result (λ refusal. refusal ≡ Refusal.Truncated → IsConstructedCut Canonical.Cer tag room octets.now) }
-    ensures numbers { IfErr result IsOfStrictReading }
+    ensures refused { IfErr result (RefusesStrictly (HasCut kind (ty_view ty.now) room) (IsConstructedCut Canonical.Cer tag room) octets.now) }
 {
     let inside = indefinite(tag, room, octets)?;
     let mut joined = Joined::new(alloc);
@@ -74,9 +71,7 @@ fn read_segments(
     requires unused { joined.old.unused ≡ 0 }
     ensures value { IfOk result (λ used. AreSegmentsKnown kind room octets.now (string_of kind joined.new) used) }
     ensures held { OnOk result (IsHeld kind joined.new) }
-    ensures refused { IfErr result (λ refusal. Bars refusal (HasSomeSegments kind true room) octets.now) }
-    ensures cut { IfErr result (λ refusal. refusal ≡ Refusal.Truncated → AreFewer false room octets.now) }
-    ensures numbers { IfErr result IsOfStrictReading }
+    ensures refused { IfErr result (RefusesStrictly (HasSomeSegments kind true room) (AreFewer false room) octets.now) }
 {
     let mut at = 0;
     let mut full = true;
@@ -102,12 +97,8 @@ fn read_segment(
     requires whole { IsTrue full → joined.old.unused ≡ 0 }
     requires held { IsHeld kind joined.old }
     ensures value { IfOk result (λ p. IsJoinedSegment kind room octets.now joined.old joined.new p.1 p.0) }
-    ensures held { OnOk result (IsHeld kind joined.new) }
-    ensures whole { IfOk result (λ p. IsTrue p.1 → joined.new.unused ≡ 0) }
     ensures open { IfOk result (λ p. IsTrue full) }
-    ensures refused { IfErr result (λ refusal. Bars refusal (HasSomeSegments kind full room) octets.now) }
-    ensures cut { IfErr result (λ refusal. refusal ≡ Refusal.Truncated → length octets.now < room) }
-    ensures numbers { IfErr result IsOfStrictReading }
+    ensures refused { IfErr result (RefusesStrictly (HasSomeSegments kind full room) (λ o. length o < room) octets.now) }
 {
     let (start, stop) = read_segment_place(kind, full, joined.unused, room, octets)?;
     let contents = &octets[start..stop];
@@ -133,9 +124,7 @@ fn read_segment_place(
     ensures place { IfOk result (λ p. IsPlace (segment_of kind) room octets.now p.0 p.1) }
     ensures short { IfOk result (λ p. p.1 ≤ p.0 + 1000) }
     ensures open { IfOk result (λ p. IsTrue full) }
-    ensures refused { IfErr result (λ refusal. Bars refusal (HasSomeSegments kind full room) octets.now) }
-    ensures cut { IfErr result (λ refusal. refusal ≡ Refusal.Truncated → length octets.now < room) }
-    ensures numbers { IfErr result IsOfStrictReading }
+    ensures refused { IfErr result (RefusesStrictly (HasSomeSegments kind full room) (λ o. length o < room) octets.now) }
 {
     let (constructed, identifier) = read_tag(segment_tag(kind), room, 0, octets)?;
     if unused != 0 {
@@ -177,10 +166,8 @@ fn is_spelt(kind: Kind, contents: &[u8]) -> bool
 // Whether the string is too long for one segment.
 fn is_long(kind: Kind, joined: &Joined) -> bool
     requires { IsHeld kind joined.now }
-    ensures long { IsTrue result → (contents : List ℕ) → HoldsSegment kind (string_of kind joined.now) contents →
-        1000 < length contents }
-    ensures short { result ≡ false →
-        ¬ ((contents : List ℕ) → HoldsSegment kind (string_of kind joined.now) contents → 1000 < length contents) }
+    ensures long { IsTrue result → IsLong kind joined.now }
+    ensures short { result ≡ false → ¬ IsLong kind joined.now }
 {
     match kind {
         Kind::Bits => joined.octets.len() >= SEGMENT_OCTETS,

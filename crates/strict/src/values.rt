@@ -1,8 +1,8 @@
 //! Values of the contents octets of primitive encodings.
 
-ghost use Rattle.std.specs.Prelude.{◌≡◌, ◌↔◌, ◌≤◌, ◌-◌, ◌++◌, Bool, List, false, take, replicate, IsTrue, IsErr, IfOk, IfErr};
+ghost use Rattle.std.specs.Prelude.{◌≡◌, ◌↔◌, Bool, List, IsTrue, IsErr, IfOk, IfErr};
 ghost use Rattle.octets.specs.Rule.{ber, der};
-ghost use Rattle.primitives.specs.Bits.{IsBits, bits_of_octet};
+ghost use Rattle.primitives.specs.Bits.{IsBits};
 ghost use Rattle.types.specs.Conforms.{Conforms};
 ghost use Rattle.types.specs.Leaf.{IsLeaf};
 ghost use Rattle.types.specs.Refusal.{IsFinal};
@@ -86,16 +86,9 @@ pub fn has_zeros_unused(contents: &[u8]) -> bool
     ensures { (bits : List Bool) → IsBits ber bits contents.now → IsTrue result ↔ IsBits der bits contents.now }
 {
     match contents {
-        [unused, .., last] => ends_with_zeros(*last, *unused),
+        [unused, .., last] => *last >> *unused << *unused == *last,
         _ => true,
     }
-}
-
-fn ends_with_zeros(octet: u8, bits: u8) -> bool
-    requires { bits ≤ 7 }
-    ensures { IsTrue result ↔ (bits_of_octet octet ≡ take (8 - bits) (bits_of_octet octet) ++ replicate bits false) }
-{
-    octet >> bits << bits == octet
 }
 
 // The value of these bits: named ones end with a bit 1 (X.690 11.2.2).

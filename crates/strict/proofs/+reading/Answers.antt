@@ -1,25 +1,25 @@
-use Rattle.std.proofs.Common.{rules, ◌≡◌, ◌+◌, ◌-◌, ◌≤◌, ◌<◌, ◌⊎◌, inl, ◌++◌, ◌∷◌, ℕ, List, [], Some, None, Err, length, map, take, drop, set, MatchOption, true, false, sym, ap, ◌∙◌, subst, subst₂, arith, refl}
+use Rattle.std.proofs.Common.{rules, ◌≡◌, ◌+◌, ◌-◌, ◌≤◌, ◌<◌, inl, ◌++◌, ◌∷◌, ℕ, [], Some, None, Err, length, map, take, drop, set, MatchOption, true, false, sym, ap, ◌∙◌, subst, subst₂, arith, refl}
 use Rattle.std.specs.Ordering.{nat_cmp, is_lt}
 use Rattle.std.specs.Cmp.Lexicographic.{slice_cmp}
+use Rattle.std.specs.List.{concat}
 use Rattle.std.proofs.lemmas.List.{take_rest, take_more_set, length-set, length-drop}
 use Rattle.octets.specs.declared.TheConstants.{MAX_ENCODING}
-use Rattle.octets.proofs.ResultLemmas.{IfErr-from}
 use Rattle.types.specs.Shape.{Shape}
 use Rattle.types.specs.View.{ty_view, value_view, field_view, components_view, alternative_view, alternatives_view}
 use Rattle.types.specs.Conforms.{MayBeAbsent}
+use Rattle.types.specs.Encoding.{standing}
 use Rattle.types.specs.declared.ty.Ty as node
 use Rattle.types.specs.declared.ty.Field as field
 use Rattle.types.specs.declared.ty.Alternative as alternative
 use Rattle.types.proofs.LimitLemmas.{alternative_type}
 use Rattle.encoding_parts.specs.Parts.{IsGoodType, IsSlotOf}
-use Rattle.encoding_parts.specs.Segments.{BeginsAboveZero}
 use Rattle.strict.specs.Canonical.{rule_of}
-use Rattle.strict.specs.Bars.{Bars}
-use Rattle.strict.specs.Head.{EndsHere, IsEndKnown, HasConstructed}
-use Rattle.strict.specs.Reading.{IsRead, HasPart, HasAlone}
-use Rattle.strict.specs.Items.{HasItems, AreItemsRead, HasOrdered, AreOrderedRead, between}
-use Rattle.strict.specs.Components.{IsFront, EndsOrBegins, HasPresent, HasComponents, AreComponentsRead, BarsComponents}
-use Rattle.strict.proofs.BarsLemmas.{bars_of, bars_by, bars_through, bars_behind, bars_inside}
+use Rattle.strict.specs.Begun.{IsBegun}
+use Rattle.strict.specs.Head.{EndsHere, IsEndKnown}
+use Rattle.strict.specs.Reading.{IsRead, HasPart}
+use Rattle.strict.specs.Components.{IsFront, HasComponents, AreComponentsRead}
+use Rattle.strict.specs.Items.{AreItemsRead, AreOrderedRead, between}
+use Rattle.strict.proofs.BarsLemmas.{refused_of, refused_for_good, refused_by, refused_behind, refused_named, refused_through}
 use Rattle.strict.proofs.PartLemmas.{read_some}
 use Rattle.strict.proofs.FieldLemmas.{field_type, field_requirement, run_at, first_of, whole_of}
 use Rattle.strict.proofs.FrontLemmas.{IsStandingKnown, front_known, nothing_begins}
@@ -30,7 +30,7 @@ use Rattle.strict.proofs.ListLemmas.{item_or_end, item_stands, item_read, items_
 use Rattle.strict.proofs.OrderedLemmas.{ordered_or_end, ordered_stands, none_ordered, ordered_read, none_out_of_order, set_of_read, ordered_inside}
 use Rattle.strict.proofs.ChosenLemmas.{tag_of_part, choice_of_part, this_at, none_there, good_at, chosen_read}
 use Rattle.strict.proofs.AloneLemmas.{alone_inside, ends_alone, explicit_read, part_alone}
-use Rattle.strict.proofs.EndingLemmas.{cut_through, never_cut, begun_short, begun_constructed, begun_around, begun_chosen, cut_behind, item_behind}
+use Rattle.strict.proofs.EndingLemmas.{fewer_behind, begun_short, item_behind, begun_constructed, begun_around, begun_chosen}
 use Rattle.strict.proofs.+reading.Goals as goal
 use Rattle.strict.proofs.+reading.Answers.Members as set
 mod Members
@@ -43,9 +43,9 @@ items::read_items-returns-in_err-ends-clause-refused t c =
     let d = c.args.inside.now.definite in
     let room = c.args.inside.now.room in
     let at = c.loop-item.at in
-    let Q = HasItems rule type d room in
-    let P : List ℕ → Type 0 = λ o. EndsHere d (room - at) o ⊎ BeginsAboveZero o in
-    bars_behind c.from_residual.result _ Q P octets at c.from_residual.ensures.1 (λ more h. item_or_end rule type d (room - at) (drop at octets ++ more) c.requires.good (c.loop-item.invariant.forth more h)) c.in_err-ends.ensures.refused
+    let read = c.loop-item.invariant in
+    refused_through c.from_residual.result c.from_residual.ensures.1
+    (refused_behind at c.in_err-ends.ensures.refused (λ more h. item_or_end rule type d (room - at) (drop at octets ++ more) c.requires.good (read.forth more h)) (λ k. fewer_behind d room at octets read.within read.there k))
 
 pub items::read_items-returns-in_err-used-clause-refused : goal.items::read_items-returns-in_err-used-clause-refused
 items::read_items-returns-in_err-used-clause-refused t c =
@@ -55,12 +55,15 @@ items::read_items-returns-in_err-used-clause-refused t c =
     let d = c.args.inside.now.definite in
     let room = c.args.inside.now.room in
     let at = c.loop-item.at in
-    let Q = HasItems rule type d room in
-    let P = HasPart rule type (room - at) in
-    let known : IsEndKnown false d (room - at) (take (length octets - at) (drop at octets)) = let off : c.in_ok-ends.field-0 ≡ false = search rules in subst (λ b. IsEndKnown b d (room - at) (take (length octets - at) (drop at octets))) off c.in_ok-ends.ensures.value in
-    bars_behind c.from_residual-in_err-used.result _ Q P octets at c.from_residual-in_err-used.ensures.1 (λ more h.
+    let read = c.loop-item.invariant in
+    let inner = take (length octets - at) (drop at octets) in
+    let off : c.in_ok-ends.field-0 ≡ false = search rules in
+    let known : IsEndKnown false d (room - at) inner = subst (λ b. IsEndKnown b d (room - at) inner) off c.in_ok-ends.ensures.value in
+    refused_through c.from_residual-in_err-used.result c.from_residual-in_err-used.ensures.1
+    (refused_behind at c.in_err-used.ensures.refused (λ more h.
     let goes : EndsHere d (room - at) (drop at octets ++ more) → ⊥ = subst (λ x. EndsHere d (room - at) (x ++ more) → ⊥) (take_rest octets at) (known more) in
-    item_stands rule type d (room - at) (drop at octets ++ more) goes (c.loop-item.invariant.forth more h)) c.in_err-used.ensures.refused
+    item_stands rule type d (room - at) (drop at octets ++ more) goes (read.forth more h))
+    (λ k. item_behind c.args.rule type d room at octets read.within read.there k))
 
 pub items::read_items-loop-item-smaller : goal.items::read_items-loop-item-smaller
 items::read_items-loop-item-smaller t c =
@@ -95,11 +98,10 @@ items::read_ordered-returns-in_err-ends-clause-refused t c =
     let d = c.args.inside.now.definite in
     let room = c.args.inside.now.room in
     let at = c.loop-item.at in
-    let before = c.loop-item.before in
-    let last = between octets before at in
-    let Q = HasOrdered rule type d room [] in
-    let P : List ℕ → Type 0 = λ o. EndsHere d (room - at) o ⊎ BeginsAboveZero o in
-    bars_behind c.from_residual.result _ Q P octets at c.from_residual.ensures.1 (λ more h. ordered_or_end rule type d (room - at) last (drop at octets ++ more) c.requires.good (c.loop-item.invariant.forth more h)) c.in_err-ends.ensures.refused
+    let read = c.loop-item.invariant in
+    let last = between octets c.loop-item.before at in
+    refused_through c.from_residual.result c.from_residual.ensures.1
+    (refused_behind at c.in_err-ends.ensures.refused (λ more h. ordered_or_end rule type d (room - at) last (drop at octets ++ more) c.requires.good (read.forth more h)) (λ k. fewer_behind d room at octets read.within read.there k))
 
 pub items::read_ordered-returns-in_err-used-clause-refused : goal.items::read_ordered-returns-in_err-used-clause-refused
 items::read_ordered-returns-in_err-used-clause-refused t c =
@@ -109,19 +111,19 @@ items::read_ordered-returns-in_err-used-clause-refused t c =
     let d = c.args.inside.now.definite in
     let room = c.args.inside.now.room in
     let at = c.loop-item.at in
-    let before = c.loop-item.before in
-    let last = between octets before at in
+    let read = c.loop-item.invariant in
+    let last = between octets c.loop-item.before at in
     let inner = take (length octets - at) (drop at octets) in
-    let Q = HasOrdered rule type d room [] in
-    let P = HasPart rule type (room - at) in
     let off : c.in_ok-ends.field-0 ≡ false = search rules in
     let known : IsEndKnown false d (room - at) inner = subst (λ b. IsEndKnown b d (room - at) inner) off c.in_ok-ends.ensures.value in
-    bars_behind c.from_residual-in_err-used.result _ Q P octets at c.from_residual-in_err-used.ensures.1 (λ more h.
+    refused_through c.from_residual-in_err-used.result c.from_residual-in_err-used.ensures.1
+    (refused_behind at c.in_err-used.ensures.refused (λ more h.
     let goes : EndsHere d (room - at) (drop at octets ++ more) → ⊥ = subst (λ x. EndsHere d (room - at) (x ++ more) → ⊥) (take_rest octets at) (known more) in
-    ordered_stands rule type d (room - at) last (drop at octets ++ more) goes (c.loop-item.invariant.forth more h)) c.in_err-used.ensures.refused
+    ordered_stands rule type d (room - at) last (drop at octets ++ more) goes (read.forth more h))
+    (λ k. item_behind c.args.rule type d room at octets read.within read.there k))
 
 pub items::read_ordered-returns-then-comes_before-clause-refused : goal.items::read_ordered-returns-then-comes_before-clause-refused
-items::read_ordered-returns-then-comes_before-clause-refused t c = λ more may h.
+items::read_ordered-returns-then-comes_before-clause-refused t c = refused_for_good (tt, tt) (λ more h.
     let octets = c.args.octets.now in
     let rule = rule_of c.args.rule in
     let type = ty_view c.args.inner.now in
@@ -134,7 +136,7 @@ items::read_ordered-returns-then-comes_before-clause-refused t c = λ more may h
     let read : IsRead rule type (room - at) (drop at octets) (Some v) used = subst₂ (λ x s. IsRead rule type (room - at) x s used) (take_rest octets at) c.in-Some.is c.in_ok-used.ensures.value in
     let size : (at + used) - at ≡ used = omega arith in
     let told : c.comes_before.result ≡ is_lt (slice_cmp nat_cmp (take used (drop at octets)) (between octets before at)) = subst (λ n. c.comes_before.result ≡ is_lt (slice_cmp nat_cmp (take n (drop at octets)) (between octets before at))) size c.comes_before.ensures in
-    none_out_of_order rule type d room octets more c.loop-item.items.items v before at used c.requires.good c.loop-item.invariant read (sym told ∙ c.if-comes_before.true) h
+    none_out_of_order rule type d room octets more c.loop-item.items.items v before at used c.requires.good c.loop-item.invariant read (sym told ∙ c.if-comes_before.true) h)
 
 pub items::read_ordered-loop-item-smaller : goal.items::read_ordered-loop-item-smaller
 items::read_ordered-loop-item-smaller t c =
@@ -167,15 +169,16 @@ items::read_ordered-loop-item-preserved t c =
 pub parts::read_chosen-returns-in_err-tag-clause-refused : goal.parts::read_chosen-returns-in_err-tag-clause-refused
 parts::read_chosen-returns-in_err-tag-clause-refused t c =
     let octets = c.args.octets.now in
-    let rule = rule_of c.args.rule in
-    let xs = c.args.alternatives.now in
+    let rule = c.args.rule in
     let room = c.args.room in
-    let shape = Shape.choice (alternatives_view xs) in
-    let Q = HasPart rule shape room in
-    bars_through c.from_residual.result _ Q octets c.from_residual.ensures.1
-    (bars_of _ Q octets
-    (λ same h. let k = tag_of_part rule shape room octets c.requires.good h in c.in_err-tag.ensures.truncated (ap Err same) k.tag k.within k.head)
-    (λ final more h. let k = tag_of_part rule shape room (octets ++ more) c.requires.good h in c.in_err-tag.ensures.never final more k.tag k.within k.head))
+    let shape = Shape.choice (alternatives_view c.args.alternatives.now) in
+    let why = c.in_err-tag.ensures in
+    refused_through c.from_residual.result c.from_residual.ensures.1
+    (refused_of (HasPart (rule_of rule) shape room) (IsBegun rule shape room) octets
+    (λ same h. let k = tag_of_part (rule_of rule) shape room octets c.requires.good h in why.truncated (ap Err same) k.tag k.within k.head)
+    (λ same. inl (why.cut (ap Err same)))
+    (λ final more h. let k = tag_of_part (rule_of rule) shape room (octets ++ more) c.requires.good h in why.never final more k.tag k.within k.head)
+    why.numbers)
 
 pub items::read_list-returns-in-Ok-clause-value : goal.items::read_list-returns-in-Ok-clause-value
 items::read_list-returns-in-Ok-clause-value t c =
@@ -191,12 +194,24 @@ items::read_list-returns-in-Ok-clause-value t c =
 pub items::read_list-returns-in-Err-clause-refused : goal.items::read_list-returns-in-Err-clause-refused
 items::read_list-returns-in-Err-clause-refused t c =
     let octets = c.args.octets.now in
-    let rule = rule_of c.args.rule in
+    let rule = c.args.rule in
+    let tag = c.args.tag in
+    let room = c.args.room in
     let type = ty_view c.args.inner.now in
     let inside = c.in_ok-inside.inside in
-    let Q = HasPart rule (Shape.sequence_of c.args.tag type) c.args.room in
-    let P = HasItems rule type inside.definite inside.room in
-    bars_inside c.in-Err.refusal c.refusal_inside.result Q P octets inside.start c.refusal_inside.ensures.follows (λ more h. items_inside rule c.args.tag type c.args.room octets more inside c.in_ok-inside.ensures.value h) c.in-Err.ensures.refused
+    let opened = c.in_ok-inside.ensures.value in
+    refused_named c.refusal_inside.ensures
+    (refused_behind inside.start c.in-Err.ensures.refused (λ more h. items_inside (rule_of rule) tag type room octets more inside opened h) (λ k. begun_around rule (Shape.sequence_of tag (ty_view c.args.inner.now)) tag room octets inside (refl, refl) tt opened k))
+
+pub items::read_list-returns-in_err-inside-clause-refused : goal.items::read_list-returns-in_err-inside-clause-refused
+items::read_list-returns-in_err-inside-clause-refused t c =
+    let octets = c.args.octets.now in
+    let rule = c.args.rule in
+    let tag = c.args.tag in
+    let room = c.args.room in
+    refused_through c.from_residual.result c.from_residual.ensures.1
+    (refused_by c.in_err-inside.ensures.refused (λ more h. record { contents = concat h.encoding.encodings; part = h.part; rest = h.rest; whole = h.encoding.whole; fits = h.fits; parts = h.parts })
+    (λ k. begun_constructed rule (Shape.sequence_of tag (ty_view c.args.inner.now)) tag room octets (refl, refl) tt k))
 
 pub items::read_set_of-returns-in-Ok-clause-value : goal.items::read_set_of-returns-in-Ok-clause-value
 items::read_set_of-returns-in-Ok-clause-value t c =
@@ -212,19 +227,35 @@ items::read_set_of-returns-in-Ok-clause-value t c =
 pub items::read_set_of-returns-in-Err-clause-refused : goal.items::read_set_of-returns-in-Err-clause-refused
 items::read_set_of-returns-in-Err-clause-refused t c =
     let octets = c.args.octets.now in
-    let rule = rule_of c.args.rule in
+    let rule = c.args.rule in
+    let tag = c.args.tag in
+    let room = c.args.room in
     let type = ty_view c.args.inner.now in
     let inside = c.in_ok-inside.inside in
-    let Q = HasPart rule (Shape.set_of c.args.tag type) c.args.room in
-    let P = HasOrdered rule type inside.definite inside.room [] in
-    bars_inside c.in-Err.refusal c.refusal_inside.result Q P octets inside.start c.refusal_inside.ensures.follows (λ more h. ordered_inside c.args.rule c.args.tag type c.args.room octets more inside c.in_ok-inside.ensures.value h) c.in-Err.ensures.refused
+    let opened = c.in_ok-inside.ensures.value in
+    refused_named c.refusal_inside.ensures
+    (refused_behind inside.start c.in-Err.ensures.refused (λ more h. ordered_inside rule tag type room octets more inside opened h) (λ k. begun_around rule (Shape.set_of tag (ty_view c.args.inner.now)) tag room octets inside (refl, refl) tt opened k))
+
+pub items::read_set_of-returns-in_err-inside-clause-refused : goal.items::read_set_of-returns-in_err-inside-clause-refused
+items::read_set_of-returns-in_err-inside-clause-refused t c =
+    let octets = c.args.octets.now in
+    let rule = c.args.rule in
+    let tag = c.args.tag in
+    let room = c.args.room in
+    refused_through c.from_residual.result c.from_residual.ensures.1
+    (refused_by c.in_err-inside.ensures.refused (λ more h. record { contents = concat h.encoding.order; part = h.part; rest = h.rest; whole = h.encoding.whole; fits = h.fits; parts = h.parts })
+    (λ k. begun_constructed rule (Shape.set_of tag (ty_view c.args.inner.now)) tag room octets (refl, refl) tt k))
 
 pub parts::read_chosen-returns-in_default-clause-refused : goal.parts::read_chosen-returns-in_default-clause-refused
-parts::read_chosen-returns-in_default-clause-refused t c = λ more may h.
-    let rule = rule_of c.args.rule in
-    let xs = c.args.alternatives.now in
-    let octets = c.args.octets.now in
-    none_there rule xs c.args.room octets more c.in_ok-tag.tag c.in_ok-tag.field-0-1 c.in_ok-tag.field-0-2 c.in_ok-tag.ensures.value c.in_default.ensures (choice_of_part rule (map alternative_view xs) c.args.room (octets ++ more) h)
+parts::read_chosen-returns-in_default-clause-refused t c = record {
+  bars = λ more may h.
+      let rule = rule_of c.args.rule in
+      let xs = c.args.alternatives.now in
+      let octets = c.args.octets.now in
+      none_there rule xs c.args.room octets more c.in_ok-tag.tag c.in_ok-tag.field-0-1 c.in_ok-tag.field-0-2 c.in_ok-tag.ensures.value c.in_default.ensures (choice_of_part rule (map alternative_view xs) c.args.room (octets ++ more) h);
+  cut = search rules;
+  numbers = search rules;
+}
 
 pub parts::read_chosen-read_one-requires : goal.parts::read_chosen-read_one-requires
 parts::read_chosen-read_one-requires t c =
@@ -241,12 +272,12 @@ parts::read_chosen-returns-in_err-used-clause-refused t c =
     let rule = rule_of c.args.rule in
     let xs = c.args.alternatives.now in
     let room = c.args.room in
-    let a = c.in-Some.alternative.now in
+    let which = c.in-Some.which in
     let found = c.in-Some.ensures in
-    let Q = HasPart rule (Shape.choice (alternatives_view xs)) room in
-    let P = HasPart rule (ty_view a.ty) room in
-    let there : (more : List ℕ) → Q (octets ++ more) → P (octets ++ more) = λ more h. this_at rule xs c.in-Some.which a room octets more c.in_ok-tag.tag c.in_ok-tag.field-0-1 c.in_ok-tag.field-0-2 found.0 found.1 c.requires.good.tags.0 c.in_ok-tag.ensures.value found.2 (choice_of_part rule (map alternative_view xs) room (octets ++ more) h) in
-    bars_through c.from_residual-in_err-used.result _ Q octets c.from_residual-in_err-used.ensures.1 (bars_by _ Q P octets octets there c.in_err-used.ensures.refused)
+    refused_through c.from_residual-in_err-used.result c.from_residual-in_err-used.ensures.1
+    (refused_by c.in_err-used.ensures.refused
+    (λ more h. this_at rule xs which c.in-Some.alternative.now room octets more c.in_ok-tag.tag c.in_ok-tag.field-0-1 c.in_ok-tag.field-0-2 found.0 found.1 c.requires.good.tags.0 c.in_ok-tag.ensures.value found.2 (choice_of_part rule (map alternative_view xs) room (octets ++ more) h))
+    (λ k. begun_chosen c.args.rule xs which c.in-Some.alternative.now room octets found.0 found.1 k))
 
 pub parts::read_chosen-returns-then-put_chosen-clause-value : goal.parts::read_chosen-returns-then-put_chosen-clause-value
 parts::read_chosen-returns-then-put_chosen-clause-value t c =
@@ -267,12 +298,12 @@ parts::read_alone-returns-in_err-front_tag-clause-refused t c =
     let d = c.args.inside.now.definite in
     let room = c.args.inside.now.room in
     let used = c.in_ok-used.used in
-    let Q = HasAlone rule type d room in
-    let P = EndsOrBegins d (room - used) in
-    bars_behind c.from_residual-in_err-front_tag.result _ Q P octets used c.from_residual-in_err-front_tag.ensures.1 (λ more h. inl (ends_alone rule type d room octets more c.read_one.new.slot used c.requires.good c.in_ok-used.ensures.value h)) c.in_err-front_tag.ensures.refused
+    let read = c.in_ok-used.ensures.value in
+    refused_through c.from_residual-in_err-front_tag.result c.from_residual-in_err-front_tag.ensures.1
+    (refused_behind used c.in_err-front_tag.ensures.refused (λ more h. inl (ends_alone rule type d room octets more c.read_one.new.slot used c.requires.good read h)) (λ k. fewer_behind d room used octets read.1 read.0 k))
 
 pub parts::read_alone-returns-in-Some-clause-refused : goal.parts::read_alone-returns-in-Some-clause-refused
-parts::read_alone-returns-in-Some-clause-refused t c = λ more may h.
+parts::read_alone-returns-in-Some-clause-refused t c = refused_for_good (tt, tt) (λ more h.
     let octets = c.args.octets.now in
     let rule = rule_of c.args.rule in
     let type = ty_view c.args.ty.now in
@@ -281,7 +312,7 @@ parts::read_alone-returns-in-Some-clause-refused t c = λ more may h.
     let used = c.in_ok-used.used in
     let inner = take (length octets - used) (drop used octets) in
     let front : IsFront (Some c.in-Some.field-0) d (room - used) inner = subst (λ f. IsFront f d (room - used) inner) c.in-Some.is c.in_ok-front_tag.ensures.value in
-    front.1 more (subst (λ x. EndsHere d (room - used) (x ++ more)) (sym (take_rest octets used)) (ends_alone rule type d room octets more c.read_one.new.slot used c.requires.good c.in_ok-used.ensures.value h))
+    front.1 more (subst (λ x. EndsHere d (room - used) (x ++ more)) (sym (take_rest octets used)) (ends_alone rule type d room octets more c.read_one.new.slot used c.requires.good c.in_ok-used.ensures.value h)))
 
 pub parts::read_explicit-returns-in-Ok-clause-value : goal.parts::read_explicit-returns-in-Ok-clause-value
 parts::read_explicit-returns-in-Ok-clause-value t c =
@@ -297,12 +328,14 @@ parts::read_explicit-returns-in-Ok-clause-value t c =
 pub parts::read_explicit-returns-in-Err-clause-refused : goal.parts::read_explicit-returns-in-Err-clause-refused
 parts::read_explicit-returns-in-Err-clause-refused t c =
     let octets = c.args.octets.now in
-    let rule = rule_of c.args.rule in
+    let rule = c.args.rule in
+    let tag = c.args.tag in
+    let room = c.args.room in
     let type = ty_view c.args.inner.now in
     let inside = c.in_ok-inside.inside in
-    let Q = HasPart rule (Shape.explicit c.args.tag type) c.args.room in
-    let P = HasAlone rule type inside.definite inside.room in
-    bars_inside c.in-Err.refusal c.refusal_inside.result Q P octets inside.start c.refusal_inside.ensures.follows (λ more h. alone_inside rule c.args.tag type c.args.room octets more inside c.in_ok-inside.ensures.value h) c.in-Err.ensures.refused
+    let opened = c.in_ok-inside.ensures.value in
+    refused_named c.refusal_inside.ensures
+    (refused_behind inside.start c.in-Err.ensures.refused (λ more h. alone_inside (rule_of rule) tag type room octets more inside opened h) (λ k. begun_around rule (Shape.explicit tag (ty_view c.args.inner.now)) tag room octets inside (refl, refl) tt opened k))
 
 pub components::read_sequence-read_components-requires : goal.components::read_sequence-read_components-requires
 components::read_sequence-read_components-requires t c =
@@ -324,12 +357,24 @@ components::read_sequence-returns-in-Ok-read_components-clause-value t c =
 pub components::read_sequence-returns-in-Err-clause-refused : goal.components::read_sequence-returns-in-Err-clause-refused
 components::read_sequence-returns-in-Err-clause-refused t c =
     let octets = c.args.octets.now in
-    let rule = rule_of c.args.rule in
+    let rule = c.args.rule in
+    let tag = c.args.tag in
+    let room = c.args.room in
     let components = map field_view c.args.fields.now in
     let inside = c.in_ok-inside.inside in
-    let Q = HasPart rule (Shape.sequence c.args.tag (components_view c.args.fields.now)) c.args.room in
-    let P = HasComponents rule components inside.definite inside.room in
-    bars_inside c.in-Err.refusal c.refusal_inside.result Q P octets inside.start c.refusal_inside.ensures.follows (λ more h. components_inside rule c.args.tag components c.args.room octets more inside c.in_ok-inside.ensures.value h) c.in-Err.ensures.refused
+    let opened = c.in_ok-inside.ensures.value in
+    refused_named c.refusal_inside.ensures
+    (refused_behind inside.start c.in-Err.ensures.refused (λ more h. components_inside (rule_of rule) tag components room octets more inside opened h) (λ k. begun_around rule (Shape.sequence tag (components_view c.args.fields.now)) tag room octets inside (refl, refl) tt opened k))
+
+pub components::read_sequence-returns-in_err-inside-clause-refused : goal.components::read_sequence-returns-in_err-inside-clause-refused
+components::read_sequence-returns-in_err-inside-clause-refused t c =
+    let octets = c.args.octets.now in
+    let rule = c.args.rule in
+    let tag = c.args.tag in
+    let room = c.args.room in
+    refused_through c.from_residual.result c.from_residual.ensures.1
+    (refused_by c.in_err-inside.ensures.refused (λ more h. record { contents = concat (standing h.encoding.encodings); part = h.part; rest = h.rest; whole = h.encoding.whole; fits = h.fits; parts = h.parts })
+    (λ k. begun_constructed rule (Shape.sequence tag (components_view c.args.fields.now)) tag room octets (refl, refl) tt k))
 
 pub components::read_components-loop-place-init : goal.components::read_components-loop-place-init
 components::read_components-loop-place-init t c =
@@ -360,9 +405,10 @@ components::read_components-returns-in_err-at-clause-refused t c =
     let at = c.loop-place.at in
     let others = map field_view (drop (i + 1) fields) in
     let so_far = subst (λ l. AreComponentsRead rule (map field_view (take i fields)) l d room octets (take i c.loop-place.slots.items) at) run.here c.loop-place.invariant.0 in
-    let Q = HasComponents rule (map field_view fields) d room in
-    let P = HasComponents rule (field_view f ∷ others) d (room - at) in
-    bars_behind c.from_residual.result _ Q P octets at c.from_residual.ensures.1 (λ more h. so_far.forth more (subst (λ l. HasComponents rule l d room (octets ++ more)) (whole_of fields i f bound is) h)) (c.in_err-at.ensures.refused others run.runs run.goods)
+    let first = c.loop-place.invariant.0 in
+    refused_through c.from_residual.result c.from_residual.ensures.1
+    (refused_behind at c.in_err-at.ensures.refused (λ more h. (others, run.runs, run.goods, so_far.forth more (subst (λ l. HasComponents rule l d room (octets ++ more)) (whole_of fields i f bound is) h)))
+    (λ k. fewer_behind d room at octets first.within first.there k))
 
 pub components::read_components-overflow_add-at : goal.components::read_components-overflow_add-at
 components::read_components-overflow_add-at t c =
@@ -407,12 +453,12 @@ components::read_components-returns-in_err-tag-clause-refused t c =
     let room = c.args.inside.now.room in
     let at = c.loop-place.at in
     let read = all_read rule fields c.loop-place.place d room octets c.loop-place.slots.items at c.loop-place-test.false c.loop-place.invariant.1 c.loop-place.invariant.0 in
-    let Q = HasComponents rule (map field_view fields) d room in
-    let P = EndsOrBegins d (room - at) in
-    bars_behind c.from_residual-in_err-tag.result _ Q P octets at c.from_residual-in_err-tag.ensures.1 (λ more h. inl (ends_behind_all rule (map field_view fields) d room octets more c.loop-place.slots.items at read h)) c.in_err-tag.ensures.refused
+    let first = c.loop-place.invariant.0 in
+    refused_through c.from_residual-in_err-tag.result c.from_residual-in_err-tag.ensures.1
+    (refused_behind at c.in_err-tag.ensures.refused (λ more h. inl (ends_behind_all rule (map field_view fields) d room octets more c.loop-place.slots.items at read h)) (λ k. fewer_behind d room at octets first.within first.there k))
 
 pub components::read_components-returns-in-Some-clause-refused : goal.components::read_components-returns-in-Some-clause-refused
-components::read_components-returns-in-Some-clause-refused t c = λ more may h.
+components::read_components-returns-in-Some-clause-refused t c = refused_for_good (c.left_over.ensures.never, c.left_over.ensures.numbers) (λ more h.
     let octets = c.args.octets.now in
     let rule = rule_of c.args.rule in
     let fields = c.args.fields.now in
@@ -421,7 +467,7 @@ components::read_components-returns-in-Some-clause-refused t c = λ more may h.
     let at = c.loop-place.at in
     let read = all_read rule fields c.loop-place.place d room octets c.loop-place.slots.items at c.loop-place-test.false c.loop-place.invariant.1 c.loop-place.invariant.0 in
     let front : IsFront (Some c.in-Some.tag) d (room - at) (drop at octets) = subst₂ (λ f x. IsFront f d (room - at) x) c.in-Some.is (take_rest octets at) c.in_ok-tag.ensures.value in
-    front.1 more (ends_behind_all rule (map field_view fields) d room octets more c.loop-place.slots.items at read h)
+    front.1 more (ends_behind_all rule (map field_view fields) d room octets more c.loop-place.slots.items at read h))
 
 pub components::read_components-returns-in-None-clause-value : goal.components::read_components-returns-in-None-clause-value
 components::read_components-returns-in-None-clause-value t c =
@@ -455,12 +501,11 @@ components::read_component-returns-in_err-front-in-Err-clause-refused t c =
     let view = field_view c.args.field.now in
     let d = c.args.definite in
     let room = c.args.room in
-    IfErr-from c.from_residual.result _ (BarsComponents (rule_of rule) view d room octets) c.from_residual.ensures.1 (λ r is others runs goods.
-    let Q = HasComponents (rule_of rule) (view ∷ others) d room in
-    subst (λ x. Bars x Q octets) (sym is) (bars_by _ Q (EndsOrBegins d room) octets octets (λ more h. ends_or_begins rule (view ∷ others) d room (octets ++ more) (c.requires.good, goods) h) c.in_err-front-in-Err.ensures.refused))
+    refused_through c.from_residual.result c.from_residual.ensures.1
+    (refused_by c.in_err-front-in-Err.ensures.refused (λ more h. ends_or_begins rule (view ∷ h.0) d room (octets ++ more) (c.requires.good, h.2) h.3) (λ k. k))
 
 pub components::read_component-returns-then-is_next-clause-refused : goal.components::read_component-returns-then-is_next-clause-refused
-components::read_component-returns-then-is_next-clause-refused t c = λ others runs goods.
+components::read_component-returns-then-is_next-clause-refused t c =
     let octets = c.args.octets.now in
     let rule = c.args.rule in
     let f = c.args.field.now in
@@ -468,20 +513,20 @@ components::read_component-returns-then-is_next-clause-refused t c = λ others r
     let d = c.args.definite in
     let room = c.args.room in
     let known : IsStandingKnown true view.type d room octets = subst₂ (λ b t. IsStandingKnown b t d room octets) c.if-is_next.true (sym (field_type f)) (front_known c.in_ok-front-in-Err.front c.is_next.result (ty_view f.ty) d room octets c.in_ok-front-in-Err.ensures.value c.is_next.ensures) in
-    bars_by _ (HasComponents (rule_of rule) (view ∷ others) d room) (HasPresent (rule_of rule) view room) octets octets (λ more h. present_stands rule view others d room octets more runs goods known h) c.in-Err.ensures.refused
+    refused_by c.in-Err.ensures.refused (λ more h. present_stands rule view h.0 d room octets more h.1 h.2 known h.3) (λ k. omega (arith, k))
 
 pub components::read_component-returns-then-not-may_be_absent-clause-refused : goal.components::read_component-returns-then-not-may_be_absent-clause-refused
-components::read_component-returns-then-not-may_be_absent-clause-refused t c = λ others runs goods more may h.
+components::read_component-returns-then-not-may_be_absent-clause-refused t c = refused_for_good (c.not_next.ensures.never, c.not_next.ensures.numbers) (λ more h.
     let octets = c.args.octets.now in
     let f = c.args.field.now in
     let view = field_view f in
     let d = c.args.definite in
     let room = c.args.room in
     let known : IsStandingKnown false view.type d room octets = subst₂ (λ b t. IsStandingKnown b t d room octets) c.if-is_next.false (sym (field_type f)) (front_known c.in_ok-front-in-Err.front c.is_next.result (ty_view f.ty) d room octets c.in_ok-front-in-Err.ensures.value c.is_next.ensures) in
-    let left = none_stands c.args.rule view others d room (octets ++ more) c.requires.good.type (known more) h in
+    let left = none_stands c.args.rule view h.0 d room (octets ++ more) c.requires.good.type (known more) h.3 in
     let yes : c.may_be_absent.result ≡ true = c.may_be_absent.ensures.1 (subst MayBeAbsent (field_requirement f) left.may) in
     let no : c.may_be_absent.result ≡ false = c.if-not-may_be_absent.true in
-    absurd cc
+    absurd cc)
 
 pub components::read_component-returns-else-not-may_be_absent-clause-value : goal.components::read_component-returns-else-not-may_be_absent-clause-value
 components::read_component-returns-else-not-may_be_absent-clause-value t c = λ others runs goods.
@@ -499,15 +544,12 @@ components::read_present-returns-in_err-used-clause-refused t c =
     let octets = c.args.octets.now in
     let rule = rule_of c.args.rule in
     let f = c.args.field.now in
-    let view = field_view f in
     let room = c.args.room in
-    let Q = HasPresent rule view room in
-    let P = HasPart rule (ty_view f.ty) room in
-    bars_through c.from_residual.result _ Q octets c.from_residual.ensures.1
-    (bars_by _ Q P octets octets (λ more h. subst (λ t. HasPart rule t room (octets ++ more)) (field_type f) (part_of_present rule view room (octets ++ more) h)) c.in_err-used.ensures.refused)
+    refused_through c.from_residual.result c.from_residual.ensures.1
+    (refused_by c.in_err-used.ensures.refused (λ more h. subst (λ t. HasPart rule t room (octets ++ more)) (field_type f) (part_of_present rule (field_view f) room (octets ++ more) h)) (λ k. begun_short c.args.rule (ty_view f.ty) room octets k))
 
 pub components::read_present-returns-then-is_spelt_out-clause-refused : goal.components::read_present-returns-then-is_spelt_out-clause-refused
-components::read_present-returns-then-is_spelt_out-clause-refused t c = λ more may h.
+components::read_present-returns-then-is_spelt_out-clause-refused t c = refused_for_good (tt, tt) (λ more h.
     let octets = c.args.octets.now in
     let rule = rule_of c.args.rule in
     let f = c.args.field.now in
@@ -518,7 +560,7 @@ components::read_present-returns-then-is_spelt_out-clause-refused t c = λ more 
     let on : c.is_spelt_out.result ≡ true = search rules in
     let spelt = subst (λ r. MatchOption slot (Unit {0}) (λ v. IsSlotOf r (value_view v) None)) (sym (field_requirement f)) (c.is_spelt_out.ensures.default on) in
     let read = subst (λ t. IsRead rule t room octets slot c.in_ok-used.used) same c.in_ok-used.ensures.value in
-    none_spelt_out rule view room octets more slot c.in_ok-used.used c.requires.good read spelt h
+    none_spelt_out rule view room octets more slot c.in_ok-used.used c.requires.good read spelt h)
 
 pub members::read_members-loop-tag-init : goal.members::read_members-loop-tag-init
 members::read_members-loop-tag-init = set.members::read_members-loop-tag-init
@@ -577,124 +619,18 @@ members::read_set-returns-in-Ok-read_members-clause-value = set.members::read_se
 pub members::read_set-returns-in-Err-clause-refused : goal.members::read_set-returns-in-Err-clause-refused
 members::read_set-returns-in-Err-clause-refused = set.members::read_set-returns-in-Err-clause-refused
 
-pub items::read_items-returns-in_err-ends-clause-cut : goal.items::read_items-returns-in_err-ends-clause-cut
-items::read_items-returns-in_err-ends-clause-cut t c = cut_behind c.from_residual.result _ c.args.inside.now c.loop-item.at c.args.octets.now c.from_residual.ensures.1 c.loop-item.invariant.within c.loop-item.invariant.there c.in_err-ends.ensures.cut
-
-pub items::read_items-returns-in_err-used-clause-cut : goal.items::read_items-returns-in_err-used-clause-cut
-items::read_items-returns-in_err-used-clause-cut t c =
-    let read = c.loop-item.invariant in
-    item_behind c.from_residual-in_err-used.result _ c.args.rule (ty_view c.args.inner.now) c.args.inside.now c.loop-item.at c.args.octets.now c.from_residual-in_err-used.ensures.1 read.within read.there c.in_err-used.ensures.cut
-
-pub items::read_ordered-returns-in_err-ends-clause-cut : goal.items::read_ordered-returns-in_err-ends-clause-cut
-items::read_ordered-returns-in_err-ends-clause-cut t c = cut_behind c.from_residual.result _ c.args.inside.now c.loop-item.at c.args.octets.now c.from_residual.ensures.1 c.loop-item.invariant.within c.loop-item.invariant.there c.in_err-ends.ensures.cut
-
-pub items::read_ordered-returns-in_err-used-clause-cut : goal.items::read_ordered-returns-in_err-used-clause-cut
-items::read_ordered-returns-in_err-used-clause-cut t c =
-    let read = c.loop-item.invariant in
-    item_behind c.from_residual-in_err-used.result _ c.args.rule (ty_view c.args.inner.now) c.args.inside.now c.loop-item.at c.args.octets.now c.from_residual-in_err-used.ensures.1 read.within read.there c.in_err-used.ensures.cut
-
-pub items::read_list-returns-in_err-inside-clause-cut : goal.items::read_list-returns-in_err-inside-clause-cut
-items::read_list-returns-in_err-inside-clause-cut t c =
-    cut_through c.from_residual.result _ _ c.from_residual.ensures.1 (λ same. begun_constructed c.args.rule (Shape.sequence_of c.args.tag (ty_view c.args.inner.now)) c.args.tag c.args.room c.args.octets.now (refl, refl) tt (c.in_err-inside.ensures.cut same))
-
-pub items::read_list-returns-in-Err-clause-cut : goal.items::read_list-returns-in-Err-clause-cut
-items::read_list-returns-in-Err-clause-cut t c = λ same.
-    begun_around c.args.rule (Shape.sequence_of c.args.tag (ty_view c.args.inner.now)) c.args.tag c.args.room c.args.octets.now c.in_ok-inside.inside (refl, refl) tt c.in_ok-inside.ensures.value (c.in-Err.ensures.cut (c.refusal_inside.ensures.cut same))
-
-pub items::read_set_of-returns-in_err-inside-clause-cut : goal.items::read_set_of-returns-in_err-inside-clause-cut
-items::read_set_of-returns-in_err-inside-clause-cut t c =
-    cut_through c.from_residual.result _ _ c.from_residual.ensures.1 (λ same. begun_constructed c.args.rule (Shape.set_of c.args.tag (ty_view c.args.inner.now)) c.args.tag c.args.room c.args.octets.now (refl, refl) tt (c.in_err-inside.ensures.cut same))
-
-pub items::read_set_of-returns-in-Err-clause-cut : goal.items::read_set_of-returns-in-Err-clause-cut
-items::read_set_of-returns-in-Err-clause-cut t c = λ same.
-    begun_around c.args.rule (Shape.set_of c.args.tag (ty_view c.args.inner.now)) c.args.tag c.args.room c.args.octets.now c.in_ok-inside.inside (refl, refl) tt c.in_ok-inside.ensures.value (c.in-Err.ensures.cut (c.refusal_inside.ensures.cut same))
-
-pub parts::read_explicit-returns-in_err-inside-clause-cut : goal.parts::read_explicit-returns-in_err-inside-clause-cut
-parts::read_explicit-returns-in_err-inside-clause-cut t c =
-    cut_through c.from_residual.result _ _ c.from_residual.ensures.1 (λ same. begun_constructed c.args.rule (Shape.explicit c.args.tag (ty_view c.args.inner.now)) c.args.tag c.args.room c.args.octets.now (refl, refl) tt (c.in_err-inside.ensures.cut same))
-
-pub parts::read_explicit-returns-in-Err-clause-cut : goal.parts::read_explicit-returns-in-Err-clause-cut
-parts::read_explicit-returns-in-Err-clause-cut t c = λ same.
-    begun_around c.args.rule (Shape.explicit c.args.tag (ty_view c.args.inner.now)) c.args.tag c.args.room c.args.octets.now c.in_ok-inside.inside (refl, refl) tt c.in_ok-inside.ensures.value (c.in-Err.ensures.cut (c.refusal_inside.ensures.cut same))
-
-pub components::read_sequence-returns-in_err-inside-clause-cut : goal.components::read_sequence-returns-in_err-inside-clause-cut
-components::read_sequence-returns-in_err-inside-clause-cut t c =
-    cut_through c.from_residual.result _ _ c.from_residual.ensures.1 (λ same. begun_constructed c.args.rule (Shape.sequence c.args.tag (components_view c.args.fields.now)) c.args.tag c.args.room c.args.octets.now (refl, refl) tt (c.in_err-inside.ensures.cut same))
-
-pub components::read_sequence-returns-in-Err-clause-cut : goal.components::read_sequence-returns-in-Err-clause-cut
-components::read_sequence-returns-in-Err-clause-cut t c = λ same.
-    begun_around c.args.rule (Shape.sequence c.args.tag (components_view c.args.fields.now)) c.args.tag c.args.room c.args.octets.now c.in_ok-inside.inside (refl, refl) tt c.in_ok-inside.ensures.value (c.in-Err.ensures.cut (c.refusal_inside.ensures.cut same))
-
-pub members::read_set-returns-in_err-inside-clause-cut : goal.members::read_set-returns-in_err-inside-clause-cut
-members::read_set-returns-in_err-inside-clause-cut = set.members::read_set-returns-in_err-inside-clause-cut
-
-pub members::read_set-returns-in-Err-clause-cut : goal.members::read_set-returns-in-Err-clause-cut
-members::read_set-returns-in-Err-clause-cut = set.members::read_set-returns-in-Err-clause-cut
-
-pub parts::read_chosen-returns-in_err-tag-clause-cut : goal.parts::read_chosen-returns-in_err-tag-clause-cut
-parts::read_chosen-returns-in_err-tag-clause-cut t c =
-    cut_through c.from_residual.result _ _ c.from_residual.ensures.1 (λ same. inl (c.in_err-tag.ensures.cut (ap Err same)))
-
-pub parts::read_chosen-returns-in_err-used-clause-cut : goal.parts::read_chosen-returns-in_err-used-clause-cut
-parts::read_chosen-returns-in_err-used-clause-cut t c =
-    let found = c.in-Some.ensures in
-    cut_through c.from_residual-in_err-used.result _ _ c.from_residual-in_err-used.ensures.1
-    (λ same. begun_chosen c.args.rule c.args.alternatives.now c.in-Some.which c.in-Some.alternative.now c.args.room c.args.octets.now found.0 found.1 (c.in_err-used.ensures.cut same))
-
-pub parts::read_alone-returns-in_err-used-clause-cut : goal.parts::read_alone-returns-in_err-used-clause-cut
-parts::read_alone-returns-in_err-used-clause-cut t c =
-    let inside = c.args.inside.now in
-    cut_through c.from_residual.result _ _ c.from_residual.ensures.1 (λ same.
-    let short = begun_short c.args.rule (ty_view c.args.ty.now) inside.room c.args.octets.now (c.in_err-used.ensures.cut same) in
-    omega (arith, short))
-
-pub parts::read_alone-returns-in_err-front_tag-clause-cut : goal.parts::read_alone-returns-in_err-front_tag-clause-cut
-parts::read_alone-returns-in_err-front_tag-clause-cut t c =
-    let read = c.in_ok-used.ensures.value in
-    cut_behind c.from_residual-in_err-front_tag.result _ c.args.inside.now c.in_ok-used.used c.args.octets.now c.from_residual-in_err-front_tag.ensures.1 read.1 read.0 c.in_err-front_tag.ensures.cut
-
-pub components::read_components-returns-in_err-at-clause-cut : goal.components::read_components-returns-in_err-at-clause-cut
-components::read_components-returns-in_err-at-clause-cut t c = cut_behind c.from_residual.result _ c.args.inside.now c.loop-place.at c.args.octets.now c.from_residual.ensures.1 c.loop-place.invariant.0.within c.loop-place.invariant.0.there c.in_err-at.ensures.cut
-
-pub components::read_components-returns-in_err-tag-clause-cut : goal.components::read_components-returns-in_err-tag-clause-cut
-components::read_components-returns-in_err-tag-clause-cut t c = cut_behind c.from_residual-in_err-tag.result _ c.args.inside.now c.loop-place.at c.args.octets.now c.from_residual-in_err-tag.ensures.1 c.loop-place.invariant.0.within c.loop-place.invariant.0.there c.in_err-tag.ensures.cut
-
-pub components::read_components-returns-in-Some-clause-cut : goal.components::read_components-returns-in-Some-clause-cut
-components::read_components-returns-in-Some-clause-cut t c = never_cut c.left_over.result _ c.left_over.ensures.never
-
-pub components::read_component-returns-in_err-front-in-Err-clause-cut : goal.components::read_component-returns-in_err-front-in-Err-clause-cut
-components::read_component-returns-in_err-front-in-Err-clause-cut t c = cut_through c.from_residual.result _ _ c.from_residual.ensures.1 c.in_err-front-in-Err.ensures.cut
-
-pub components::read_component-returns-then-is_next-clause-cut : goal.components::read_component-returns-then-is_next-clause-cut
-components::read_component-returns-then-is_next-clause-cut t c = λ same. let short = c.in-Err.ensures.cut same in omega (arith, short)
-
-pub components::read_component-returns-then-not-may_be_absent-clause-cut : goal.components::read_component-returns-then-not-may_be_absent-clause-cut
-components::read_component-returns-then-not-may_be_absent-clause-cut t c = never_cut c.not_next.result _ c.not_next.ensures.never
-
-pub components::read_present-returns-in_err-used-clause-cut : goal.components::read_present-returns-in_err-used-clause-cut
-components::read_present-returns-in_err-used-clause-cut t c =
-    cut_through c.from_residual.result _ _ c.from_residual.ensures.1 (λ same. begun_short c.args.rule (ty_view c.args.field.now.ty) c.args.room c.args.octets.now (c.in_err-used.ensures.cut same))
-
-pub members::read_members-returns-in_err-tag-clause-cut : goal.members::read_members-returns-in_err-tag-clause-cut
-members::read_members-returns-in_err-tag-clause-cut = set.members::read_members-returns-in_err-tag-clause-cut
-
-pub members::read_members-returns-in_err-place-clause-cut : goal.members::read_members-returns-in_err-place-clause-cut
-members::read_members-returns-in_err-place-clause-cut = set.members::read_members-returns-in_err-place-clause-cut
-
-pub members::read_members-returns-in_err-at-clause-cut : goal.members::read_members-returns-in_err-at-clause-cut
-members::read_members-returns-in_err-at-clause-cut = set.members::read_members-returns-in_err-at-clause-cut
-
 pub members::read_set-returns-in_err-inside-clause-refused : goal.members::read_set-returns-in_err-inside-clause-refused
 members::read_set-returns-in_err-inside-clause-refused = set.members::read_set-returns-in_err-inside-clause-refused
 
 pub parts::read_explicit-returns-in_err-inside-clause-refused : goal.parts::read_explicit-returns-in_err-inside-clause-refused
 parts::read_explicit-returns-in_err-inside-clause-refused t c =
     let octets = c.args.octets.now in
-    let rule = rule_of c.args.rule in
-    let Q = HasPart rule (Shape.explicit c.args.tag (ty_view c.args.inner.now)) c.args.room in
-    let P = HasConstructed rule c.args.tag c.args.room in
-    let there : (more : List ℕ) → Q (octets ++ more) → P (octets ++ more) = λ more h. record { contents = h.encoding.inner; part = h.part; rest = h.rest; whole = h.encoding.whole; fits = h.fits; parts = h.parts } in
-    bars_through c.from_residual.result _ Q octets c.from_residual.ensures.1 (bars_by _ Q P octets octets there c.in_err-inside.ensures.refused)
+    let rule = c.args.rule in
+    let tag = c.args.tag in
+    let room = c.args.room in
+    refused_through c.from_residual.result c.from_residual.ensures.1
+    (refused_by c.in_err-inside.ensures.refused (λ more h. record { contents = h.encoding.inner; part = h.part; rest = h.rest; whole = h.encoding.whole; fits = h.fits; parts = h.parts })
+    (λ k. begun_constructed rule (Shape.explicit tag (ty_view c.args.inner.now)) tag room octets (refl, refl) tt k))
 
 pub parts::read_alone-returns-in_err-used-clause-refused : goal.parts::read_alone-returns-in_err-used-clause-refused
 parts::read_alone-returns-in_err-used-clause-refused t c =
@@ -703,6 +639,5 @@ parts::read_alone-returns-in_err-used-clause-refused t c =
     let type = ty_view c.args.ty.now in
     let d = c.args.inside.now.definite in
     let room = c.args.inside.now.room in
-    let Q = HasAlone rule type d room in
-    let P = HasPart rule type room in
-    bars_through c.from_residual.result _ Q octets c.from_residual.ensures.1 (bars_by _ Q P octets octets (λ more h. part_alone rule type d room (octets ++ more) h) c.in_err-used.ensures.refused)
+    refused_through c.from_residual.result c.from_residual.ensures.1
+    (refused_by c.in_err-used.ensures.refused (λ more h. part_alone rule type d room (octets ++ more) h) (λ k. let short = begun_short c.args.rule type room octets k in omega (arith, short)))

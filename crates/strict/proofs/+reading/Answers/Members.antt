@@ -11,17 +11,16 @@ use Rattle.types.specs.declared.ty.Ty as node
 use Rattle.types.specs.declared.ty.Field as field
 use Rattle.encoding_parts.specs.Parts.{IsGoodType, IsGoodComponent}
 use Rattle.strict.specs.Canonical.{rule_of}
-use Rattle.strict.specs.Head.{EndsHere, HasConstructed}
-use Rattle.strict.specs.Reading.{HasPart}
-use Rattle.strict.specs.Components.{IsFront, EndsOrBegins, HasPresent, IsPresentRead}
+use Rattle.strict.specs.Head.{EndsHere}
+use Rattle.strict.specs.Components.{IsFront, IsPresentRead}
 use Rattle.strict.specs.Members.{IsBegunAt, IsEmptyAt, IsOrderTagOf, HasMembers, AreMembersRead, AreFilled}
-use Rattle.strict.proofs.BarsLemmas.{bars_by, bars_through, bars_behind, bars_inside}
+use Rattle.strict.proofs.BarsLemmas.{refused_for_good, refused_by, refused_behind, refused_named, refused_through}
 use Rattle.strict.proofs.PartLemmas.{read_some}
 use Rattle.strict.proofs.FieldLemmas.{field_type}
 use Rattle.strict.proofs.BegunLemmas.{begun_within}
 use Rattle.strict.proofs.DueLemmas.{members_begin, members_filled, none_goes_on, is_due, present_due, none_before, begun_at, component_all}
 use Rattle.strict.proofs.SetLemmas.{come_length, no_members, member_more, set_read, members_inside, good_members}
-use Rattle.strict.proofs.EndingLemmas.{cut_through, never_cut, less_behind, begun_constructed, begun_around, cut_behind}
+use Rattle.strict.proofs.EndingLemmas.{fewer_behind, less_behind, begun_constructed, begun_around}
 use Rattle.strict.proofs.+reading.Goals as goal
 
 pub members::read_members-loop-tag-init : goal.members::read_members-loop-tag-init
@@ -39,9 +38,8 @@ members::read_members-returns-in_err-tag-clause-refused t c =
     let slots = c.loop-tag.slots.items in
     let last = c.loop-tag.last in
     let read = c.loop-tag.invariant in
-    let Q = HasMembers rule cs (map (λ k. None) cs) None d room in
-    let P = EndsOrBegins d (room - at) in
-    bars_behind c.from_residual.result _ Q P octets at c.from_residual.ensures.1 (λ more h. members_begin rule cs slots last d (room - at) (drop at octets ++ more) c.requires.good (read.forth more h)) c.in_err-tag.ensures.refused
+    refused_through c.from_residual.result c.from_residual.ensures.1
+    (refused_behind at c.in_err-tag.ensures.refused (λ more h. members_begin rule cs slots last d (room - at) (drop at octets ++ more) c.requires.good (read.forth more h)) (λ k. fewer_behind d room at octets read.within read.there k))
 
 pub members::read_members-place_due-requires-clause-slots : goal.members::read_members-place_due-requires-clause-slots
 members::read_members-place_due-requires-clause-slots t c =
@@ -63,10 +61,9 @@ members::read_members-returns-in_err-place-clause-refused t c =
     let read = c.loop-tag.invariant in
     let tag = c.in-Some.tag in
     let front : IsFront (Some tag) d (room - at) (drop at octets) = subst₂ (λ f x. IsFront f d (room - at) x) c.in-Some.is (take_rest octets at) c.in_ok-tag.ensures.value in
-    let Q = HasMembers rule cs (map (λ k. None) cs) None d room in
     let none = subst (λ (l : List (Option Value)). (place : ℕ) → IsBegunAt cs place tag → IsEmptyAt l place → ⊥) c.deref.ensures.value c.in_err-place.ensures.never in
-    bars_through c.from_residual-in_err-place.result _ Q octets c.from_residual-in_err-place.ensures.1
-    (λ more may h. none_goes_on rule cs slots last d (room - at) (drop at octets) more tag front none (read.forth more h))
+    refused_through c.from_residual-in_err-place.result c.from_residual-in_err-place.ensures.1
+    (refused_for_good (c.in_err-place.ensures.lasting, c.in_err-place.ensures.numbers) (λ more h. none_goes_on rule cs slots last d (room - at) (drop at octets) more tag front none (read.forth more h)))
 
 pub members::read_members-offset_bounds-fields-place : goal.members::read_members-offset_bounds-fields-place
 members::read_members-offset_bounds-fields-place t c = search (rules, begun_within c.args.fields.now c.in_ok-place.place c.in-Some.tag c.in_ok-place.ensures.value.0)
@@ -88,7 +85,7 @@ members::read_members-order_tag-order-requires t c =
     subst IsGoodType (field_type f) good.type
 
 pub members::read_members-returns-then-not-comes_behind-clause-refused : goal.members::read_members-returns-then-not-comes_behind-clause-refused
-members::read_members-returns-then-not-comes_behind-clause-refused t c = λ more may h.
+members::read_members-returns-then-not-comes_behind-clause-refused t c = refused_for_good (tt, tt) (λ more h.
     let octets = c.args.octets.now in
     let rule = rule_of c.args.rule in
     let fields = c.args.fields.now in
@@ -110,7 +107,7 @@ members::read_members-returns-then-not-comes_behind-clause-refused t c = λ more
     let ordered : IsOrderTagOf rule view.type tag order = subst (λ t. IsOrderTagOf rule t tag order) (sym (field_type f)) c.order_tag-order.ensures in
     let due = λ (more : List ℕ) (k : HasMembers rule cs slots last d (room - at) (drop at octets ++ more)). is_due rule cs slots last place view order d (room - at) (drop at octets) more tag c.requires.distinct front begun here ordered k in
     let off : c.comes_behind.result ≡ false = search rules in
-    none_before rule cs slots last place view order c.comes_behind.result d (room - at) (drop at octets ++ more) c.comes_behind.ensures off (due more (read.forth more h))
+    none_before rule cs slots last place view order c.comes_behind.result d (room - at) (drop at octets ++ more) c.comes_behind.ensures off (due more (read.forth more h)))
 
 pub members::read_members-index_mut-requires : goal.members::read_members-index_mut-requires
 members::read_members-index_mut-requires t c =
@@ -161,9 +158,8 @@ members::read_members-returns-in_err-at-clause-refused t c =
     let order = c.order_tag-order.result in
     let ordered : IsOrderTagOf rule view.type tag order = subst (λ t. IsOrderTagOf rule t tag order) (sym (field_type f)) c.order_tag-order.ensures in
     let due = λ (more : List ℕ) (k : HasMembers rule cs slots last d (room - at) (drop at octets ++ more)). is_due rule cs slots last place view order d (room - at) (drop at octets) more tag c.requires.distinct front begun here ordered k in
-    let Q = HasMembers rule cs (map (λ k. None) cs) None d room in
-    let P = HasPresent rule view (room - at) in
-    bars_behind c.from_residual-in_err-at.result _ Q P octets at c.from_residual-in_err-at.ensures.1 (λ more h. present_due rule cs slots last place view order d (room - at) (drop at octets ++ more) (due more (read.forth more h))) c.in_err-at.ensures.refused
+    refused_through c.from_residual-in_err-at.result c.from_residual-in_err-at.ensures.1
+    (refused_behind at c.in_err-at.ensures.refused (λ more h. present_due rule cs slots last place view order d (room - at) (drop at octets ++ more) (due more (read.forth more h))) (λ k. less_behind d room at octets read.within read.there k))
 
 pub members::read_members-overflow_add-behind : goal.members::read_members-overflow_add-behind
 members::read_members-overflow_add-behind t c = search (rules, begun_within c.args.fields.now c.in_ok-place.place c.in-Some.tag c.in_ok-place.ensures.value.0)
@@ -226,7 +222,7 @@ members::read_members-are_filled-requires t c =
     ap length c.deref-2.ensures.value ∙ (come_length (rule_of c.args.rule) (map field_view fields) c.loop-tag.slots.items read.encodings read.each ∙ length-map fields field_view)
 
 pub members::read_members-returns-then-not-are_filled-clause-refused : goal.members::read_members-returns-then-not-are_filled-clause-refused
-members::read_members-returns-then-not-are_filled-clause-refused t c = λ more may h.
+members::read_members-returns-then-not-are_filled-clause-refused t c = refused_for_good (tt, tt) (λ more h.
     let octets = c.args.octets.now in
     let rule = rule_of c.args.rule in
     let fields = c.args.fields.now in
@@ -241,7 +237,7 @@ members::read_members-returns-then-not-are_filled-clause-refused t c = λ more m
     let ends : EndsHere d (room - at) (drop at octets) = subst₂ (λ f x. IsFront f d (room - at) x) none (take_rest octets at) c.in_ok-tag.ensures.value in
     let filled = members_filled rule cs slots last d (room - at) (drop at octets) more c.requires.good ends (read.forth more h) in
     let yes : c.are_filled.result ≡ true = c.are_filled.ensures.1 (subst (λ (l : List (Option Value)). AreFilled cs l) (sym c.deref-2.ensures.value) filled) in
-    search (rules, yes)
+    search (rules, yes))
 
 pub members::read_set-read_members-requires : goal.members::read_set-read_members-requires
 members::read_set-read_members-requires t c =
@@ -263,38 +259,21 @@ members::read_set-returns-in-Ok-read_members-clause-value t c =
 pub members::read_set-returns-in-Err-clause-refused : goal.members::read_set-returns-in-Err-clause-refused
 members::read_set-returns-in-Err-clause-refused t c =
     let octets = c.args.octets.now in
-    let rule = rule_of c.args.rule in
+    let rule = c.args.rule in
+    let tag = c.args.tag in
+    let room = c.args.room in
     let components = map field_view c.args.fields.now in
     let inside = c.in_ok-inside.inside in
-    let Q = HasPart rule (Shape.set c.args.tag (components_view c.args.fields.now)) c.args.room in
-    let P = HasMembers rule components (map (λ k. None) components) None inside.definite inside.room in
-    bars_inside c.in-Err.refusal c.refusal_inside.result Q P octets inside.start c.refusal_inside.ensures.follows (λ more h. members_inside c.args.rule c.args.tag components c.args.room octets more inside c.in_ok-inside.ensures.value h) c.in-Err.ensures.refused
-
-pub members::read_set-returns-in_err-inside-clause-cut : goal.members::read_set-returns-in_err-inside-clause-cut
-members::read_set-returns-in_err-inside-clause-cut t c =
-    cut_through c.from_residual.result _ _ c.from_residual.ensures.1 (λ same. begun_constructed c.args.rule (Shape.set c.args.tag (components_view c.args.fields.now)) c.args.tag c.args.room c.args.octets.now (refl, refl) tt (c.in_err-inside.ensures.cut same))
-
-pub members::read_set-returns-in-Err-clause-cut : goal.members::read_set-returns-in-Err-clause-cut
-members::read_set-returns-in-Err-clause-cut t c = λ same.
-    begun_around c.args.rule (Shape.set c.args.tag (components_view c.args.fields.now)) c.args.tag c.args.room c.args.octets.now c.in_ok-inside.inside (refl, refl) tt c.in_ok-inside.ensures.value (c.in-Err.ensures.cut (c.refusal_inside.ensures.cut same))
-
-pub members::read_members-returns-in_err-tag-clause-cut : goal.members::read_members-returns-in_err-tag-clause-cut
-members::read_members-returns-in_err-tag-clause-cut t c = cut_behind c.from_residual.result _ c.args.inside.now c.loop-tag.at c.args.octets.now c.from_residual.ensures.1 c.loop-tag.invariant.within c.loop-tag.invariant.there c.in_err-tag.ensures.cut
-
-pub members::read_members-returns-in_err-place-clause-cut : goal.members::read_members-returns-in_err-place-clause-cut
-members::read_members-returns-in_err-place-clause-cut t c = cut_through c.from_residual-in_err-place.result _ _ c.from_residual-in_err-place.ensures.1 (never_cut _ _ c.in_err-place.ensures.lasting)
-
-pub members::read_members-returns-in_err-at-clause-cut : goal.members::read_members-returns-in_err-at-clause-cut
-members::read_members-returns-in_err-at-clause-cut t c =
-    let inside = c.args.inside.now in
-    let read = c.loop-tag.invariant in
-    cut_through c.from_residual-in_err-at.result _ _ c.from_residual-in_err-at.ensures.1 (λ same. less_behind inside.definite inside.room c.loop-tag.at c.args.octets.now read.within read.there (c.in_err-at.ensures.cut same))
+    let opened = c.in_ok-inside.ensures.value in
+    refused_named c.refusal_inside.ensures
+    (refused_behind inside.start c.in-Err.ensures.refused (λ more h. members_inside rule tag components room octets more inside opened h) (λ k. begun_around rule (Shape.set tag (components_view c.args.fields.now)) tag room octets inside (refl, refl) tt opened k))
 
 pub members::read_set-returns-in_err-inside-clause-refused : goal.members::read_set-returns-in_err-inside-clause-refused
 members::read_set-returns-in_err-inside-clause-refused t c =
     let octets = c.args.octets.now in
-    let rule = rule_of c.args.rule in
-    let Q = HasPart rule (Shape.set c.args.tag (components_view c.args.fields.now)) c.args.room in
-    let P = HasConstructed rule c.args.tag c.args.room in
-    let there : (more : List ℕ) → Q (octets ++ more) → P (octets ++ more) = λ more h. record { contents = concat h.encoding.order; part = h.part; rest = h.rest; whole = h.encoding.whole; fits = h.fits; parts = h.parts } in
-    bars_through c.from_residual.result _ Q octets c.from_residual.ensures.1 (bars_by _ Q P octets octets there c.in_err-inside.ensures.refused)
+    let rule = c.args.rule in
+    let tag = c.args.tag in
+    let room = c.args.room in
+    refused_through c.from_residual.result c.from_residual.ensures.1
+    (refused_by c.in_err-inside.ensures.refused (λ more h. record { contents = concat h.encoding.order; part = h.part; rest = h.rest; whole = h.encoding.whole; fits = h.fits; parts = h.parts })
+    (λ k. begun_constructed rule (Shape.set tag (components_view c.args.fields.now)) tag room octets (refl, refl) tt k))
