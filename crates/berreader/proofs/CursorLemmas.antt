@@ -1,11 +1,12 @@
 -- Lemmas on where a reader stands in a value.
-use Rattle.std.proofs.Common.{◌≡◌, ◌+◌, ◌<◌, ◌≤◌, inl, inr, ℕ, List, [], ◌∷◌, ◌++◌, Option, None, Some, length, take, drop, refl, sym, ap, ◌∙◌, subst, arith, append-nil, append_assoc, length-append, length-drop, length-take}
+use Rattle.std.proofs.Common.{◌≡◌, ◌+◌, ◌<◌, ◌≤◌, inl, inr, ℕ, List, [], ◌∷◌, ◌++◌, Option, None, Some, Result, Ok, Err, IfOk, IfErr, OnOk, length, take, drop, refl, sym, ap, ◌∙◌, subst, arith, append-nil, append_assoc, length-append, length-drop, length-take}
 use Rattle.std.proofs.lemmas.List.{take-append-drop, take_all}
 use Rattle.octets.specs.Rule.{ber}
 use Rattle.octets.proofs.ShortestLemmas.{IsLength-size}
 use Rattle.types.specs.Encoding.{IsAccepted}
 use Rattle.types.specs.Shape.{Val}
 use Rattle.types.specs.View.{ty_view, value_view}
+use Rattle.types.specs.declared.refusal.Refusal.{Refusal}
 use Rattle.types.specs.declared.value.Value.{Value}
 use Rattle.berreader.specs.declared.cursor.Cursor.{Cursor}
 use Rattle.encoding_parts.specs.declared.frame.Frame.{Frame}
@@ -15,10 +16,13 @@ use Rattle.encoding_parts.specs.Completing.{Opens}
 use Rattle.berreader.specs.Items as items
 use Rattle.berreader.specs.Nest as nests
 use Rattle.encoding_parts.specs.Segments as segments
+use Rattle.berreader.specs.Cut.{IsCut, IsCutIn, IsNestCut}
+use Rattle.encoding_parts.specs.Cut.{IsStringCut}
+use Rattle.encoding_parts.specs.Refuses.{Refuses}
 use Rattle.berreader.specs.Stack.{layers_of}
 use Rattle.berreader.specs.Cursor.{ends_in, octets_in, taken_by, taken_of, with_string, AreTaken, CanFinish, HasPassed, HasTaken, IsSoundCursor, IsSoundIn, IsStep, IsTaken, IsWhole}
 use Rattle.berreader.specs.Strings.{IsClosed, IsFound, IsOpenedString, IsSoundString, IsString}
-use Rattle.berreader.proofs.StringLemmas.{passed_on, cannot_finish}
+use Rattle.berreader.proofs.StringLemmas.{passed_on, cannot_finish, sound_on}
 
 pub some_size : (end taken : ℕ) (frame : Frame) (size : List ℕ) → Opens end taken frame size → 1 ≤ length size
 some_size end taken frame size (inl h) = (IsLength-size h.contents size h.sized).0
@@ -187,9 +191,6 @@ pub closed_step : (nest : Nest) (new : Cursor) (string : OpenString) (octets : L
 closed_step nest new string octets None n sound none layers h = closed_taken nest new string octets n sound none layers h
 closed_step nest new string octets (Some value) n sound none layers h = closed_whole nest new string octets value n sound none h
 
-pub closes_never : (nest : Nest) (string : OpenString) (octets : List ℕ) → ((passed more : List ℕ) → IsString nest string passed → nests.CanFinish nest (passed ++ more) → ⊥) → CanFinish (with_string nest string) octets → ⊥
-closes_never nest string octets never f = never f.passed octets f.string f.rest
-
 -- the string was taken out of where it was
 pub put_back : (old : Cursor) (string : OpenString) → old.string ≡ Some string → with_string old.nest string ≡ old
 put_back old string is = ap (λ s. let c : Cursor = record { nest = old.nest; string = s } in c) (sym is)
@@ -231,3 +232,44 @@ pub sound_found : (old : Cursor) (nest : Nest) (string : Option OpenString) (oct
 sound_found old nest None octets whole used h sound = sound_nest (record { nest = nest; string = None }) refl sound
 sound_found old nest (Some string) octets None used h sound = sound_opened old (record { nest = nest; string = Some string }) octets string used refl h sound
 sound_found old nest (Some string) octets (Some value) used h sound = absurd h
+
+-- and so is what it answers
+pub nest_step : (old : Cursor) (nest : Nest) (string : Option OpenString) (octets : List ℕ) (whole : Option Value) (r : Result ℕ Refusal) → old.string ≡ None → IfOk r (λ used. IsFound old.nest nest octets string whole used) → IfOk r (λ used. IsStep old (record { nest = nest; string = string }) octets whole used)
+nest_step old nest string octets whole (Ok used) none h = step_found old nest string octets whole used none h
+nest_step old nest string octets whole (Err e) none h = tt
+
+pub nest_sound : (old : Cursor) (nest : Nest) (string : Option OpenString) (octets : List ℕ) (whole : Option Value) (r : Result ℕ Refusal) → IfOk r (λ used. IsFound old.nest nest octets string whole used) → OnOk r (nests.IsSoundNest nest) → OnOk r (IsSoundCursor (record { nest = nest; string = string }))
+nest_sound old nest string octets whole (Ok used) h sound = sound_found old nest string octets whole used h sound
+nest_sound old nest string octets whole (Err e) h sound = tt
+
+pub nest_refused : (old : Cursor) (octets : List ℕ) (r : Result ℕ Refusal) → old.string ≡ None → IfErr r (Refuses (nests.CanFinish old.nest) (IsNestCut old.nest) octets) → IfErr r (Refuses (CanFinish old) (IsCut old) octets)
+nest_refused old octets (Ok used) none h = tt
+nest_refused old octets (Err e) none h = record {
+  truncated = λ is f. h.truncated is (finishes_nest old octets none f);
+  cut = λ is. subst (λ s. IsCutIn old.nest s octets) (sym none) (h.cut is);
+  never = λ final more f. h.never final more (finishes_nest old (octets ++ more) none f);
+  numbers = h.numbers;
+}
+
+-- a part of the string that has begun was passed
+pub string_step : (old : Cursor) (string new : OpenString) (octets : List ℕ) (used : ℕ) (whole : Option Value) → old.string ≡ Some string → whole ≡ None → new.next ≡ string.next → new.kind ≡ string.kind → segments.IsTaken string.kind string.segments new.segments octets used
+    → length new.segments.frames.items < length string.segments.frames.items + used → IsStep old (with_string old.nest new) octets whole used
+string_step old string new octets used whole is none next kind t smaller =
+    subst (λ w. IsStep old (with_string old.nest new) octets w used) (sym none)
+    (subst (λ o. IsTaken o (with_string old.nest new) octets used) (put_back old string is) (passed_string old.nest string new octets used next kind t smaller))
+
+pub string_sound : (old : Cursor) (string new : OpenString) (octets : List ℕ) (used : ℕ) → old.string ≡ Some string → IsSoundCursor old → new.next ≡ string.next → new.kind ≡ string.kind → segments.IsTaken string.kind string.segments new.segments octets used → segments.IsSound string.kind new.segments
+    → IsSoundCursor (with_string old.nest new)
+string_sound old string new octets used is sound next kind t held =
+    record { nest = sound.nest; string = sound_on old.nest string new octets used (subst (IsSoundIn old.nest) is sound.string) next kind t held }
+
+-- what the string says of octets
+pub refused_string : (old : Cursor) (string : OpenString) (octets : List ℕ) (refusal : Refusal) → old.string ≡ Some string → IsSoundCursor old → Refuses (segments.CanComplete string.kind string.segments) (IsStringCut string.kind string.segments) octets refusal → Refuses (CanFinish old) (IsCut old) octets refusal
+refused_string old string octets refusal is sound h =
+    let here : Refuses (CanFinish (with_string old.nest string)) (IsCut (with_string old.nest string)) octets refusal = record {
+      truncated = λ t f. cannot old.nest string octets sound.nest (h.truncated t) f;
+      cut = h.cut;
+      never = λ final more f. cannot old.nest string (octets ++ more) sound.nest (h.never final more) f;
+      numbers = h.numbers;
+    } in
+    subst (λ (o : Cursor). Refuses (CanFinish o) (IsCut o) octets refusal) (put_back old string is) here

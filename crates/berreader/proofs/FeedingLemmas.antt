@@ -1,5 +1,6 @@
 -- Lemmas on octets that come in pieces.
-use Rattle.std.proofs.Common.{◌≡◌, ◌+◌, ◌-◌, ◌<◌, ◌≤◌, ◌⊎◌, inl, inr, ℕ, zero, suc, List, [], ◌∷◌, ◌++◌, Option, None, Some, Result, Ok, Err, OnOk, IsErr, IfOk, IfErr, length, take, drop, refl, sym, ap, ◌∙◌, subst, arith, append-nil, append_assoc, length-append, length-drop}
+use Rattle.std.proofs.Common.{◌≡◌, ◌+◌, ◌-◌, ◌<◌, ◌≤◌, ◌⊎◌, inl, inr, ℕ, true, false, zero, suc, List, [], ◌∷◌, ◌++◌, Option, None, Some, Result, Ok, Err, OnOk, IsErr, IfOk, IfErr, length, take, drop, refl, sym, ap, ◌∙◌, subst, arith, append-nil, append_assoc, length-append, length-drop}
+use Rattle.std.specs.Prelude.{is_some}
 use Rattle.std.proofs.Math.Seq.{take-add, take-append-add}
 use Rattle.std.proofs.lemmas.List.{take-append-drop, drop-drop, take_all, length-take-le, take-append-le}
 use Rattle.octets.specs.declared.TheConstants.{MAX_ENCODING}
@@ -249,39 +250,39 @@ done_behind shape new before rest value more left is done =
 pub shape_kept : (old mid : Pieces) → mid.cursor ≡ old.cursor → shape_of mid ≡ shape_of old
 shape_kept old mid cursor = ap (λ (n : Cursor). ty_view n.nest.ty.now) cursor
 
-pub on_kept : (old mid : Pieces) (before rest other : List ℕ) → mid.cursor ≡ old.cursor → other ≡ rest → GoesOn old.cursor before rest → GoesOn mid.cursor before other
-on_kept old mid before rest other cursor same on = subst (GoesOn mid.cursor before) (sym same) (subst (λ n. GoesOn n before rest) (sym cursor) on)
+-- what was not whole is none
+pub none_of : (whole : Option Value) → is_some whole ≡ false → whole ≡ None
+none_of None h = refl
+none_of (Some value) h = absurd cc
 
-done_kept : (old mid new : Pieces) (before rest other : List ℕ) (value : Val) (used : ℕ) → mid.cursor ≡ old.cursor → other ≡ rest → IsDoneBehind (shape_of mid) new before other value used → IsDoneBehind (shape_of old) new before rest value used
-done_kept old mid new before rest other value used cursor same h =
-    subst (λ o. IsDoneBehind (shape_of old) new before o value used) same (subst (λ shape. IsDoneBehind shape new before other value used) (shape_kept old mid cursor) h)
+-- octets behind a step over those that are kept
+front_slice : (mid : Pieces) (octets slice : List ℕ) (used : ℕ) (at : IsAt mid octets) → slice ≡ drop used mid.pending.items → (at.before ++ take used mid.pending.items) ++ slice ≡ octets
+front_slice mid octets slice used at same = ap (λ o. (at.before ++ take used mid.pending.items) ++ o) same ∙ joined_at mid octets used at
 
--- what stands behind a front of the octets that are kept was taken
-pub cut_behind : (old mid new : Pieces) (before rest other : List ℕ) (whole : Option Value) (more left : ℕ) → mid.cursor ≡ old.cursor → other ≡ rest → left ≡ length rest - more → IsTakenWhole mid new before other whole more → IsTakenCut old new (before ++ rest) whole left
-cut_behind old mid new before rest other None more left cursor same is h = subst (λ o. HasBeenFed new (before ++ o)) same h
-cut_behind old mid new before rest other (Some value) more left cursor same is h = done_behind (shape_of old) new before rest (value_view value) more left is (done_kept old mid new before rest other (value_view value) more cursor same h)
+on_slice : (mid next : Pieces) (octets slice : List ℕ) (used : ℕ) (at : IsAt mid octets) → IsTaken mid.cursor next.cursor mid.pending.items used → slice ≡ drop used mid.pending.items → GoesOn next.cursor (at.before ++ take used mid.pending.items) slice
+on_slice mid next octets slice used at step same = subst (GoesOn next.cursor (at.before ++ take used mid.pending.items)) (sym same) (step_at mid next octets used at step)
 
-pub if_ok : {T E : Type 0} {P Q : T → Type 0} (r : Result T E) → ((x : T) → P x → Q x) → IfOk r P → IfOk r Q
-if_ok (Ok x) f h = f x h
-if_ok (Err e) f h = h
+pub cut_on : (old mid next new : Pieces) (octets slice : List ℕ) (used more left : ℕ) (whole : Option Value) → IsAt mid octets → IsTaken mid.cursor next.cursor mid.pending.items used → shape_of mid ≡ shape_of old → slice ≡ drop used mid.pending.items → left ≡ length slice - more
+    → ((before : List ℕ) → GoesOn next.cursor before slice → IsTakenWhole next new before slice whole more) → IsTakenCut old new octets whole left
+cut_on old mid next new octets slice used more left None at step shape same is taken =
+    subst (HasBeenFed new) (front_slice mid octets slice used at same) (taken (at.before ++ take used mid.pending.items) (on_slice mid next octets slice used at step same))
+cut_on old mid next new octets slice used more left (Some value) at step shape same is taken =
+    let front = at.before ++ take used mid.pending.items in
+    let done = done_behind (shape_of next) new front slice (value_view value) more left is (taken front (on_slice mid next octets slice used at step same)) in
+    subst (λ o. IsDoneBefore (shape_of old) new o (value_view value) left) (front_slice mid octets slice used at same) (subst (λ s. IsDoneBefore s new (front ++ slice) (value_view value) left) (step.type ∙ shape) done)
 
-pub if_err : {T E : Type 0} {P Q : E → Type 0} (r : Result T E) → ((e : E) → P e → Q e) → IfErr r P → IfErr r Q
-if_err (Ok x) f h = h
-if_err (Err e) f h = f e h
-
-pub cut_as : (old mid new : Pieces) (octets other : List ℕ) (whole : Option Value) (left : ℕ) → shape_of mid ≡ shape_of old → other ≡ octets → IsTakenCut mid new other whole left → IsTakenCut old new octets whole left
-cut_as old mid new octets other None left shape same h = subst (HasBeenFed new) same h
-cut_as old mid new octets other (Some value) left shape same h =
-    subst (λ o. IsDoneBefore (shape_of old) new o (value_view value) left) same (subst (λ s. IsDoneBefore s new other (value_view value) left) shape h)
+pub never_on : (old mid next : Pieces) (octets slice more : List ℕ) (used : ℕ) → IsAt mid octets → IsTaken mid.cursor next.cursor mid.pending.items used → shape_of mid ≡ shape_of old → slice ≡ drop used mid.pending.items
+    → ((before more : List ℕ) → GoesOn next.cursor before slice → HasValue (shape_of next) (before ++ (slice ++ more)) → ⊥) → HasValue (shape_of old) (octets ++ more) → ⊥
+never_on old mid next octets slice more used at step shape same never h =
+    let front = at.before ++ take used mid.pending.items in
+    let joined : octets ++ more ≡ front ++ (slice ++ more) = ap (λ o. o ++ more) (sym (front_slice mid octets slice used at same)) ∙ append_assoc front slice more in
+    never front more (on_slice mid next octets slice used at step same) (subst (HasValue (shape_of next)) joined (subst (λ s. HasValue s (octets ++ more)) (sym (step.type ∙ shape)) h))
 
 pub taken_is : (old new : Cursor) (octets : List ℕ) (used : ℕ) (whole : Option Value) → whole ≡ None → IsStep old new octets whole used → IsTaken old new octets used
 taken_is old new octets used whole is h = subst (λ w. IsStep old new octets w used) is h
 
-pub whole_is : (old new : Cursor) (octets : List ℕ) (value : Value) (used : ℕ) (whole : Option Value) → whole ≡ Some value → IsStep old new octets whole used → IsWhole old new octets (value_view value) used
-whole_is old new octets value used whole is h = subst (λ w. IsStep old new octets w used) is h
-
 -- the value is whole with those that are kept
-pub whole_at : (now new : Pieces) (octets : List ℕ) (value : Val) (used left : ℕ) → IsAt now octets → IsWhole now.cursor new.cursor now.pending.items value used → new.refused ≡ None → new.pending.items ≡ [] → left ≡ length now.pending.items - used → IsDoneBefore (shape_of now) new octets value left
+whole_at : (now new : Pieces) (octets : List ℕ) (value : Val) (used left : ℕ) → IsAt now octets → IsWhole now.cursor new.cursor now.pending.items value used → new.refused ≡ None → new.pending.items ≡ [] → left ≡ length now.pending.items - used → IsDoneBefore (shape_of now) new octets value left
 whole_at now new octets value used left at step accepts kept is =
     let count : length octets ≡ length at.before + length now.pending.items = ap length at.joined ∙ length-append at.before now.pending.items in
     let front = front_by_rest octets at.before now.pending.items used at.joined step.there ∙ ap (λ k. take (length octets - k) octets) (sym is) in
@@ -290,6 +291,12 @@ whole_at now new octets value used left at step accepts kept is =
       accepted = subst (IsAccepted ber (shape_of now) value) front (step.accepted at.before at.goes_on.taken);
       fresh = record { accepts = accepts; layers = step.layers; taken = step.taken; string = step.string; kept = kept };
     }
+
+pub cut_whole : (old mid new : Pieces) (octets : List ℕ) (used left : ℕ) (whole : Option Value) → is_some whole ≡ true → IsAt mid octets → IsStep mid.cursor new.cursor mid.pending.items whole used → shape_of mid ≡ shape_of old → new.refused ≡ None → new.pending.items ≡ [] → left ≡ length mid.pending.items - used
+    → IsTakenCut old new octets whole left
+cut_whole old mid new octets used left None some at step shape accepts kept is = absurd cc
+cut_whole old mid new octets used left (Some value) some at step shape accepts kept is =
+    subst (λ s. IsDoneBefore s new octets (value_view value) left) shape (whole_at mid new octets (value_view value) used left at step accepts kept is)
 
 -- no value is whole, and the octets are few enough
 pub more_is_fed : (old new : Pieces) (octets : List ℕ) (whole : Option Value) (r : Result ℕ Refusal) → whole ≡ None → shape_of new ≡ shape_of old → OnOk r (taken_of new.cursor + length new.pending.items ≤ MAX_ENCODING)

@@ -11,6 +11,7 @@ pub mod PartsWeightLemmas
 pub mod HeldLemmas
 pub mod NestStepLemmas
 pub mod ItemsLemmas
+pub mod RefusedLemmas
 pub mod StringLemmas
 pub mod CursorLemmas
 pub mod CutLemmas

@@ -1,6 +1,7 @@
 -- Lemmas on the steps of a nest.
-use Rattle.std.proofs.Common.{◌≡◌, ◌+◌, ◌<◌, ◌≤◌, ℕ, Bool, true, List, [], ◌∷◌, ◌++◌, Option, None, Some, length, take, drop, refl, sym, ap, ◌∙◌, subst, arith, append_assoc, append-nil, length-append, Contains}
+use Rattle.std.proofs.Common.{◌≡◌, ◌+◌, ◌<◌, ◌≤◌, ℕ, Bool, true, List, [], ◌∷◌, ◌++◌, Option, None, Some, Result, Ok, Err, IfOk, OnOk, length, take, drop, refl, sym, ap, ◌∙◌, subst, arith, append_assoc, append-nil, length-append, Contains}
 use Rattle.std.specs.List.{AllByRecursion}
+use Rattle.std.specs.Prelude.{reverse}
 use Rattle.std.proofs.lemmas.List.{length-take-le, length-drop}
 use Rattle.octets.specs.declared.TheConstants.{MAX_ENCODING, MAX_TAG_NUMBER}
 use Rattle.octets.specs.declared.tag.Tag.{Tag}
@@ -18,12 +19,15 @@ use Rattle.types.specs.Encoding.{most_nested}
 use Rattle.encoding_parts.specs.declared.frame.Frame.{Frame}
 use Rattle.berreader.specs.declared.nest.Nest.{Nest}
 use Rattle.berreader.specs.declared.nest.Next.{Next}
+use Rattle.berreader.specs.declared.stack.Open.{Open}
+use Rattle.berreader.specs.declared.stack.Stack.{Stack}
+use Rattle.encoding_parts.specs.declared.held_parts.HeldParts.{HeldParts}
 use Rattle.encoding_parts.specs.Completing.{IsEndOf, Opens, IsOpening}
 use Rattle.encoding_parts.specs.Head.{IsReadTag, IsTagWithin}
-use Rattle.encoding_parts.specs.HeldParts.{IsNode}
-use Rattle.encoding_parts.specs.Parts.{Parts, IsPartOf, IsNodeFor, ArePartsOf, AreNone, IsGoodType, IsValueOf, IsPartWithin, IsWrapped}
-use Rattle.berreader.specs.Stack.{Layer, layers_of, with_which, IsCounted, IsPutInside}
-use Rattle.berreader.specs.Nest.{CanFollow, CanComplete, StandsAt, CanFinish, HasTaken, IsTaken, IsWhole, IsStep, IsSoundNest, IsReadNext, IsNext, IsDueInside, IsComeInside, HasCome, IsLast, IsCome, EndsInside, IsEndInside, IsInside, AreInside, AreSound, levels_inside, levels_left, end_inside}
+use Rattle.encoding_parts.specs.HeldParts.{parts_view, IsNode}
+use Rattle.encoding_parts.specs.Parts.{Parts, IsPartOf, IsNodeFor, ArePartsOf, AreNone, IsPut, IsGoodType, IsValueOf, IsPartWithin, IsWrapped}
+use Rattle.berreader.specs.Stack.{Layer, layers_from, layers_of, with_which, IsCounted}
+use Rattle.berreader.specs.Nest.{CanFollow, CanComplete, StandsAt, CanFinish, HasTaken, IsTaken, IsWhole, IsStep, IsSoundNest, IsReadNext, IsNext, IsDueInside, IsComeInside, HasCome, IsLast, IsCome, IsPlaced, EndsInside, IsEndInside, IsInside, AreInside, AreSound, levels_inside, levels_left, end_inside}
 use Rattle.encoding_parts.specs.Segments.{EndsAt}
 use Rattle.encoding_parts.proofs.ChoiceLemmas.{begins_node, node_good, node_own}
 use Rattle.berreader.proofs.PartsBeginLemmas.{part_above, part_begins}
@@ -308,9 +312,19 @@ sound_come_nest mid new type tag v used (Some value) n sound room counted h = re
   place = omega (arith, h.taken);
 }
 
-pub come_inside : (layers new : List Layer) (type : Shape) (tag : Tag) (v w : Val) → IsWrapped type tag v w → IsPutInside layers w new → IsComeInside layers type tag v new
-come_inside [] new type tag v w wraps h = absurd h
-come_inside (layer ∷ others) new type tag v w wraps h = record { wrapped = w; wraps = wraps; parts = h.0; put = h.1; is = h.2 }
+-- the value was put into the innermost
+pub come_top : (old : Stack) (top : Open) (held : HeldParts) (type : Shape) (tag : Tag) (v w : Val) → old.top ≡ Some top → IsWrapped type tag v w → IsPut (parts_view top.held_parts) top.which w (parts_view held)
+    → IsComeInside (layers_of old) type tag v (layers_of (record { top = Some (record { frame = top.frame; tag = top.tag; ty = top.ty; held_parts = held; which = top.which }); outer = old.outer }))
+come_top old top held type tag v w is wraps put =
+    let new : Open = record { frame = top.frame; tag = top.tag; ty = top.ty; held_parts = held; which = top.which } in
+    let come : IsComeInside (layers_from (Some top ∷ reverse old.outer.items)) type tag v (layers_from (Some new ∷ reverse old.outer.items)) = record { wrapped = w; wraps = wraps; parts = parts_view held; put = put; is = refl } in
+    subst (λ t. IsComeInside (layers_from (t ∷ reverse old.outer.items)) type tag v (layers_from (Some new ∷ reverse old.outer.items))) (sym is) come
+
+-- a value was put, and it is one of the type
+pub placed : {E : Type 0} (old new : Nest) (type : Shape) (tag : Tag) (v w : Val) (used : ℕ) (whole : Option Value) (r : Result ℕ E) → IsWrapped type tag v w → IfOk r (λ n. (t : Shape) (g : Tag) (u : Val) → IsWrapped t g u w → IsCome old new t g u used whole n)
+    → (IsCounted old.layers → OnOk r (IsCounted new.layers)) → IfOk r (IsPlaced old new type tag v used whole)
+placed old new type tag v w used whole (Ok n) wraps come counted = record { come = come type tag v wraps; counted = counted }
+placed old new type tag v w used whole (Err e) wraps come counted = tt
 
 -- an encoding has ended
 pub record IsPopped (old mid : Nest) (layer : Layer) : Type 0 where

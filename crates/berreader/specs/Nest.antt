@@ -1,5 +1,5 @@
 -- The open constructed encodings, each inside the next: what completes them, and where they stand.
-use Rattle.std.specs.Prelude.{◌≡◌, ◌+◌, ◌-◌, ◌<◌, ◌≤◌, ⊤, ℕ, false, List, [], ◌∷◌, ◌++◌, Option, Some, None, length, take, drop, Contains}
+use Rattle.std.specs.Prelude.{◌≡◌, ◌+◌, ◌-◌, ◌<◌, ◌≤◌, ⊤, ℕ, false, List, [], ◌∷◌, ◌++◌, Option, Some, None, length, take, drop, Contains, MatchOption}
 use Rattle.std.specs.List.{AllByRecursion}
 use Rattle.octets.specs.declared.TheConstants.{MAX_ENCODING}
 use Rattle.octets.specs.declared.tag.Tag.{Tag}
@@ -96,10 +96,19 @@ abbrev pub IsEndInside : List Layer → ℕ → List ℕ → Type 0
 IsEndInside [] taken mark = ⊥
 IsEndInside (layer ∷ others) taken mark = IsEndOf layer.frame taken mark
 
+-- the innermost encoding ends by so many of the octets, or not at their front
+abbrev pub IsEndHere : Nest → List ℕ → Option ℕ → Type 0
+IsEndHere nest octets found = MatchOption found ((more : List ℕ) → ¬ EndsInside (layers_of nest.layers) nest.taken (octets ++ more)) (λ used. (used ≤ length octets) × IsEndInside (layers_of nest.layers) nest.taken (take used octets))
+
 -- a part of this type may come next in the innermost, as this one
 abbrev pub IsDueNext : Shape → List Layer → ℕ → Shape → Type 0
 IsDueNext shape [] which type = shape ≡ type
 IsDueNext shape (layer ∷ others) which type = IsDue layer.parts which type
+
+-- and begins with the tag
+pub record BeginsNext (nest : Nest) (tag : Tag) (which : ℕ) (type : Shape) : Type 0 where
+  pub due : IsDueNext (ty_view nest.ty.now) (layers_of nest.layers) which type
+  pub begins : Contains (first_tags type) tag
 
 -- the octets begin with a part of this type, and then with some that complete the open encodings
 pub record IsNext (layers : List Layer) (which : ℕ) (type : Shape) (taken : ℕ) (octets : List ℕ) : Type 0 where
@@ -166,6 +175,12 @@ pub record IsReadNext (nest : Nest) (octets : List ℕ) (next : Next) : Type 0 w
   pub begins : Contains (first_tags (ty_view next.ty.now)) next.tag
   pub node : IsNodeFor next.tag (ty_view next.ty.now) (ty_view next.node.now)
 
+-- they stand at the front of the octets, where no open encoding ends
+pub record IsPartNext (nest : Nest) (octets : List ℕ) (next : Next) : Type 0 where
+  pub sound : IsSoundNest nest
+  pub no_end : (more : List ℕ) → ¬ EndsInside (layers_of nest.layers) nest.taken (octets ++ more)
+  pub read : IsReadNext nest octets next
+
 -- the value, of a node of the type, has come for the part that was open in the innermost
 pub record IsComeInto (layer : Layer) (others : List Layer) (type : Shape) (tag : Tag) (value : Val) (new : List Layer) : Type 0 where
   pub wrapped : Val
@@ -197,3 +212,15 @@ pub record IsLast (old new : Nest) (type : Shape) (tag : Tag) (value wrapped : V
 abbrev pub IsCome : Nest → Nest → Shape → Tag → Val → ℕ → Option Value → ℕ → Type 0
 IsCome old new type tag value used None n = HasCome old new type tag value used n
 IsCome old new type tag value used (Some wrapped) n = IsLast old new type tag value (value_view wrapped) used n
+
+-- a value of the type may come with so many octets, into the innermost or where `whole` is
+pub record MayCome (nest : Nest) (type : Shape) (used : ℕ) (whole : Option Value) : Type 0 where
+  pub good : IsGoodType type
+  pub due : IsDueInside (ty_view nest.ty.now) (layers_of nest.layers) type
+  pub room : nest.taken + used ≤ MAX_ENCODING
+  pub none : whole ≡ None
+
+-- it has come, and each open encoding has its place still
+pub record IsPlaced (old new : Nest) (type : Shape) (tag : Tag) (value : Val) (used : ℕ) (whole : Option Value) (n : ℕ) : Type 0 where
+  pub come : IsCome old new type tag value used whole n
+  pub counted : IsCounted old.layers → IsCounted new.layers

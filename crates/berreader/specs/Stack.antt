@@ -1,13 +1,13 @@
 -- The stack of open encodings, as the definitions see it.
-use Rattle.std.specs.Prelude.{◌≡◌, ⊤, ℕ, List, [], ◌∷◌, length, reverse, Option, Some, None}
+use Rattle.std.specs.Prelude.{◌≡◌, ℕ, List, [], ◌∷◌, length, reverse, Option, Some, None}
 use Rattle.octets.specs.declared.tag.Tag.{Tag}
-use Rattle.types.specs.Shape.{Shape, Val}
+use Rattle.types.specs.Shape.{Shape}
 use Rattle.types.specs.View.{ty_view}
 use Rattle.encoding_parts.specs.declared.frame.Frame.{Frame}
 use Rattle.berreader.specs.declared.stack.Open.{Open}
 use Rattle.berreader.specs.declared.stack.Stack.{Stack}
 use Rattle.encoding_parts.specs.HeldParts.{parts_view}
-use Rattle.encoding_parts.specs.Parts.{Parts, IsDue, IsPut}
+use Rattle.encoding_parts.specs.Parts.{Parts}
 
 -- an open encoding: where it ends, its tag, the type that it is of, its parts, and which of them is the open encoding
 -- inside it, if one is
@@ -41,13 +41,3 @@ layers_of stack = layers_from (stack.top ∷ reverse stack.outer.items)
 -- one place for each
 abbrev pub IsCounted : Stack → Type 0
 IsCounted stack = length stack.outer.items ≡ length (layers_of stack)
-
--- the part that is open in the innermost may come
-abbrev pub IsOpenDue : List Layer → Type 0
-IsOpenDue [] = ⊤
-IsOpenDue (layer ∷ others) = (type : Shape) × IsDue layer.parts layer.which type
-
--- its value has come
-abbrev pub IsPutInside : List Layer → Val → List Layer → Type 0
-IsPutInside [] value new = ⊥
-IsPutInside (layer ∷ others) value new = (parts : Parts) × IsPut layer.parts layer.which value parts × (new ≡ with_parts layer parts ∷ others)

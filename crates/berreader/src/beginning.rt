@@ -1,16 +1,15 @@
 //! The part that stands next in the innermost open encoding: one without parts is taken, and another is opened.
 
-ghost use Rattle.std.specs.Prelude.{◌≡◌, ◌++◌, ℕ, List, true, false, IfOk, IfErr, OnOk, OnErr, None, Contains};
-ghost use Rattle.types.specs.FirstTags.{first_tags};
+ghost use Rattle.std.specs.Prelude.{◌≡◌, ◌++◌, ℕ, List, true, false, IfOk, IfErr, OnOk, OnErr, None};
 ghost use Rattle.types.specs.Leaf.{IsLeaf};
-ghost use Rattle.types.specs.Refusal.{IsFinal, IsOfReading};
 ghost use Rattle.types.specs.Shape.{Shape};
 ghost use Rattle.types.specs.View.{ty_view};
 ghost use Rattle.berreader.specs.Stack.{layers_of};
 ghost use Rattle.encoding_parts.specs.HeldParts.{IsOfDue};
+ghost use Rattle.encoding_parts.specs.Refuses.{Refuses};
 ghost use Rattle.berreader.specs.Cut.{IsNestCut};
-ghost use Rattle.berreader.specs.Nest.{end_inside, CanFinish, EndsInside, IsDueNext, IsReadNext, IsSoundNest, IsStep, IsTaken};
-ghost use Rattle.berreader.specs.Strings.{IsFound, IsOpenedString};
+ghost use Rattle.berreader.specs.Nest.{end_inside, BeginsNext, CanFinish, EndsInside, IsPartNext, IsSoundNest, IsStep, IsTaken};
+ghost use Rattle.berreader.specs.Strings.{IsFound};
 
 use crate::nest::{Nest, Next, OpenString};
 use crate::stack::Open;
@@ -33,25 +32,21 @@ impl<'a> Nest<'a> {
         whole: &mut Option<Value>,
     ) -> Result<usize, Refusal>
         requires sound { IsSoundNest self.old }
-        requires none { string.old ≡ None }
-        requires whole { whole.old ≡ None }
         requires no_end { (more : List ℕ) →
             ¬ EndsInside (layers_of self.old.layers) self.old.taken (octets.now ++ more) }
+        requires none { string.old ≡ None }
+        requires whole { whole.old ≡ None }
         ensures taken { IfOk result (λ used. IsFound self.old self.new octets.now string.new whole.new used) }
         ensures sound { OnOk result (IsSoundNest self.new) }
-        ensures truncated { result ≡ Err Refusal.Truncated → ¬ CanFinish self.old octets.now }
-        ensures cut { result ≡ Err Refusal.Truncated → IsNestCut self.old octets.now }
-        ensures never { IfErr result (λ refusal. IsFinal refusal → (more : List ℕ) →
-            ¬ CanFinish self.old (octets.now ++ more)) }
+        ensures refused { IfErr result (Refuses (CanFinish self.old) (IsNestCut self.old) octets.now) }
         ensures unchanged { result ≡ Err Refusal.Truncated → self.new ≡ self.old }
         ensures kept { OnErr result (string.new ≡ None) }
-        ensures numbers { IfErr result IsOfReading }
     {
         let next = self.next(octets)?;
         if !next.node.has_no_parts() {
             self.open(alloc, next, octets)
         } else if next.constructed {
-            self.begin_in(alloc, next, octets, string)
+            self.begin(alloc, next, octets, string)
         } else {
             self.leaf(alloc, next, octets, whole)
         }
@@ -62,12 +57,8 @@ impl<'a> Nest<'a> {
         requires sound { IsSoundNest self.now }
         requires no_end { (more : List ℕ) →
             ¬ EndsInside (layers_of self.now.layers) self.now.taken (octets.now ++ more) }
-        ensures value { IfOk result (λ next. IsReadNext self.now octets.now next) }
-        ensures truncated { result ≡ Err Refusal.Truncated → ¬ CanFinish self.now octets.now }
-        ensures cut { result ≡ Err Refusal.Truncated → IsNestCut self.now octets.now }
-        ensures never { IfErr result (λ refusal. IsFinal refusal → (more : List ℕ) →
-            ¬ CanFinish self.now (octets.now ++ more)) }
-        ensures numbers { IfErr result IsOfReading }
+        ensures value { IfOk result (IsPartNext self.now octets.now) }
+        ensures refused { IfErr result (Refuses (CanFinish self.now) (IsNestCut self.now) octets.now) }
     {
         let (tag, constructed, identifier) = read_head_tag(self.end(), self.taken, octets)?;
         let (which, ty) = self.due(tag)?;
@@ -86,12 +77,8 @@ impl<'a> Nest<'a> {
 
     // Which part may come next that begins with the tag, and its type.
     fn due(&self, tag: Tag) -> Result<(usize, &'a Ty), Refusal>
-        ensures value { IfOk result (λ p.
-            IsDueNext (ty_view self.now.ty.now) (layers_of self.now.layers) p.0 (ty_view p.1.now)
-            × Contains (first_tags (ty_view p.1.now)) tag) }
-        ensures never { IfErr result (λ refusal. (which : ℕ) (type : Shape) →
-            IsDueNext (ty_view self.now.ty.now) (layers_of self.now.layers) which type →
-            ¬ Contains (first_tags type) tag) }
+        ensures value { IfOk result (λ p. BeginsNext self.now tag p.0 (ty_view p.1.now)) }
+        ensures never { IfErr result (λ refusal. (which : ℕ) (type : Shape) → ¬ BeginsNext self.now tag which type) }
         ensures numbers { IfErr result IsOfDue }
     {
         match self.layers.top() {
@@ -114,52 +101,20 @@ impl<'a> Nest<'a> {
     // Begins the constructed string at the front in `string`, and answers how many identifier octets and length
     // octets it has. A call of its own, since a string is large and the callers have other parts mostly.
     #[inline(never)]
-    fn begin_in(
+    fn begin(
         &self,
         alloc: Global,
         next: Next<'a>,
         octets: &[u8],
         string: &mut Option<OpenString<'a>>,
     ) -> Result<usize, Refusal>
-        requires sound { IsSoundNest self.now }
+        requires next { IsPartNext self.now octets.now next }
         requires none { string.old ≡ None }
-        requires no_end { (more : List ℕ) →
-            ¬ EndsInside (layers_of self.now.layers) self.now.taken (octets.now ++ more) }
-        requires next { IsReadNext self.now octets.now next }
         requires leaf { IsLeaf (ty_view next.node.now) }
         requires constructed { next.constructed ≡ true }
         ensures begun { IfOk result (λ used. IsFound self.now self.now octets.now string.new None used) }
-        ensures truncated { result ≡ Err Refusal.Truncated → ¬ CanFinish self.now octets.now }
-        ensures cut { result ≡ Err Refusal.Truncated → IsNestCut self.now octets.now }
-        ensures never { IfErr result (λ refusal. IsFinal refusal → (more : List ℕ) →
-            ¬ CanFinish self.now (octets.now ++ more)) }
+        ensures refused { IfErr result (Refuses (CanFinish self.now) (IsNestCut self.now) octets.now) }
         ensures kept { OnErr result (string.new ≡ None) }
-        ensures numbers { IfErr result IsOfReading }
-    {
-        let (begun, used) = self.begin(alloc, next, octets)?;
-        *string = Some(begun);
-        Ok(used)
-    }
-
-    // The constructed string at the front, and how many identifier octets and length octets it has.
-    fn begin(
-        &self,
-        alloc: Global,
-        next: Next<'a>,
-        octets: &[u8],
-    ) -> Result<(OpenString<'a>, usize), Refusal>
-        requires sound { IsSoundNest self.now }
-        requires no_end { (more : List ℕ) →
-            ¬ EndsInside (layers_of self.now.layers) self.now.taken (octets.now ++ more) }
-        requires next { IsReadNext self.now octets.now next }
-        requires leaf { IsLeaf (ty_view next.node.now) }
-        requires constructed { next.constructed ≡ true }
-        ensures begun { IfOk result (λ p. IsOpenedString self.now self.now octets.now p.0 p.1) }
-        ensures truncated { result ≡ Err Refusal.Truncated → ¬ CanFinish self.now octets.now }
-        ensures cut { result ≡ Err Refusal.Truncated → IsNestCut self.now octets.now }
-        ensures never { IfErr result (λ refusal. IsFinal refusal → (more : List ℕ) →
-            ¬ CanFinish self.now (octets.now ++ more)) }
-        ensures numbers { IfErr result IsOfReading }
     {
         let levels = MAX_NESTED - self.layers.depth();
         let (kind, segments, used) = begin_string(
@@ -171,12 +126,12 @@ impl<'a> Nest<'a> {
             levels,
             octets,
         )?;
-        let string = OpenString {
+        *string = Some(OpenString {
             next,
             kind,
             segments,
-        };
-        Ok((string, used))
+        });
+        Ok(used)
     }
 
     // Takes the primitive encoding of a part without parts.
@@ -187,21 +142,14 @@ impl<'a> Nest<'a> {
         octets: &[u8],
         whole: &mut Option<Value>,
     ) -> Result<usize, Refusal>
-        requires sound { IsSoundNest self.old }
+        requires next { IsPartNext self.old octets.now next }
         requires whole { whole.old ≡ None }
-        requires no_end { (more : List ℕ) →
-            ¬ EndsInside (layers_of self.old.layers) self.old.taken (octets.now ++ more) }
-        requires next { IsReadNext self.old octets.now next }
         requires leaf { IsLeaf (ty_view next.node.now) }
         requires primitive { next.constructed ≡ false }
         ensures taken { IfOk result (λ used. IsStep self.old self.new octets.now whole.new used) }
         ensures sound { OnOk result (IsSoundNest self.new) }
-        ensures truncated { result ≡ Err Refusal.Truncated → ¬ CanFinish self.old octets.now }
-        ensures cut { result ≡ Err Refusal.Truncated → IsNestCut self.old octets.now }
-        ensures never { IfErr result (λ refusal. IsFinal refusal → (more : List ℕ) →
-            ¬ CanFinish self.old (octets.now ++ more)) }
+        ensures refused { IfErr result (Refuses (CanFinish self.old) (IsNestCut self.old) octets.now) }
         ensures unchanged { result ≡ Err Refusal.Truncated → self.new ≡ self.old }
-        ensures numbers { IfErr result IsOfReading }
     {
         let (value, used) = read_leaf(
             alloc,
@@ -218,19 +166,12 @@ impl<'a> Nest<'a> {
 
     // Takes the identifier octets and length octets of a constructed encoding, and opens it.
     fn open(&mut self, alloc: Global, next: Next<'a>, octets: &[u8]) -> Result<usize, Refusal>
-        requires sound { IsSoundNest self.old }
-        requires no_end { (more : List ℕ) →
-            ¬ EndsInside (layers_of self.old.layers) self.old.taken (octets.now ++ more) }
-        requires next { IsReadNext self.old octets.now next }
+        requires next { IsPartNext self.old octets.now next }
         requires parts { ¬ IsLeaf (ty_view next.node.now) }
         ensures taken { IfOk result (λ used. IsTaken self.old self.new octets.now used) }
         ensures sound { OnOk result (IsSoundNest self.new) }
-        ensures truncated { result ≡ Err Refusal.Truncated → ¬ CanFinish self.old octets.now }
-        ensures cut { result ≡ Err Refusal.Truncated → IsNestCut self.old octets.now }
-        ensures never { IfErr result (λ refusal. IsFinal refusal → (more : List ℕ) →
-            ¬ CanFinish self.old (octets.now ++ more)) }
+        ensures refused { IfErr result (Refuses (CanFinish self.old) (IsNestCut self.old) octets.now) }
         ensures unchanged { result ≡ Err Refusal.Truncated → self.new ≡ self.old }
-        ensures numbers { IfErr result IsOfReading }
     {
         if !next.constructed {
             return Err(Refusal::Form);

@@ -1,16 +1,12 @@
 //! Where a reader stands in a value, and the steps by which it goes on, from one part or segment to the
 //! next. A step is one of the nest, or one in the constructed string that has begun in it.
 
-ghost use Rattle.std.specs.Prelude.{◌≡◌, ◌↔◌, ◌≢◌, IsTrue, ◌≤◌, ◌++◌, ℕ, List, Some, None, [], IfOk, IfErr, OnOk};
-ghost use Rattle.octets.specs.declared.TheConstants.{MAX_ENCODING};
-ghost use Rattle.types.specs.Refusal.{IsFinal, IsOfReading};
+ghost use Rattle.std.specs.Prelude.{◌≡◌, ◌↔◌, IsTrue, Some, None, [], IfOk, IfErr, OnOk};
 ghost use Rattle.types.specs.View.{ty_view};
+ghost use Rattle.encoding_parts.specs.Refuses.{Refuses};
 ghost use Rattle.berreader.specs.Stack.{layers_of, IsCounted};
-ghost use Rattle.berreader.specs.Nest.{IsSoundNest};
-ghost use Rattle.berreader.specs.Strings.{IsSoundString};
-ghost use Rattle.encoding_parts.specs.Cut.{IsStringCut};
 ghost use Rattle.berreader.specs.Cut.{IsCut};
-ghost use Rattle.berreader.specs.Cursor.{taken_of, with_string, CanFinish, AreTaken, IsSoundCursor, IsStep, IsTaken};
+ghost use Rattle.berreader.specs.Cursor.{taken_of, CanFinish, AreTaken, IsSoundCursor, IsStep};
 
 use crate::nest::{Nest, OpenString};
 use std::alloc::Global;
@@ -53,15 +49,11 @@ impl<'a> Cursor<'a> {
         requires whole { whole.old ≡ None }
         ensures taken { IfOk result (λ used. IsStep self.old self.new octets.now whole.new used) }
         ensures sound { OnOk result (IsSoundCursor self.new) }
-        ensures truncated { result ≡ Err Refusal.Truncated → ¬ CanFinish self.old octets.now }
-        ensures cut { result ≡ Err Refusal.Truncated → IsCut self.old octets.now }
-        ensures never { IfErr result (λ refusal. IsFinal refusal → (more : List ℕ) →
-            ¬ CanFinish self.old (octets.now ++ more)) }
+        ensures refused { IfErr result (Refuses (CanFinish self.old) (IsCut self.old) octets.now) }
         ensures unchanged { result ≡ Err Refusal.Truncated → self.new ≡ self.old }
-        ensures numbers { IfErr result IsOfReading }
     {
         if self.string.is_none() {
-            self.begin(alloc, octets, whole)
+            self.nest.step(alloc, octets, &mut self.string, whole)
         } else {
             self.go_on(alloc, octets, whole)
         }
@@ -79,8 +71,8 @@ impl<'a> Cursor<'a> {
         }
     }
 
-    // Takes what stands next in the string that has begun, or the string itself. A call of its own, since most
-    // steps are in no string.
+    // Takes what stands next in the string that has begun, or, behind its last end, puts the string where it belongs
+    // and takes no octet. A call of its own, since most steps are in no string.
     #[inline(never)]
     fn go_on(
         &mut self,
@@ -92,63 +84,20 @@ impl<'a> Cursor<'a> {
         requires whole { whole.old ≡ None }
         ensures taken { IfOk result (λ used. IsStep self.old self.new octets.now whole.new used) }
         ensures sound { OnOk result (IsSoundCursor self.new) }
-        ensures truncated { result ≡ Err Refusal.Truncated → ¬ CanFinish self.old octets.now }
-        ensures cut { result ≡ Err Refusal.Truncated → IsCut self.old octets.now }
-        ensures never { IfErr result (λ refusal. IsFinal refusal → (more : List ℕ) →
-            ¬ CanFinish self.old (octets.now ++ more)) }
+        ensures refused { IfErr result (Refuses (CanFinish self.old) (IsCut self.old) octets.now) }
         ensures unchanged { result ≡ Err Refusal.Truncated → self.new ≡ self.old }
-        ensures numbers { IfErr result IsOfReading }
     {
         if let Some(string) = &mut self.string {
             if !string.segments.is_closed() {
-                return pass(&self.nest, string, octets);
+                return match string.segments.pass(string.kind, octets) {
+                    Ok(used) => Ok(used),
+                    Err(refusal) => Err(self.nest.refusal_inside(refusal)),
+                };
             }
         }
-        match self.string.take() {
-            None => self.begin(alloc, octets, whole),
-            Some(string) => self.close(alloc, string, whole),
-        }
-    }
-
-    // Takes what stands next where no string has begun.
-    fn begin(
-        &mut self,
-        alloc: Global,
-        octets: &[u8],
-        whole: &mut Option<Value>,
-    ) -> Result<usize, Refusal>
-        requires none { self.old.string ≡ None }
-        requires sound { IsSoundCursor self.old }
-        requires whole { whole.old ≡ None }
-        ensures taken { IfOk result (λ used. IsStep self.old self.new octets.now whole.new used) }
-        ensures sound { OnOk result (IsSoundCursor self.new) }
-        ensures truncated { result ≡ Err Refusal.Truncated → ¬ CanFinish self.old octets.now }
-        ensures cut { result ≡ Err Refusal.Truncated → IsCut self.old octets.now }
-        ensures never { IfErr result (λ refusal. IsFinal refusal → (more : List ℕ) →
-            ¬ CanFinish self.old (octets.now ++ more)) }
-        ensures unchanged { result ≡ Err Refusal.Truncated → self.new ≡ self.old }
-        ensures numbers { IfErr result IsOfReading }
-    {
-        self.nest.step(alloc, octets, &mut self.string, whole)
-    }
-
-    // Puts a string whose last end has come where it belongs. No more octets are taken.
-    fn close(
-        &mut self,
-        alloc: Global,
-        string: OpenString<'a>,
-        whole: &mut Option<Value>,
-    ) -> Result<usize, Refusal>
-        requires none { self.old.string ≡ None }
-        requires closed { string.segments.frames.items ≡ [] }
-        requires sound { IsSoundCursor (with_string self.old.nest string) }
-        requires whole { whole.old ≡ None }
-        ensures taken { IfOk result (λ used. (octets : List ℕ) → IsStep (with_string self.old.nest string.entry) self.new octets whole.new used) }
-        ensures sound { OnOk result (IsSoundCursor self.new) }
-        ensures never { IfErr result (λ refusal. IsFinal refusal → (octets : List ℕ) →
-            ¬ CanFinish (with_string self.old.nest string.entry) octets) }
-        ensures numbers { IfErr result (λ refusal. IsOfReading refusal × (refusal ≢ Refusal.Truncated)) }
-    {
+        let Some(string) = self.string.take() else {
+            return self.nest.step(alloc, octets, &mut self.string, whole);
+        };
         match self.nest.close_string(alloc, string, whole) {
             Ok(_) => Ok(0),
             Err(refusal) => Err(refusal),
@@ -170,25 +119,5 @@ impl<'a> Cursor<'a> {
         ensures { IsTrue result ↔ (self.now.nest.taken ≡ 0) × (self.now.string ≡ None) }
     {
         self.nest.taken == 0 && self.string.is_none()
-    }
-}
-
-// Takes what stands next in a string that has begun in the nest.
-fn pass(nest: &Nest<'_>, string: &mut OpenString<'_>, octets: &[u8]) -> Result<usize, Refusal>
-    requires nest { IsSoundNest nest.now }
-    requires string { IsSoundString nest.now string.old }
-    requires open { string.old.segments.frames.items ≢ [] }
-    ensures taken { IfOk result (λ used. IsTaken (with_string nest.now string.old) (with_string nest.now string.new) octets.now used) }
-    ensures sound { OnOk result (IsSoundString nest.now string.new) }
-    ensures truncated { result ≡ Err Refusal.Truncated → ¬ CanFinish (with_string nest.now string.old) octets.now }
-    ensures cut { result ≡ Err Refusal.Truncated → IsStringCut string.old.kind string.old.segments octets.now }
-    ensures never { IfErr result (λ refusal. IsFinal refusal → (more : List ℕ) →
-        ¬ CanFinish (with_string nest.now string.old) (octets.now ++ more)) }
-    ensures unchanged { result ≡ Err Refusal.Truncated → string.new ≡ string.old }
-    ensures numbers { IfErr result IsOfReading }
-{
-    match string.segments.pass(string.kind, octets) {
-        Ok(used) => Ok(used),
-        Err(refusal) => Err(nest.refusal_inside(refusal)),
     }
 }

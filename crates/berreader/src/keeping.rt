@@ -1,10 +1,8 @@
 //! The octets that the end of a piece has cut: they are kept, and taken with those that come next.
 
-ghost use Rattle.std.specs.Prelude.{◌≡◌, ◌↔◌, IsTrue, ◌≤◌, ◌++◌, ℕ, List, None, [], length, drop, IfOk, IfErr, OnOk};
-ghost use Rattle.types.specs.Refusal.{IsFinal, IsOfReading};
-ghost use Rattle.berreader.specs.Cursor.{CanFinish, IsSoundCursor, IsStep};
-ghost use Rattle.berreader.specs.Cut.{IsCut};
-ghost use Rattle.berreader.specs.Feeding.{GoesOn, HasBeenFed, HasValue, IsFed, IsGoingOn, IsOfFeeding, IsSoundPieces, IsTakenCut, shape_of};
+ghost use Rattle.std.specs.Prelude.{◌≡◌, ◌↔◌, IsTrue, ◌≤◌, ◌++◌, ℕ, List, None, [], length, IfOk, IfErr, OnOk};
+ghost use Rattle.types.specs.Refusal.{IsFinal};
+ghost use Rattle.berreader.specs.Feeding.{HasBeenFed, HasValue, IsFed, IsGoingOn, IsOfFeeding, IsSoundPieces, IsTakenCut, shape_of};
 
 use crate::pieces::{Pieces, is_missing};
 use octets::{Head, Length, read_identifier, read_length};
@@ -59,64 +57,26 @@ impl Pieces<'_> {
         if let Err(refusal) = self.keep(octets) {
             return Err(refusal);
         }
-        match self.step_kept(whole) {
-            Ok(used) => match whole {
-                None => self.take_behind(used, whole),
-                Some(_) => {
-                    let left = self.pending.as_slice().len() - used;
-                    self.forget();
-                    Ok(left)
-                }
-            },
+        let used = match self.cursor.step(self.alloc, &self.pending, whole) {
+            Ok(used) => used,
             Err(refusal) => {
                 if is_missing(refusal) {
                     *whole = None;
-                    Ok(0)
-                } else {
-                    Err(refusal)
+                    return Ok(0);
                 }
+                return Err(refusal);
             }
+        };
+        if whole.is_some() {
+            let left = self.pending.len() - used;
+            self.pending.clear();
+            return Ok(left);
         }
-    }
-
-    // Takes the octets that are kept behind so many, and returns how many are left: none, unless a value is
-    // whole.
-    fn take_behind(&mut self, used: usize, whole: &mut Option<Value>) -> Result<usize, Refusal>
-        requires accepts { self.old.refused ≡ None }
-        requires sound { IsSoundPieces self.old }
-        requires whole { whole.old ≡ None }
-        requires there { used ≤ length self.old.pending.items }
-        ensures going_on { OnOk result (IsGoingOn self.old self.new) }
-        ensures value { IfOk result (λ left. (before : List ℕ) → GoesOn self.old.cursor before (drop used self.old.pending.items) →
-            IsTakenCut self.old self.new (before ++ drop used self.old.pending.items) whole.new left) }
-        ensures never { IfErr result (λ refusal. IsFinal refusal → (before more : List ℕ) →
-            GoesOn self.old.cursor before (drop used self.old.pending.items) →
-            ¬ HasValue (shape_of self.old) (before ++ (drop used self.old.pending.items ++ more))) }
-        ensures numbers { IfErr result IsOfFeeding }
-    {
-        let kept = self.take_kept();
+        let kept = std::mem::replace(&mut self.pending, Vec::new(self.alloc));
         match self.take_whole(&kept[used..], whole) {
             Ok(more) => Ok(kept.len() - used - more),
             Err(refusal) => Err(refusal),
         }
-    }
-
-    // Takes a step over the octets that are kept. Nothing is said of `whole` where it is refused.
-    fn step_kept(&mut self, whole: &mut Option<Value>) -> Result<usize, Refusal>
-        requires sound { IsSoundCursor self.old.cursor }
-        requires whole { whole.old ≡ None }
-        ensures taken { IfOk result (λ used. IsStep self.old.cursor self.new.cursor self.old.pending.items whole.new used) }
-        ensures sound { OnOk result (IsSoundCursor self.new.cursor) }
-        ensures truncated { result ≡ Err Refusal.Truncated → ¬ CanFinish self.old.cursor self.old.pending.items }
-        ensures cut { result ≡ Err Refusal.Truncated → IsCut self.old.cursor self.old.pending.items }
-        ensures never { IfErr result (λ refusal. IsFinal refusal → (more : List ℕ) →
-            ¬ CanFinish self.old.cursor (self.old.pending.items ++ more)) }
-        ensures unchanged { result ≡ Err Refusal.Truncated → self.new.cursor ≡ self.old.cursor }
-        ensures kept { self.new.pending.items ≡ self.old.pending.items }
-        ensures refused { self.new.refused ≡ self.old.refused }
-        ensures numbers { IfErr result IsOfReading }
-    {
-        self.cursor.step(self.alloc, &self.pending, whole)
     }
 
     // Whether no octets are kept.
@@ -138,28 +98,9 @@ impl Pieces<'_> {
             Err(_) => Err(Refusal::NoMemory),
         }
     }
-
-    // Keeps no octets any longer.
-    fn forget(&mut self)
-        ensures none { self.new.pending.items ≡ [] }
-        ensures cursor { self.new.cursor ≡ self.old.cursor }
-        ensures refused { self.new.refused ≡ self.old.refused }
-    {
-        self.pending.clear();
-    }
-
-    // The octets that are kept, which then are no longer.
-    fn take_kept(&mut self) -> Vec<u8>
-        ensures kept { result.items ≡ self.old.pending.items }
-        ensures none { self.new.pending.items ≡ [] }
-        ensures cursor { self.new.cursor ≡ self.old.cursor }
-        ensures refused { self.new.refused ≡ self.old.refused }
-    {
-        std::mem::replace(&mut self.pending, Vec::new(self.alloc))
-    }
 }
 
-// How many octets are surely octets_missing of what a piece's end has cut: at least one.
+// How many octets are surely missing of what a piece's end has cut: at least one.
 fn octets_missing(kept: &[u8]) -> usize
     ensures { 1 ≤ result }
 {

@@ -1,12 +1,13 @@
 //! The open encodings of a value that is being read, each inside the next, and the steps by which it is
 //! read, from one part to the next.
 
-ghost use Rattle.std.specs.Prelude.{◌≡◌, ◌≢◌, ◌≤◌, ◌++◌, ℕ, List, [], take, length, IfOk, IfErr, OnOk, OnErr, None, MatchOption};
+ghost use Rattle.std.specs.Prelude.{◌≡◌, ◌≢◌, ◌≤◌, ◌++◌, ℕ, List, [], take, length, IfOk, IfErr, OnOk, OnErr, None};
 ghost use Rattle.types.specs.Refusal.{IsFinal, IsOfReading};
 ghost use Rattle.types.specs.View.{ty_view};
+ghost use Rattle.encoding_parts.specs.Refuses.{Refuses};
 ghost use Rattle.berreader.specs.Stack.{layers_of, IsCounted};
 ghost use Rattle.berreader.specs.Cut.{IsNestCut};
-ghost use Rattle.berreader.specs.Nest.{CanFinish, EndsInside, IsEndInside, IsSoundNest, IsStep};
+ghost use Rattle.berreader.specs.Nest.{CanFinish, EndsInside, IsEndHere, IsEndInside, IsSoundNest, IsStep};
 ghost use Rattle.berreader.specs.Strings.{IsClosed, IsFound, IsSoundString, IsString};
 
 use crate::stack::{Open, Stack};
@@ -86,13 +87,9 @@ impl<'a> Nest<'a> {
         requires whole { whole.old ≡ None }
         ensures taken { IfOk result (λ used. IsFound self.old self.new octets.now string.new whole.new used) }
         ensures sound { OnOk result (IsSoundNest self.new) }
-        ensures truncated { result ≡ Err Refusal.Truncated → ¬ CanFinish self.old octets.now }
-        ensures cut { result ≡ Err Refusal.Truncated → IsNestCut self.old octets.now }
-        ensures never { IfErr result (λ refusal. IsFinal refusal → (more : List ℕ) →
-            ¬ CanFinish self.old (octets.now ++ more)) }
+        ensures refused { IfErr result (Refuses (CanFinish self.old) (IsNestCut self.old) octets.now) }
         ensures unchanged { result ≡ Err Refusal.Truncated → self.new ≡ self.old }
         ensures kept { OnErr result (string.new ≡ None) }
-        ensures numbers { IfErr result IsOfReading }
     {
         match self.end_here(octets) {
             Ok(Some(used)) => self.close(alloc, used, whole),
@@ -137,15 +134,8 @@ impl<'a> Nest<'a> {
     // How many octets the end of the innermost open encoding has, if it ends here.
     fn end_here(&self, octets: &[u8]) -> Result<Option<usize>, Refusal>
         requires { IsSoundNest self.now }
-        ensures value { IfOk result (λ found. MatchOption found
-            ((more : List ℕ) → ¬ EndsInside (layers_of self.now.layers) self.now.taken (octets.now ++ more))
-            (λ used. (used ≤ length octets.now)
-            × IsEndInside (layers_of self.now.layers) self.now.taken (take used octets.now))) }
-        ensures truncated { result ≡ Err Refusal.Truncated → ¬ CanFinish self.now octets.now }
-        ensures cut { result ≡ Err Refusal.Truncated → IsNestCut self.now octets.now }
-        ensures never { IfErr result (λ refusal. IsFinal refusal → (more : List ℕ) →
-            ¬ CanFinish self.now (octets.now ++ more)) }
-        ensures numbers { IfErr result IsOfReading }
+        ensures value { IfOk result (IsEndHere self.now octets.now) }
+        ensures refused { IfErr result (Refuses (CanFinish self.now) (IsNestCut self.now) octets.now) }
     {
         match self.layers.top() {
             Some(open) => read_end(open.frame, self.taken, octets),

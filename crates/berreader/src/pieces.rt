@@ -2,11 +2,10 @@
 
 ghost use Rattle.std.specs.Prelude.{◌≡◌, ◌↔◌, ◌⊎◌, IsTrue, ◌+◌, ◌<◌, ◌≤◌, ◌++◌, ℕ, List, Some, None, [], length, IfOk, IfErr, IsOk, IsErr, OnOk};
 ghost use Rattle.octets.specs.declared.TheConstants.{MAX_ENCODING};
-ghost use Rattle.types.specs.Refusal.{IsFinal, IsOfReading};
+ghost use Rattle.types.specs.Refusal.{IsFinal};
 ghost use Rattle.types.specs.View.{ty_view};
 ghost use Rattle.berreader.specs.Stack.{layers_of, IsCounted};
-ghost use Rattle.berreader.specs.Cursor.{taken_of, AreTaken, CanFinish, IsSoundCursor, IsStep};
-ghost use Rattle.berreader.specs.Cut.{IsCut};
+ghost use Rattle.berreader.specs.Cursor.{taken_of};
 ghost use Rattle.berreader.specs.Feeding.{GoesOn, HasBeenFed, HasValue, IsFed, IsFinished, IsFresh, IsGoingOn, IsOfFeeding, IsSoundPieces, IsSoundReader, IsTakenWhole, shape_of};
 
 use crate::cursor::Cursor;
@@ -170,9 +169,11 @@ impl<'a> Pieces<'a> {
         let mut at = 0;
         let mut stepped = MAX_NESTED;
         loop {
-            at += self.take_items(&octets[at..], &mut stepped);
+            at += self
+                .cursor
+                .take_items(self.alloc, &octets[at..], &mut stepped);
             let rest = &octets[at..];
-            match self.step(rest, whole) {
+            match self.cursor.step(self.alloc, rest, whole) {
                 Ok(used) => match whole {
                     None => at += used,
                     Some(_) => return Ok(at + used),
@@ -187,35 +188,6 @@ impl<'a> Pieces<'a> {
                 }
             }
         }
-    }
-
-    // Takes items of a list at once, beside the octets that are kept.
-    fn take_items(&mut self, octets: &[u8], stepped: &mut usize) -> usize
-        requires sound { IsSoundCursor self.old.cursor }
-        ensures taken { AreTaken self.old.cursor self.new.cursor octets.now result }
-        ensures sound { IsSoundCursor self.new.cursor }
-        ensures kept { self.new.pending.items ≡ self.old.pending.items }
-        ensures refused { self.new.refused ≡ self.old.refused }
-    {
-        self.cursor.take_items(self.alloc, octets, stepped)
-    }
-
-    // Takes a step over octets beside those that are kept. Nothing is said of `whole` where it is refused.
-    fn step(&mut self, octets: &[u8], whole: &mut Option<Value>) -> Result<usize, Refusal>
-        requires sound { IsSoundCursor self.old.cursor }
-        requires whole { whole.old ≡ None }
-        ensures taken { IfOk result (λ used. IsStep self.old.cursor self.new.cursor octets.now whole.new used) }
-        ensures sound { OnOk result (IsSoundCursor self.new.cursor) }
-        ensures truncated { result ≡ Err Refusal.Truncated → ¬ CanFinish self.old.cursor octets.now }
-        ensures cut { result ≡ Err Refusal.Truncated → IsCut self.old.cursor octets.now }
-        ensures never { IfErr result (λ refusal. IsFinal refusal → (more : List ℕ) →
-            ¬ CanFinish self.old.cursor (octets.now ++ more)) }
-        ensures unchanged { result ≡ Err Refusal.Truncated → self.new.cursor ≡ self.old.cursor }
-        ensures kept { self.new.pending.items ≡ self.old.pending.items }
-        ensures refused { self.new.refused ≡ self.old.refused }
-        ensures numbers { IfErr result IsOfReading }
-    {
-        self.cursor.step(self.alloc, octets, whole)
     }
 
     // No value is whole, and so many octets of a piece were taken: there may be more, unless there are too

@@ -6,8 +6,8 @@ ghost use Rattle.octets.specs.declared.tag.Tag.{Tag};
 ghost use Rattle.types.specs.Shape.{Shape, Val};
 ghost use Rattle.types.specs.View.{ty_view, value_view};
 ghost use Rattle.berreader.specs.Stack.{layers_of, IsCounted};
-ghost use Rattle.berreader.specs.Nest.{IsCome, IsDueInside};
-ghost use Rattle.encoding_parts.specs.Parts.{IsGoodType, IsWrapped};
+ghost use Rattle.berreader.specs.Nest.{IsCome, IsDueInside, IsPlaced, MayCome};
+ghost use Rattle.encoding_parts.specs.Parts.{IsWrapped};
 
 use crate::nest::Nest;
 use encoding_parts::{is_node, wrap};
@@ -27,12 +27,8 @@ impl Nest<'_> {
         used: usize,
         whole: &mut Option<Value>,
     ) -> Result<usize, NoMemory>
-        requires good { IsGoodType (ty_view ty.now) }
-        requires due { IsDueInside (ty_view self.old.ty.now) (layers_of self.old.layers) (ty_view ty.now) }
-        requires room { self.old.taken + used ≤ MAX_ENCODING }
-        requires whole { whole.old ≡ None }
-        ensures come { IfOk result (λ n. IsCome self.old self.new (ty_view ty.now) tag (value_view value) used whole.new n) }
-        ensures counted { IsCounted self.old.layers → OnOk result (IsCounted self.new.layers) }
+        requires { MayCome self.old (ty_view ty.now) used whole.old }
+        ensures { IfOk result (IsPlaced self.old self.new (ty_view ty.now) tag (value_view value) used whole.new) }
     {
         if is_node(ty) {
             return self.put(value, used, whole);
@@ -52,18 +48,14 @@ impl Nest<'_> {
         used: usize,
         whole: &mut Option<Value>,
     ) -> Result<usize, NoMemory>
-        requires good { IsGoodType (ty_view ty.now) }
-        requires due { IsDueInside (ty_view self.old.ty.now) (layers_of self.old.layers) (ty_view ty.now) }
-        requires room { self.old.taken + used ≤ MAX_ENCODING }
-        requires whole { whole.old ≡ None }
-        ensures come { IfOk result (λ n. IsCome self.old self.new (ty_view ty.now) tag (value_view value) used whole.new n) }
-        ensures counted { IsCounted self.old.layers → OnOk result (IsCounted self.new.layers) }
+        requires { MayCome self.old (ty_view ty.now) used whole.old }
+        ensures { IfOk result (IsPlaced self.old self.new (ty_view ty.now) tag (value_view value) used whole.new) }
     {
         let wrapped = wrap(alloc, ty, tag, value)?;
         self.put(wrapped, used, whole)
     }
 
-    // Puts a value of the type of the part that has come.
+    // Puts a value of the type of the part that has come: into the innermost open encoding, or into `whole`.
     fn put(
         &mut self,
         value: Value,
@@ -77,10 +69,15 @@ impl Nest<'_> {
             IsCome self.old self.new type tag v used whole.new n) }
         ensures counted { IsCounted self.old.layers → OnOk result (IsCounted self.new.layers) }
     {
-        self.layers.put(value, whole)?;
-        match whole {
-            None => self.taken += used,
-            Some(_) => self.taken = 0,
+        match &mut self.layers.top {
+            Some(top) => {
+                top.held_parts.put(top.which, value)?;
+                self.taken += used;
+            }
+            None => {
+                *whole = Some(value);
+                self.taken = 0;
+            }
         }
         Ok(used)
     }

@@ -1,19 +1,16 @@
 //! The stack of open constructed encodings, each with its parts.
 
-ghost use Rattle.std.specs.Prelude.{◌≡◌, ◌≤◌, ◌∷◌, [], List, None, length, OnOk, MatchOption};
-ghost use Rattle.types.specs.Shape.{Shape};
-ghost use Rattle.types.specs.View.{value_view};
-ghost use Rattle.encoding_parts.specs.Parts.{Parts, AreGood, IsDue, IsPut};
+ghost use Rattle.std.specs.Prelude.{◌≡◌, ◌≤◌, ◌∷◌, [], List, length, OnOk, MatchOption};
 ghost use Rattle.berreader.specs.Items.{AreItemsInside};
 ghost use Rattle.berreader.specs.Nest.{AreSound};
-ghost use Rattle.berreader.specs.Stack.{Layer, layer_view, layers_of, with_parts, with_which, IsCounted, IsOpenDue, IsPutInside};
+ghost use Rattle.berreader.specs.Stack.{Layer, layer_view, layers_of, with_which, IsCounted};
 
 use berslice::read_items;
 use encoding_parts::{Frame, HeldParts, INLINE_FRAMES};
 use octets::{NoMemory, Tag};
 use smallvec::SmallVec;
 use std::alloc::Global;
-use types::{Ty, Value};
+use types::Ty;
 
 /// An open constructed encoding.
 #[derive(Debug, Drop)]
@@ -114,66 +111,26 @@ impl<'a> Stack<'a> {
     }
 
     // Takes the items at the front that are read at once, behind so many octets of the value, if the innermost one is a
-    // list, and answers how many octets they have.
+    // list and they end within it, and answers how many octets they have.
     pub fn take_items(&mut self, alloc: Global, levels: usize, taken: usize, octets: &[u8]) -> usize
         requires { AreSound (layers_of self.old) }
         ensures there { result ≤ length octets.now }
         ensures items { AreItemsInside levels (layers_of self.old) (layers_of self.new) taken octets.now result }
         ensures counted { IsCounted self.old → IsCounted self.new }
     {
-        match &mut self.top {
-            Some(top) => top.take_items(alloc, levels, taken, octets),
-            None => 0,
-        }
-    }
-
-    // Puts the value of the part that has come into the innermost one; into `whole` where none is open.
-    pub fn put(&mut self, value: Value, whole: &mut Option<Value>) -> Result<(), NoMemory>
-        requires due { IsOpenDue (layers_of self.old) }
-        requires whole { whole.old ≡ None }
-        ensures put { OnOk result (MatchOption whole.new
-            (IsPutInside (layers_of self.old) (value_view value) (layers_of self.new))
-            (λ back. (back ≡ value) × (layers_of self.old ≡ []) × (layers_of self.new ≡ []))) }
-        ensures counted { IsCounted self.old → OnOk result (IsCounted self.new) }
-    {
-        match &mut self.top {
-            Some(top) => top.put(value),
-            None => {
-                *whole = Some(value);
-                Ok(())
-            }
-        }
-    }
-}
-
-impl<'a> Open<'a> {
-    // Takes the items at the front that are read at once and end within it.
-    fn take_items(&mut self, alloc: Global, levels: usize, taken: usize, octets: &[u8]) -> usize
-        requires { AreGood (layer_view self.old).parts }
-        ensures there { result ≤ length octets.now }
-        ensures items { (others : List Layer) →
-            AreItemsInside levels (layer_view self.old ∷ others) (layer_view self.new ∷ others) taken octets.now result }
-    {
-        if taken > self.frame.end {
+        let Some(top) = &mut self.top else {
+            return 0;
+        };
+        if taken > top.frame.end {
             return 0;
         }
-        let inside = &octets[..octets.len().min(self.frame.end - taken)];
-        match &mut self.held_parts {
+        let inside = &octets[..octets.len().min(top.frame.end - taken)];
+        match &mut top.held_parts {
             HeldParts::Items(inner, items) => {
-                read_items(alloc, inner, levels, inside, self.frame.definite, items)
+                read_items(alloc, inner, levels, inside, top.frame.definite, items)
             }
             HeldParts::Explicit(_, _) | HeldParts::Sequence(_, _) | HeldParts::Set(_) => 0,
         }
-    }
-
-    // Puts the value of the part that has come.
-    fn put(&mut self, value: Value) -> Result<(), NoMemory>
-        requires { (type : Shape) × IsDue (layer_view self.old).parts (layer_view self.old).which type }
-        ensures { OnOk result ((parts : Parts)
-            × IsPut (layer_view self.old).parts (layer_view self.old).which (value_view value) parts
-            × (layer_view self.new ≡ with_parts (layer_view self.old) parts)) }
-    {
-        self.held_parts.put(self.which, value)
     }
 }
 

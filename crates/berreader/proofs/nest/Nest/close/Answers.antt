@@ -3,7 +3,7 @@ use Rattle.octets.proofs.ResultLemmas.{IfErr-from}
 use Rattle.types.specs.Refusal.{IsFinal}
 use Rattle.types.specs.View.{value_view}
 use Rattle.berreader.specs.declared.nest.Nest.{Nest}
-use Rattle.berreader.specs.Nest.{CanFinish, EndsInside}
+use Rattle.berreader.specs.Nest.{AreSound, CanFinish, EndsInside}
 use Rattle.berreader.specs.Stack.{layer_view, layers_of}
 use Rattle.berreader.proofs.NestStepLemmas.{IsPopped, sound_popped, room_popped, ready_popped, value_ended, step_come, sound_come_nest}
 use Rattle.berreader.proofs.nest.Nest.close.Goals as goal
@@ -20,14 +20,15 @@ returns-in_err-value-clause-never c =
     let v = value_ended old mid layer octets popped e h in
     c.in_err-value.ensures.none (subst IsFinal same final) v.0 v.1)
 
-pub place_value-requires-clause-room : goal.place_value-requires-clause-room
-place_value-requires-clause-room c =
+pub place_value-requires : goal.place_value-requires
+place_value-requires c =
     let old = c.args.self.now in
     let layer = layer_view c.in-Some.open in
     let mid : Nest = record { ty = old.ty; layers = c.pop.new.self; taken = old.taken } in
     let counted = c.in-Some.ensures.counted c.requires.sound.counted in
     let popped : IsPopped old mid layer = record { sound = c.requires.sound; layers = c.in-Some.ensures.layers; type = refl; taken = refl; counted = counted } in
-    room_popped old mid layer c.requires.ends.0 c.args.used popped c.requires.ends.1 c.requires.ends.2
+    let ready = ready_popped old mid layer c.requires.ends.0 (value_view c.in_ok-value.value) c.args.used popped c.in_ok-value.ensures.value c.requires.ends.1 c.requires.ends.2 in
+    record { good = (subst AreSound popped.layers c.requires.sound.sound).0.type; due = ready.due; room = ready.room; none = c.requires.whole }
 
 pub returns-clause-taken : goal.returns-clause-taken
 returns-clause-taken c = λ octets there e.

@@ -1,13 +1,13 @@
-use Rattle.std.proofs.Common.{◌≡◌, ◌+◌, ◌-◌, ◌≤◌, ◌++◌, ℕ, List, length, refl, subst, arith}
+use Rattle.std.proofs.Common.{◌≡◌, ◌+◌, ◌-◌, ◌≤◌, ◌++◌, ℕ, List, length, refl, sym, subst, arith}
 use Rattle.octets.specs.declared.TheConstants.{MAX_ENCODING}
 use Rattle.octets.proofs.ResultLemmas.{IfErr-from}
 use Rattle.types.specs.Refusal.{IsFinal}
 use Rattle.types.specs.View.{ty_view, value_view}
 use Rattle.berreader.specs.declared.nest.Nest.{Nest}
-use Rattle.berreader.specs.Nest.{CanFinish, IsCome}
+use Rattle.berreader.specs.Nest.{CanFinish, IsCome, IsDueInside}
 use Rattle.berreader.specs.Stack.{layers_of}
 use Rattle.berreader.specs.Strings.{IsString}
-use Rattle.berreader.proofs.NestBackLemmas.{good_next}
+use Rattle.berreader.proofs.NestBackLemmas.{due_which, good_next}
 use Rattle.berreader.proofs.NestStepLemmas.{IsNoted, sound_noted, step_come, sound_come_nest}
 use Rattle.berreader.proofs.StringLemmas.{closed_come, conforms_string, ready_string}
 use Rattle.berreader.proofs.nest.Nest.close_string.Goals as goal
@@ -20,11 +20,20 @@ returns-in_err-value-clause-never c =
     (λ refusal same final passed more h f. c.in_err-value.ensures.none (subst IsFinal same final)
     (conforms_string nest string passed more c.requires.sound c.requires.string.segments c.requires.closed h f))
 
-pub place_value-requires-clause-good : goal.place_value-requires-clause-good
-place_value-requires-clause-good c =
+pub place_value-requires : goal.place_value-requires
+place_value-requires c =
     let nest = c.args.self.now in
-    let next = c.args.string.next in
-    good_next (ty_view nest.ty.now) (layers_of nest.layers) next.which (ty_view next.ty.now) c.requires.sound.type c.requires.sound.sound c.requires.string.begun.next.due
+    let string = c.args.string in
+    let next = string.next in
+    let shape = ty_view nest.ty.now in
+    let type = ty_view next.ty.now in
+    let due = c.requires.string.begun.next.due in
+    record {
+      good = good_next shape (layers_of nest.layers) next.which type c.requires.sound.type c.requires.sound.sound due;
+      due = subst (λ l. IsDueInside shape l type) (sym c.set_which.ensures.layers) (due_which shape (layers_of nest.layers) next.which type due);
+      room = omega (arith, c.requires.string.segments.place, c.requires.string.begun.segments.place);
+      none = c.requires.whole;
+    }
 
 pub returns-clause-taken : goal.returns-clause-taken
 returns-clause-taken c = λ passed h.

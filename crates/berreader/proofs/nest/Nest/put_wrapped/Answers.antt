@@ -1,18 +1,19 @@
-use Rattle.octets.proofs.ResultLemmas.{IfOk-map}
-use Rattle.octets.specs.declared.tag.Tag.{Tag}
-use Rattle.types.specs.Shape.{Shape, Val}
 use Rattle.types.specs.View.{ty_view, value_view}
-use Rattle.encoding_parts.specs.Parts.{IsWrapped}
-use Rattle.berreader.specs.Nest.{IsCome}
+use Rattle.berreader.proofs.NestStepLemmas.{placed}
 use Rattle.berreader.proofs.nest.Nest.put_wrapped.Goals as goal
 
-pub returns-clause-come : goal.returns-clause-come
-returns-clause-come c =
-    let old = c.args.self.now in
-    let new = c.put.new.self in
-    let v = value_view c.args.value in
-    let w = value_view c.in_ok-wrapped.wrapped in
-    let used = c.args.used in
-    let whole = c.put.new.whole in
-    IfOk-map c.put.result (λ n. (type : Shape) (tag : Tag) (u : Val) → IsWrapped type tag u w → IsCome old new type tag u used whole n) (λ n. IsCome old new (ty_view c.args.ty.now) c.args.tag v used whole n)
-    (λ n h. h (ty_view c.args.ty.now) c.args.tag v c.in_ok-wrapped.ensures) c.put.ensures.come
+pub wrap-requires : goal.wrap-requires
+wrap-requires c = c.requires.good
+
+pub put-requires-clause-due : goal.put-requires-clause-due
+put-requires-clause-due c = (ty_view c.args.ty.now, c.requires.due)
+
+pub put-requires-clause-room : goal.put-requires-clause-room
+put-requires-clause-room c = c.requires.room
+
+pub put-requires-clause-whole : goal.put-requires-clause-whole
+put-requires-clause-whole c = c.requires.none
+
+pub returns : goal.returns
+returns c =
+    placed c.args.self.now c.put.new.self (ty_view c.args.ty.now) c.args.tag (value_view c.args.value) (value_view c.in_ok-wrapped.wrapped) c.args.used c.put.new.whole c.put.result c.in_ok-wrapped.ensures c.put.ensures.come c.put.ensures.counted
