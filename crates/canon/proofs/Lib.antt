@@ -12,11 +12,13 @@ pub mod SimpleLemmas
 pub mod NodeLemmas
 pub mod NodeSizeLemmas
 pub mod StepLemmas
+pub mod WritableLemmas
 pub mod TagOrderLemmas
 pub mod TyLemmas
 pub mod TurnLemmas
 pub mod PutLemmas
 pub mod OpeningLemmas
+pub mod WritesLemmas
 pub mod StraightLemmas
 pub mod TagPutLemmas
 pub mod OrderTagLemmas

@@ -8,5 +8,6 @@ pub mod Span
 pub mod Keyed
 pub mod Opening
 pub mod Part
+pub mod Writes
 pub mod Ordered
 pub mod Laws

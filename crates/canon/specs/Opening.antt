@@ -11,6 +11,10 @@ pub record IsOpening (tag : Tag) (old new : List ℕ) (place : ℕ) : Type 0 whe
   pub is : new ≡ (old ++ identifier) ++ 128 ∷ []
   pub at : place ≡ length (old ++ identifier)
 
+-- what stood behind so many octets at that place stands before them
+abbrev pub IsBroughtForward : ℕ → ℕ → List ℕ → List ℕ → Type 0
+IsBroughtForward place count old new = (front inside moved : List ℕ) → length front ≡ place → length inside ≡ count → old ≡ front ++ (inside ++ moved) → new ≡ front ++ (moved ++ inside)
+
 -- the shortest length of the octets behind that place stands where the octet there stood (X.690 10.1)
 pub record IsLengthPut (place : ℕ) (old new : List ℕ) : Type 0 where
   pub size : List ℕ

@@ -13,11 +13,21 @@ pub data AreSegmentsOf (segment : Tag) (whole lead : List ℕ) : List ℕ → Li
   more : {others rest : List ℕ} (string octets : List ℕ) → length (whole ++ string) ≡ segment_octets → IsPrimitive cer segment (whole ++ string) octets
       → AreSegmentsOf segment whole lead others rest → AreSegmentsOf segment whole lead (string ++ others) (octets ++ rest)
 
+-- what the contents octets of segments begin with: none or one octet
+pub record AreLeads (whole lead : List ℕ) : Type 0 where
+  pub alike : length whole ≡ length lead
+  pub few : length lead ≤ 1
+
 -- a constructed encoding of them
 pub record IsCutOf (tag segment : Tag) (whole lead string octets : List ℕ) : Type 0 where
   pub segments_octets : List ℕ
   pub segments : AreSegmentsOf segment whole lead string segments_octets
   pub constructed : IsIndefinite tag segments_octets octets
+
+-- each cut of a string of so many octets, behind a lead of so many, has this size
+abbrev pub SizesCut : Tag → ℕ → ℕ → ℕ → Type 0
+SizesCut tag lead count size =
+    (segment : Tag) (whole front string octets : List ℕ) → segment.number ≤ 30 → length whole ≡ lead → length front ≡ lead → length string ≡ count → IsCutOf tag segment whole front string octets → length octets ≡ size
 
 -- the string as one primitive encoding where it needs no more octets than a segment, and else cut
 pub record IsWholeString (tag : Tag) (lead string octets : List ℕ) : Type 0 where

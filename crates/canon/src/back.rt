@@ -1,17 +1,15 @@
 //! Whole values, written from the last octet to the first, so that each length is known once it comes.
 
-ghost use Rattle.std.specs.Prelude.{IfOk, OnOk, OnErr, map};
-ghost use Rattle.std.specs.List.{AllByRecursion};
-ghost use Rattle.octets.specs.Front.{Appends};
-ghost use Rattle.types.specs.Conforms.{Conforms, SlotsConform};
+ghost use Rattle.std.specs.Prelude.{IfOk, OnErr, map};
 ghost use Rattle.types.specs.Encoding.{IsEncoding};
 ghost use Rattle.types.specs.FirstTags.{tags_of_components, AreDistinct};
 ghost use Rattle.types.specs.Shape.{Shape};
 ghost use Rattle.types.specs.View.{ty_view, value_view, components_view, slots_view, alternatives_view};
-ghost use Rattle.canon.specs.Node.{HasGoodNodes, HaveGoodNodes, AreItems, AreItemsInOrder, AreComponents, AreComponentsByTag};
+ghost use Rattle.canon.specs.Node.{AreItems, AreItemsInOrder, AreComponents, AreComponentsByTag};
 ghost use Rattle.canon.specs.Part.{IsPut, Keeps};
 ghost use Rattle.canon.specs.Rule.{rule_of};
 ghost use Rattle.canon.specs.Turned.{Turned};
+ghost use Rattle.canon.specs.Writes.{IsWritable, AreWritable, AreWritableSlots, Writes};
 
 use crate::heads::{put_end, put_head};
 use crate::leaf::{put_forwards, put_leaf};
@@ -35,11 +33,9 @@ pub(crate) fn put_back(
     value: &Value,
     out: &mut Vec<u8>,
 ) -> Result<(), NoMemory>
-    requires nodes { HasGoodNodes (ty_view ty.now) }
-    requires conforms { Conforms (ty_view ty.now) (value_view value.now) }
-    ensures appended { OnOk result (Appends
-        (Turned (IsEncoding (rule_of rule) (ty_view ty.now) (value_view value.now))) out.old.items out.new.items) }
-    ensures kept { OnErr result (Keeps out.old.items out.new.items) }
+    requires { IsWritable (ty_view ty.now) (value_view value.now) }
+    ensures { Writes (Turned (IsEncoding (rule_of rule) (ty_view ty.now) (value_view value.now)))
+        result out.old.items out.new.items }
 {
     let start = out.len();
     match ty {
@@ -93,11 +89,9 @@ fn put_chosen(
     value: &Value,
     out: &mut Vec<u8>,
 ) -> Result<(), NoMemory>
-    requires nodes { HasGoodNodes (Shape.choice (alternatives_view alternatives.now)) }
-    requires conforms { Conforms (Shape.choice (alternatives_view alternatives.now)) (value_view value.now) }
-    ensures appended { OnOk result (Appends
-        (Turned (IsEncoding (rule_of rule) (Shape.choice (alternatives_view alternatives.now)) (value_view value.now))) out.old.items out.new.items) }
-    ensures kept { OnErr result (Keeps out.old.items out.new.items) }
+    requires { IsWritable (Shape.choice (alternatives_view alternatives.now)) (value_view value.now) }
+    ensures { Writes (Turned (IsEncoding (rule_of rule) (Shape.choice (alternatives_view alternatives.now)) (value_view value.now)))
+        result out.old.items out.new.items }
 {
     let Some((which, chosen)) = chosen_in(value) else {
         unreachable!()
@@ -114,11 +108,9 @@ fn put_items(
     items: &[Value],
     out: &mut Vec<u8>,
 ) -> Result<(), NoMemory>
-    requires nodes { HasGoodNodes (ty_view ty.now) }
-    requires conform { AllByRecursion (Conforms (ty_view ty.now)) (map value_view items.now) }
-    ensures appended { OnOk result (Appends
-        (Turned (AreItems (IsEncoding (rule_of rule) (ty_view ty.now)) (map value_view items.now))) out.old.items out.new.items) }
-    ensures kept { OnErr result (Keeps out.old.items out.new.items) }
+    requires { AreWritable (ty_view ty.now) (map value_view items.now) }
+    ensures { Writes (Turned (AreItems (IsEncoding (rule_of rule) (ty_view ty.now)) (map value_view items.now)))
+        result out.old.items out.new.items }
 {
     if let Some(tag) = leaf_tag(ty) {
         return put_leaves(rule, tag, items, out);
@@ -139,11 +131,9 @@ fn put_in_order(
     items: &[Value],
     out: &mut Vec<u8>,
 ) -> Result<(), NoMemory>
-    requires nodes { HasGoodNodes (ty_view ty.now) }
-    requires conform { AllByRecursion (Conforms (ty_view ty.now)) (map value_view items.now) }
-    ensures appended { OnOk result (Appends
-        (Turned (AreItemsInOrder (IsEncoding (rule_of rule) (ty_view ty.now)) (map value_view items.now))) out.old.items out.new.items) }
-    ensures kept { OnErr result (Keeps out.old.items out.new.items) }
+    requires { AreWritable (ty_view ty.now) (map value_view items.now) }
+    ensures { Writes (Turned (AreItemsInOrder (IsEncoding (rule_of rule) (ty_view ty.now)) (map value_view items.now)))
+        result out.old.items out.new.items }
 {
     if items.len() < 2 {
         return put_items(alloc, rule, ty, items, out);
@@ -169,8 +159,7 @@ pub(crate) fn put_span(
     value: &Value,
     out: &mut Vec<u8>,
 ) -> Result<Span, NoMemory>
-    requires nodes { HasGoodNodes (ty_view ty.now) }
-    requires conforms { Conforms (ty_view ty.now) (value_view value.now) }
+    requires { IsWritable (ty_view ty.now) (value_view value.now) }
     ensures put { IfOk result (IsPut
         (IsEncoding (rule_of rule) (ty_view ty.now) (value_view value.now)) out.old.items out.new.items) }
     ensures kept { OnErr result (Keeps out.old.items out.new.items) }
@@ -191,11 +180,9 @@ fn put_upright(
     value: &Value,
     out: &mut Vec<u8>,
 ) -> Result<(), NoMemory>
-    requires nodes { HasGoodNodes (ty_view ty.now) }
-    requires conforms { Conforms (ty_view ty.now) (value_view value.now) }
-    ensures appended { OnOk result (Appends
-        (IsEncoding (rule_of rule) (ty_view ty.now) (value_view value.now)) out.old.items out.new.items) }
-    ensures kept { OnErr result (Keeps out.old.items out.new.items) }
+    requires { IsWritable (ty_view ty.now) (value_view value.now) }
+    ensures { Writes (IsEncoding (rule_of rule) (ty_view ty.now) (value_view value.now))
+        result out.old.items out.new.items }
 {
     if let Some(tag) = leaf_tag(ty) {
         return put_forwards(rule, tag, value, out);
@@ -215,11 +202,9 @@ fn put_components(
     slots: &[Option<Value>],
     out: &mut Vec<u8>,
 ) -> Result<(), NoMemory>
-    requires nodes { HaveGoodNodes (components_view fields.now) }
-    requires conform { SlotsConform (components_view fields.now) (slots_view slots.now) }
-    ensures appended { OnOk result (Appends
-        (Turned (AreComponents (rule_of rule) (components_view fields.now) (slots_view slots.now))) out.old.items out.new.items) }
-    ensures kept { OnErr result (Keeps out.old.items out.new.items) }
+    requires { AreWritableSlots (components_view fields.now) (slots_view slots.now) }
+    ensures { Writes (Turned (AreComponents (rule_of rule) (components_view fields.now) (slots_view slots.now)))
+        result out.old.items out.new.items }
 {
     let count = fields.len().min(slots.len());
     for done in 0..count {
@@ -241,12 +226,10 @@ fn put_by_tag(
     slots: &[Option<Value>],
     out: &mut Vec<u8>,
 ) -> Result<(), NoMemory>
-    requires nodes { HaveGoodNodes (components_view fields.now) }
+    requires slots { AreWritableSlots (components_view fields.now) (slots_view slots.now) }
     requires distinct { AreDistinct (tags_of_components (components_view fields.now)) }
-    requires conform { SlotsConform (components_view fields.now) (slots_view slots.now) }
-    ensures appended { OnOk result (Appends
-        (Turned (AreComponentsByTag (rule_of rule) (components_view fields.now) (slots_view slots.now))) out.old.items out.new.items) }
-    ensures kept { OnErr result (Keeps out.old.items out.new.items) }
+    ensures { Writes (Turned (AreComponentsByTag (rule_of rule) (components_view fields.now) (slots_view slots.now)))
+        result out.old.items out.new.items }
 {
     let from = out.len();
     let count = fields.len().min(slots.len());

@@ -4,7 +4,7 @@ ghost use Rattle.std.specs.Prelude.{◌≡◌, ◌≤◌, ◌<◌, ◌*◌, ◌^
 ghost use Rattle.octets.specs.Base128.{IsBase128};
 ghost use Rattle.octets.specs.Front.{Appends};
 ghost use Rattle.primitives.specs.Integer.{IsInteger, number_at};
-ghost use Rattle.primitives.specs.Oid.{AreSubidentifiers, IsOid, IsOidValue, IsRelativeOid, IsRelativeOidValue};
+ghost use Rattle.primitives.specs.Oid.{AreSubidentifiers, IsOid, IsOidValue};
 ghost use Rattle.types.specs.View.{value_view};
 ghost use Rattle.canon.specs.Rule.{rule_of};
 ghost use Rattle.canon.specs.Leaf.{IsContentsOf, IsSimple};
@@ -59,7 +59,7 @@ pub(crate) fn size_of_contents(rule: CanonicalRule, value: &Value) -> usize
         Value::WideInteger(octets) => octets.len(),
         Value::Null => 0,
         Value::Oid(arcs) => size_of_oid(arcs.as_slice()),
-        Value::RelativeOid(arcs) => size_of_relative_oid(arcs.as_slice()),
+        Value::RelativeOid(arcs) => size_of_subidentifiers(arcs.as_slice()),
         Value::Bits(_)
         | Value::Octets(_)
         | Value::Text(_)
@@ -104,16 +104,9 @@ fn size_of_oid(arcs: &[u128]) -> usize
     ensures size { (contents : List ℕ) → IsOid arcs.now contents → length contents ≡ result }
     ensures at_most { result ≤ 2451 }
 {
-    size_of_base_128(40 * arcs[0] + arcs[1]) + size_of_subidentifiers(&arcs[2..])
-}
-
-// How many contents octets a RELATIVE-OID has.
-fn size_of_relative_oid(arcs: &[u128]) -> usize
-    requires { IsRelativeOidValue arcs.now }
-    ensures size { (contents : List ℕ) → IsRelativeOid arcs.now contents → length contents ≡ result }
-    ensures at_most { result ≤ 2451 }
-{
-    size_of_subidentifiers(arcs)
+    let shared = size_of_base_128(40 * arcs[0] + arcs[1]);
+    let others = size_of_subidentifiers(&arcs[2..]);
+    shared + others
 }
 
 // How many octets subidentifiers have.

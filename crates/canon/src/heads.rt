@@ -8,10 +8,11 @@ ghost use Rattle.octets.specs.Identifier.{class_bits};
 ghost use Rattle.types.specs.Form.{IsConstructed};
 ghost use Rattle.canon.specs.declared.rule.CanonicalRule.TheVariants.{Cer, Der};
 ghost use Rattle.canon.specs.Leaf.{IsPrimitiveHead};
-ghost use Rattle.canon.specs.Opening.{IsOpening, IsLengthPut};
+ghost use Rattle.canon.specs.Opening.{IsOpening, IsBroughtForward, IsLengthPut};
 ghost use Rattle.canon.specs.Part.{Keeps};
 ghost use Rattle.canon.specs.Rule.{rule_of};
 ghost use Rattle.canon.specs.Turned.{Turned, end_octets};
+ghost use Rattle.canon.specs.Writes.{Writes};
 
 use crate::rule::CanonicalRule;
 use crate::spans::turn;
@@ -24,8 +25,7 @@ pub(crate) fn put_primitive_head(
     contents: usize,
     out: &mut Vec<u8>,
 ) -> Result<(), NoMemory>
-    ensures appended { OnOk result (Appends (IsPrimitiveHead tag contents) out.old.items out.new.items) }
-    ensures kept { OnErr result (Keeps out.old.items out.new.items) }
+    ensures { Writes (IsPrimitiveHead tag contents) result out.old.items out.new.items }
 {
     if tag.number < 31 && contents < 0x80 {
         return put_pair(leading_octet(tag), contents as u8, out);
@@ -36,8 +36,7 @@ pub(crate) fn put_primitive_head(
 // Appends the head of a primitive encoding, of any size.
 #[inline(never)]
 fn put_long_primitive_head(tag: Tag, contents: usize, out: &mut Vec<u8>) -> Result<(), NoMemory>
-    ensures appended { OnOk result (Appends (IsPrimitiveHead tag contents) out.old.items out.new.items) }
-    ensures kept { OnErr result (Keeps out.old.items out.new.items) }
+    ensures { Writes (IsPrimitiveHead tag contents) result out.old.items out.new.items }
 {
     put_identifier(out, tag, false)?;
     put_shortest_length(out, contents)
@@ -168,8 +167,7 @@ fn put_long_length(place: usize, contents: usize, out: &mut Vec<u8>) -> Result<(
 // Moves what stands behind the `count` octets at `place` before them: a few octets.
 fn bring_forward(place: usize, count: usize, out: &mut Vec<u8>)
     requires { place + count ≤ length out.old.items }
-    ensures { (front inside moved : List ℕ) → length front ≡ place → length inside ≡ count →
-        out.old.items ≡ front ++ (inside ++ moved) → out.new.items ≡ front ++ (moved ++ inside) }
+    ensures { IsBroughtForward place count out.old.items out.new.items }
 {
     let few = out.len() - place - count;
     last_to_front(few, &mut out[place..]);

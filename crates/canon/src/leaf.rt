@@ -1,14 +1,13 @@
 //! Encodings of values without parts.
 
-ghost use Rattle.std.specs.Prelude.{◌≡◌, ◌≤◌, ◌+◌, OnOk, OnErr};
+ghost use Rattle.std.specs.Prelude.{◌≤◌, ◌+◌};
 ghost use Rattle.octets.specs.declared.TheConstants.{MAX_ENCODING, MAX_TAG_NUMBER};
-ghost use Rattle.octets.specs.Front.{Appends};
 ghost use Rattle.types.specs.View.{value_view};
 ghost use Rattle.canon.specs.Leaf.{IsLeaf, IsLeafEncoding, IsSimple, IsSimplyEncoded};
-ghost use Rattle.canon.specs.Part.{Keeps};
 ghost use Rattle.canon.specs.Rule.{rule_of};
 ghost use Rattle.canon.specs.Size.{AreShort, HasSize};
 ghost use Rattle.canon.specs.Turned.{Turned};
+ghost use Rattle.canon.specs.Writes.{Writes};
 
 use crate::contents::{put_contents, size_of_contents, size_of_integer};
 use crate::heads::put_primitive_head;
@@ -47,19 +46,9 @@ pub(crate) fn size_of_leaf(rule: CanonicalRule, tag: Tag, value: &Value) -> usiz
         | Value::Enumerated(_)
         | Value::Null
         | Value::Oid(_)
-        | Value::RelativeOid(_) => size_of_simple(rule, tag, value),
+        | Value::RelativeOid(_) => size_of_definite(tag, size_of_contents(rule, value)),
         Value::Fields(_) | Value::Items(_) | Value::Chosen(..) => unreachable!(),
     }
-}
-
-// How many octets the primitive encoding of a value under `tag` has.
-fn size_of_simple(rule: CanonicalRule, tag: Tag, value: &Value) -> usize
-    requires tag { tag.number ≤ MAX_TAG_NUMBER }
-    requires simple { IsSimple (value_view value.now) }
-    ensures at_most { result ≤ MAX_ENCODING + 1 }
-    ensures size { HasSize (IsSimplyEncoded (rule_of rule) tag (value_view value.now)) result }
-{
-    size_of_definite(tag, size_of_contents(rule, value))
 }
 
 // Appends the encoding of a value under `tag`, turned round.
@@ -71,9 +60,8 @@ pub(crate) fn put_leaf(
 ) -> Result<(), NoMemory>
     requires tag { tag.number ≤ MAX_TAG_NUMBER }
     requires leaf { IsLeaf (value_view value.now) }
-    ensures appended { OnOk result (Appends
-        (Turned (IsLeafEncoding (rule_of rule) tag (value_view value.now))) out.old.items out.new.items) }
-    ensures kept { OnErr result (Keeps out.old.items out.new.items) }
+    ensures { Writes (Turned (IsLeafEncoding (rule_of rule) tag (value_view value.now)))
+        result out.old.items out.new.items }
 {
     let start = out.len();
     put_forwards(rule, tag, value, out)?;
@@ -91,9 +79,7 @@ pub(crate) fn put_forwards(
 ) -> Result<(), NoMemory>
     requires tag { tag.number ≤ MAX_TAG_NUMBER }
     requires leaf { IsLeaf (value_view value.now) }
-    ensures appended { OnOk result (Appends
-        (IsLeafEncoding (rule_of rule) tag (value_view value.now)) out.old.items out.new.items) }
-    ensures kept { OnErr result (Keeps out.old.items out.new.items) }
+    ensures { Writes (IsLeafEncoding (rule_of rule) tag (value_view value.now)) result out.old.items out.new.items }
 {
     match value {
         Value::Bits(bits) => {
@@ -131,9 +117,8 @@ pub(crate) fn put_simple(
 ) -> Result<(), NoMemory>
     requires tag { tag.number ≤ MAX_TAG_NUMBER }
     requires simple { IsSimple (value_view value.now) }
-    ensures appended { OnOk result (Appends
-        (IsSimplyEncoded (rule_of rule) tag (value_view value.now)) out.old.items out.new.items) }
-    ensures kept { OnErr result (Keeps out.old.items out.new.items) }
+    ensures written { Writes (IsSimplyEncoded (rule_of rule) tag (value_view value.now))
+        result out.old.items out.new.items }
     ensures short { AreShort (IsSimplyEncoded (rule_of rule) tag (value_view value.now)) }
 {
     match value {

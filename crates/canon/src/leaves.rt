@@ -1,16 +1,15 @@
 //! Lists of values without parts.
 
-ghost use Rattle.std.specs.Prelude.{◌≤◌, ◌+◌, map, IfSome, OnOk, OnErr};
+ghost use Rattle.std.specs.Prelude.{◌≤◌, ◌+◌, map, IfSome};
 ghost use Rattle.std.specs.List.{AllByRecursion};
 ghost use Rattle.octets.specs.declared.TheConstants.{MAX_ENCODING, MAX_TAG_NUMBER};
-ghost use Rattle.octets.specs.Front.{Appends};
 ghost use Rattle.types.specs.View.{ty_view, value_view};
 ghost use Rattle.canon.specs.Leaf.{IsLeaf, IsLeafEncoding, IsLeafOf};
 ghost use Rattle.canon.specs.Node.{AreItems};
-ghost use Rattle.canon.specs.Part.{Keeps};
 ghost use Rattle.canon.specs.Rule.{rule_of};
 ghost use Rattle.canon.specs.Size.{HasSize};
 ghost use Rattle.canon.specs.Turned.{Turned};
+ghost use Rattle.canon.specs.Writes.{Writes};
 
 use crate::leaf::{put_forwards, size_of_leaf};
 use crate::rule::CanonicalRule;
@@ -52,9 +51,8 @@ pub(crate) fn put_leaves(
 ) -> Result<(), NoMemory>
     requires tag { tag.number ≤ MAX_TAG_NUMBER }
     requires leaves { AllByRecursion IsLeaf (map value_view values.now) }
-    ensures appended { OnOk result (Appends
-        (Turned (AreItems (IsLeafEncoding (rule_of rule) tag) (map value_view values.now))) out.old.items out.new.items) }
-    ensures kept { OnErr result (Keeps out.old.items out.new.items) }
+    ensures { Writes (Turned (AreItems (IsLeafEncoding (rule_of rule) tag) (map value_view values.now)))
+        result out.old.items out.new.items }
 {
     let start = out.len();
     join_leaves(rule, tag, values, out)?;
@@ -71,9 +69,8 @@ pub(crate) fn join_leaves(
 ) -> Result<(), NoMemory>
     requires tag { tag.number ≤ MAX_TAG_NUMBER }
     requires leaves { AllByRecursion IsLeaf (map value_view values.now) }
-    ensures appended { OnOk result (Appends
-        (AreItems (IsLeafEncoding (rule_of rule) tag) (map value_view values.now)) out.old.items out.new.items) }
-    ensures kept { OnErr result (Keeps out.old.items out.new.items) }
+    ensures { Writes (AreItems (IsLeafEncoding (rule_of rule) tag) (map value_view values.now))
+        result out.old.items out.new.items }
 {
     for value in values {
         put_forwards(rule, tag, value, out)?;

@@ -9,13 +9,12 @@
 
 ghost use Rattle.std.specs.Prelude.{◌≡◌, ◌≤◌, ◌<◌, ◌+◌, ◌^◌, ◌++◌, [], ℕ, List, length, OnOk, OnErr};
 ghost use Rattle.octets.specs.declared.TheConstants.{MAX_ENCODING, MAX_TAG_NUMBER};
-ghost use Rattle.octets.specs.Front.{Appends};
 ghost use Rattle.octets.specs.Rule.{cer};
 ghost use Rattle.types.specs.Form.{IsPrimitive};
-ghost use Rattle.canon.specs.Part.{Keeps};
 ghost use Rattle.canon.specs.Rule.{rule_of};
-ghost use Rattle.canon.specs.Segments.{AreSegmentsOf, IsCutOf, IsStringOf};
+ghost use Rattle.canon.specs.Segments.{AreLeads, AreSegmentsOf, IsCutOf, IsStringOf, SizesCut};
 ghost use Rattle.canon.specs.Size.{HasSize};
+ghost use Rattle.canon.specs.Writes.{Writes};
 
 use crate::SEGMENT_OCTETS;
 use crate::heads::put_primitive_head;
@@ -51,27 +50,13 @@ fn size_of_cut(tag: Tag, lead: usize, octets: usize) -> usize
     requires lead { lead ≤ 1 }
     requires some { 1 ≤ octets }
     requires within { octets ≤ MAX_ENCODING }
-    ensures size { (segment : Tag) (whole front string b : List ℕ) → segment.number ≤ 30 →
-        length whole ≡ lead → length front ≡ lead → length string ≡ octets →
-        IsCutOf tag segment whole front string b → length b ≡ result }
-{
-    size_of_identifier(tag) + 1 + size_of_segments(lead, octets) + 2
-}
-
-// How many octets its segments have.
-fn size_of_segments(lead: usize, octets: usize) -> usize
-    requires lead { lead ≤ 1 }
-    requires some { 1 ≤ octets }
-    requires within { octets ≤ MAX_ENCODING }
-    ensures size { (segment : Tag) (whole front string b : List ℕ) → segment.number ≤ 30 →
-        length whole ≡ lead → length front ≡ lead → length string ≡ octets →
-        AreSegmentsOf segment whole front string b → length b ≡ result }
-    ensures at_most { result ≤ 2 ^ 24 }
+    ensures { SizesCut tag lead octets result }
 {
     let room = SEGMENT_OCTETS - lead;
     let full = (octets - 1) / room;
     let last = lead + octets - full * room;
-    full * (1 + 3 + SEGMENT_OCTETS) + 1 + size_of_length(last) + last
+    let segments = full * (1 + 3 + SEGMENT_OCTETS) + 1 + size_of_length(last) + last;
+    size_of_identifier(tag) + 1 + segments + 2
 }
 
 // Appends the encoding under `tag` of a string of `octets`, after the contents octets `lead`. Segments
@@ -87,11 +72,9 @@ pub(crate) fn put_string(
 ) -> Result<(), NoMemory>
     requires tag { tag.number ≤ MAX_TAG_NUMBER }
     requires segment { segment.number ≤ 30 }
-    requires whole { length whole.now ≡ length lead.now }
-    requires lead { length lead.now ≤ 1 }
-    ensures appended { OnOk result (Appends
-        (IsStringOf (rule_of rule) tag segment whole.now lead.now octets.now) out.old.items out.new.items) }
-    ensures kept { OnErr result (Keeps out.old.items out.new.items) }
+    requires leads { AreLeads whole.now lead.now }
+    ensures { Writes (IsStringOf (rule_of rule) tag segment whole.now lead.now octets.now)
+        result out.old.items out.new.items }
 {
     match rule {
         CanonicalRule::Cer if octets.len() > SEGMENT_OCTETS - lead.len() => {
@@ -112,9 +95,7 @@ pub(crate) fn put_octets(
 ) -> Result<(), NoMemory>
     requires tag { tag.number ≤ MAX_TAG_NUMBER }
     requires segment { segment.number ≤ 30 }
-    ensures appended { OnOk result
-        (Appends (IsStringOf (rule_of rule) tag segment [] [] octets.now) out.old.items out.new.items) }
-    ensures kept { OnErr result (Keeps out.old.items out.new.items) }
+    ensures { Writes (IsStringOf (rule_of rule) tag segment [] [] octets.now) result out.old.items out.new.items }
 {
     match rule {
         CanonicalRule::Cer if octets.len() > SEGMENT_OCTETS => {
@@ -136,12 +117,9 @@ fn put_cut(
 ) -> Result<(), NoMemory>
     requires tag { tag.number ≤ MAX_TAG_NUMBER }
     requires segment { segment.number ≤ 30 }
-    requires whole { length whole.now ≡ length lead.now }
-    requires lead { length lead.now ≤ 1 }
+    requires leads { AreLeads whole.now lead.now }
     requires some { 1 ≤ length octets.now }
-    ensures appended { OnOk result
-        (Appends (IsCutOf tag segment whole.now lead.now octets.now) out.old.items out.new.items) }
-    ensures kept { OnErr result (Keeps out.old.items out.new.items) }
+    ensures { Writes (IsCutOf tag segment whole.now lead.now octets.now) result out.old.items out.new.items }
 {
     put_identifier(out, tag, true)?;
     out.push(0x80)?;
@@ -159,12 +137,9 @@ fn append_segments(
     out: &mut Vec<u8>,
 ) -> Result<(), NoMemory>
     requires segment { segment.number ≤ 30 }
-    requires whole { length whole.now ≡ length lead.now }
-    requires lead { length lead.now ≤ 1 }
+    requires leads { AreLeads whole.now lead.now }
     requires some { 1 ≤ length octets.now }
-    ensures appended { OnOk result
-        (Appends (AreSegmentsOf segment whole.now lead.now octets.now) out.old.items out.new.items) }
-    ensures kept { OnErr result (Keeps out.old.items out.new.items) }
+    ensures { Writes (AreSegmentsOf segment whole.now lead.now octets.now) result out.old.items out.new.items }
 {
     let room = SEGMENT_OCTETS - lead.len();
     let mut rest = octets;
@@ -181,9 +156,7 @@ fn append_segments(
 fn put_primitive(tag: Tag, lead: &[u8], octets: &[u8], out: &mut Vec<u8>) -> Result<(), NoMemory>
     requires tag { tag.number ≤ MAX_TAG_NUMBER }
     requires lead { length lead.now ≤ 1 }
-    ensures appended { OnOk result
-        (Appends (IsPrimitive cer tag (lead.now ++ octets.now)) out.old.items out.new.items) }
-    ensures kept { OnErr result (Keeps out.old.items out.new.items) }
+    ensures { Writes (IsPrimitive cer tag (lead.now ++ octets.now)) result out.old.items out.new.items }
 {
     put_primitive_head(tag, lead.len() + octets.len(), out)?;
     put_lead(lead, out)?;

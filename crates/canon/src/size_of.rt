@@ -2,14 +2,13 @@
 //! written.
 
 ghost use Rattle.std.specs.Prelude.{◌≤◌, ◌+◌, map};
-ghost use Rattle.std.specs.List.{AllByRecursion};
 ghost use Rattle.octets.specs.declared.TheConstants.{MAX_ENCODING};
-ghost use Rattle.types.specs.Conforms.{Conforms, SlotsConform};
 ghost use Rattle.types.specs.Encoding.{IsEncoding};
 ghost use Rattle.types.specs.View.{ty_view, value_view, components_view, slots_view};
-ghost use Rattle.canon.specs.Node.{HasGoodNodes, HaveGoodNodes, AreItems, AreComponents};
+ghost use Rattle.canon.specs.Node.{AreItems, AreComponents};
 ghost use Rattle.canon.specs.Rule.{rule_of};
 ghost use Rattle.canon.specs.Size.{HasSize};
+ghost use Rattle.canon.specs.Writes.{IsWritable, AreWritable, AreWritableSlots};
 
 use crate::leaf::size_of_leaf;
 use crate::parts::{chosen_in, items_in, slots_in};
@@ -21,8 +20,7 @@ use types::{Field, Ty, Value};
 // How many octets the encoding of `value` has, or one more than the limit. Takes no memory.
 #[cycle(size)]
 pub(crate) fn size_of(rule: CanonicalRule, ty: &Ty, value: &Value) -> usize
-    requires nodes { HasGoodNodes (ty_view ty.now) }
-    requires conforms { Conforms (ty_view ty.now) (value_view value.now) }
+    requires { IsWritable (ty_view ty.now) (value_view value.now) }
     ensures at_most { result ≤ MAX_ENCODING + 1 }
     ensures size { HasSize (IsEncoding (rule_of rule) (ty_view ty.now) (value_view value.now)) result }
 {
@@ -66,8 +64,7 @@ pub(crate) fn size_of(rule: CanonicalRule, ty: &Ty, value: &Value) -> usize
 // How many octets the encodings of items have, one after another, or one more than the limit.
 #[cycle(size)]
 fn size_of_items(rule: CanonicalRule, ty: &Ty, items: &[Value]) -> usize
-    requires nodes { HasGoodNodes (ty_view ty.now) }
-    requires conform { AllByRecursion (Conforms (ty_view ty.now)) (map value_view items.now) }
+    requires { AreWritable (ty_view ty.now) (map value_view items.now) }
     ensures at_most { result ≤ MAX_ENCODING + 1 }
     ensures size { HasSize
         (AreItems (IsEncoding (rule_of rule) (ty_view ty.now)) (map value_view items.now)) result }
@@ -84,8 +81,7 @@ fn size_of_items(rule: CanonicalRule, ty: &Ty, items: &[Value]) -> usize
 // How many octets the encodings of components have, or one more than the limit.
 #[cycle(size)]
 fn size_of_components(rule: CanonicalRule, fields: &[Field], slots: &[Option<Value>]) -> usize
-    requires nodes { HaveGoodNodes (components_view fields.now) }
-    requires conform { SlotsConform (components_view fields.now) (slots_view slots.now) }
+    requires { AreWritableSlots (components_view fields.now) (slots_view slots.now) }
     ensures at_most { result ≤ MAX_ENCODING + 1 }
     ensures size { HasSize
         (AreComponents (rule_of rule) (components_view fields.now) (slots_view slots.now)) result }

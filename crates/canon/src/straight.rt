@@ -1,15 +1,12 @@
 //! Whole values, written from the first octet to the last. A SET or SET OF is written from the last to the
 //! first and then turned round where it stands.
 
-ghost use Rattle.std.specs.Prelude.{OnOk, OnErr, map};
-ghost use Rattle.std.specs.List.{AllByRecursion};
-ghost use Rattle.octets.specs.Front.{Appends};
-ghost use Rattle.types.specs.Conforms.{Conforms, SlotsConform};
+ghost use Rattle.std.specs.Prelude.{map};
 ghost use Rattle.types.specs.Encoding.{IsEncoding};
 ghost use Rattle.types.specs.View.{ty_view, value_view, components_view, slots_view};
-ghost use Rattle.canon.specs.Node.{HasGoodNodes, HaveGoodNodes, AreItems, AreComponents};
-ghost use Rattle.canon.specs.Part.{Keeps};
+ghost use Rattle.canon.specs.Node.{AreItems, AreComponents};
 ghost use Rattle.canon.specs.Rule.{rule_of};
+ghost use Rattle.canon.specs.Writes.{IsWritable, AreWritable, AreWritableSlots, Writes};
 
 use crate::back::put_span;
 use crate::heads::{put_closing, put_opening};
@@ -30,11 +27,9 @@ pub(crate) fn put_straight(
     value: &Value,
     out: &mut Vec<u8>,
 ) -> Result<(), NoMemory>
-    requires nodes { HasGoodNodes (ty_view ty.now) }
-    requires conforms { Conforms (ty_view ty.now) (value_view value.now) }
-    ensures appended { OnOk result (Appends
-        (IsEncoding (rule_of rule) (ty_view ty.now) (value_view value.now)) out.old.items out.new.items) }
-    ensures kept { OnErr result (Keeps out.old.items out.new.items) }
+    requires { IsWritable (ty_view ty.now) (value_view value.now) }
+    ensures { Writes (IsEncoding (rule_of rule) (ty_view ty.now) (value_view value.now))
+        result out.old.items out.new.items }
 {
     match ty {
         Ty::Boolean(tag)
@@ -85,11 +80,9 @@ fn join_items(
     items: &[Value],
     out: &mut Vec<u8>,
 ) -> Result<(), NoMemory>
-    requires nodes { HasGoodNodes (ty_view ty.now) }
-    requires conform { AllByRecursion (Conforms (ty_view ty.now)) (map value_view items.now) }
-    ensures appended { OnOk result (Appends
-        (AreItems (IsEncoding (rule_of rule) (ty_view ty.now)) (map value_view items.now)) out.old.items out.new.items) }
-    ensures kept { OnErr result (Keeps out.old.items out.new.items) }
+    requires { AreWritable (ty_view ty.now) (map value_view items.now) }
+    ensures { Writes (AreItems (IsEncoding (rule_of rule) (ty_view ty.now)) (map value_view items.now))
+        result out.old.items out.new.items }
 {
     if let Some(tag) = leaf_tag(ty) {
         return join_leaves(rule, tag, items, out);
@@ -109,11 +102,9 @@ fn join_components(
     slots: &[Option<Value>],
     out: &mut Vec<u8>,
 ) -> Result<(), NoMemory>
-    requires nodes { HaveGoodNodes (components_view fields.now) }
-    requires conform { SlotsConform (components_view fields.now) (slots_view slots.now) }
-    ensures appended { OnOk result (Appends
-        (AreComponents (rule_of rule) (components_view fields.now) (slots_view slots.now)) out.old.items out.new.items) }
-    ensures kept { OnErr result (Keeps out.old.items out.new.items) }
+    requires { AreWritableSlots (components_view fields.now) (slots_view slots.now) }
+    ensures { Writes (AreComponents (rule_of rule) (components_view fields.now) (slots_view slots.now))
+        result out.old.items out.new.items }
 {
     let count = fields.len().min(slots.len());
     for place in 0..count {
@@ -135,11 +126,9 @@ fn put_part(
     value: &Value,
     out: &mut Vec<u8>,
 ) -> Result<(), NoMemory>
-    requires nodes { HasGoodNodes (ty_view ty.now) }
-    requires conforms { Conforms (ty_view ty.now) (value_view value.now) }
-    ensures appended { OnOk result (Appends
-        (IsEncoding (rule_of rule) (ty_view ty.now) (value_view value.now)) out.old.items out.new.items) }
-    ensures kept { OnErr result (Keeps out.old.items out.new.items) }
+    requires { IsWritable (ty_view ty.now) (value_view value.now) }
+    ensures { Writes (IsEncoding (rule_of rule) (ty_view ty.now) (value_view value.now))
+        result out.old.items out.new.items }
 {
     if let Some(tag) = leaf_tag(ty) {
         return put_forwards(rule, tag, value, out);

@@ -1,103 +1,88 @@
 use Rattle.std.specs.Int.{w128}
-use Rattle.std.proofs.Common.{◌≡◌, ◌∙◌, ℕ, List, OnOk, length, to_z, of_z, subst, ap, arith}
+use Rattle.std.proofs.Common.{◌≡◌, ◌⊎◌, ◌∙◌, ℕ, ℤ, List, Bool, OnOk, OnErr, length, to_z, of_z, subst, ap, arith}
 use Rattle.std.proofs.lemmas.Int.{to_z-of_z}
+use Rattle.std.specs.declared.result.Result.{Result}
+use Rattle.octets.specs.declared.no_memory.NoMemory.{NoMemory}
+use Rattle.octets.specs.declared.tag.Tag.{Tag}
 use Rattle.octets.specs.Front.{Appends}
 use Rattle.octets.proofs.ResultLemmas.{OnOk-map}
 use Rattle.primitives.specs.Boolean.{IsCanonicalBoolean}
 use Rattle.primitives.specs.Integer.{IsInteger}
+use Rattle.types.specs.declared.value.Value.{Value}
+use Rattle.types.specs.declared.value.Value as value_is
 use Rattle.types.specs.View.{value_view}
 use Rattle.types.proofs.ViewLemmas.{value-Boolean}
 use Rattle.canon.specs.Part.{Keeps}
 use Rattle.canon.specs.Rule.{rule_of}
-use Rattle.canon.specs.Leaf.{IsContentsOf, IsSimplyEncoded}
+use Rattle.canon.specs.Leaf.{IsContentsOf, IsPrimitiveHead, IsSimple, IsSimplyEncoded}
+use Rattle.canon.specs.Writes.{Writes}
+use Rattle.canon.specs.declared.rule.CanonicalRule.{CanonicalRule}
 use Rattle.canon.proofs.KeptLemmas.{kept}
 use Rattle.canon.proofs.SimpleLemmas.{simple_made, simple_short, boolean_counts, boolean_contents, number_counts, number_contents, number_fits, number_view}
 use Rattle.canon.proofs.leaf.put_simple.Goals as goal
 
-pub returns-in_ok-put_primitive_head-in-Boolean-clause-appended : goal.returns-in_ok-put_primitive_head-in-Boolean-clause-appended
-returns-in_ok-put_primitive_head-in-Boolean-clause-appended c =
-    let v = value_view c.args.value.now in
-    let truth = c.in-Boolean.truth in
-    let is = ap value_view c.in-Boolean.is ∙ value-Boolean truth in
-    let mid = c.put_primitive_head.new.out.items in
-    let new = c.put_boolean.new.out.items in
-    OnOk-map c.put_boolean.result (Appends (IsCanonicalBoolean truth) mid new) (Appends (IsSimplyEncoded (rule_of c.args.rule) c.args.tag v) c.args.out.now.items new)
-    (λ h. simple_made c.args.rule c.args.tag v 1 c.args.out.now.items mid new c.in_ok-put_primitive_head-in-Boolean.ensures.appended (boolean_contents c.args.rule v truth mid new is h) (boolean_counts c.args.rule v truth is))
-    c.put_boolean.ensures.appended
+-- a head, and contents octets behind it
+written : (r : Result (Unit {0}) NoMemory) (rule : CanonicalRule) (tag : Tag) (value : Value) (n : ℕ) (P : List ℕ → Type 0) (old mid new : List ℕ) → Appends (IsPrimitiveHead tag n) old mid → (Appends P mid new → Appends (IsContentsOf (rule_of rule) (value_view value)) mid new)
+    → ((contents : List ℕ) → IsContentsOf (rule_of rule) (value_view value) contents → length contents ≡ n) → OnOk r (Appends P mid new) → OnErr r (new ≡ mid) → Writes (IsSimplyEncoded (rule_of rule) tag (value_view value)) r old new
+written r rule tag value n P old mid new head is count put unchanged = record {
+  appended = OnOk-map r _ _ (λ h. simple_made rule tag (value_view value) n old mid new head (is h) count) put;
+  kept = kept r (new ≡ mid) (Keeps old new) (λ same. (head.0, same ∙ head.1, tt)) unchanged;
+}
 
-pub returns-in_ok-put_primitive_head-in-Boolean-clause-kept : goal.returns-in_ok-put_primitive_head-in-Boolean-clause-kept
-returns-in_ok-put_primitive_head-in-Boolean-clause-kept c =
-    let old = c.args.out.now.items in
+-- of a BOOLEAN
+truth_counts : (rule : CanonicalRule) (value : Value) (truth : Bool) → value ≡ value_is.Boolean truth → (contents : List ℕ) → IsContentsOf (rule_of rule) (value_view value) contents → length contents ≡ 1
+truth_counts rule value truth is = boolean_counts rule (value_view value) truth (ap value_view is ∙ value-Boolean truth)
+
+-- of an INTEGER or ENUMERATED
+number_same : (value : Value) (number : ℤ) → (value ≡ value_is.Integer number) ⊎ (value ≡ value_is.Enumerated number) → IsSimple (value_view value) → to_z w128 (of_z w128 number) ≡ number
+number_same value number is simple = to_z-of_z w128 number (number_fits (value_view value) number (number_view value number is) simple)
+
+value_counts : (rule : CanonicalRule) (value : Value) (number : ℤ) (n : ℕ) → (value ≡ value_is.Integer number) ⊎ (value ≡ value_is.Enumerated number) → IsSimple (value_view value)
+    → ((contents : List ℕ) → IsInteger (to_z w128 (of_z w128 number)) contents → length contents ≡ n) → (contents : List ℕ) → IsContentsOf (rule_of rule) (value_view value) contents → length contents ≡ n
+value_counts rule value number n is simple count =
+    number_counts rule (value_view value) number n (number_view value number is) (subst (λ m. (contents : List ℕ) → IsInteger m contents → length contents ≡ n) (number_same value number is simple) count)
+
+pub returns-in_ok-put_primitive_head-in-Boolean-clause-written : goal.returns-in_ok-put_primitive_head-in-Boolean-clause-written
+returns-in_ok-put_primitive_head-in-Boolean-clause-written c =
+    let value = c.args.value.now in
+    let truth = c.in-Boolean.truth in
     let mid = c.put_primitive_head.new.out.items in
     let new = c.put_boolean.new.out.items in
-    let head = c.in_ok-put_primitive_head-in-Boolean.ensures.appended in
-    kept c.put_boolean.result (new ≡ mid) (Keeps old new) (λ same. (head.0, same ∙ head.1, tt)) c.put_boolean.ensures.unchanged
+    written c.put_boolean.result c.args.rule c.args.tag value 1 (IsCanonicalBoolean truth) c.args.out.now.items mid new c.in_ok-put_primitive_head-in-Boolean.ensures.appended
+    (boolean_contents c.args.rule (value_view value) truth mid new (ap value_view c.in-Boolean.is ∙ value-Boolean truth)) (truth_counts c.args.rule value truth c.in-Boolean.is) c.put_boolean.ensures.appended c.put_boolean.ensures.unchanged
 
 pub returns-in_ok-put_primitive_head-in-Boolean-clause-short : goal.returns-in_ok-put_primitive_head-in-Boolean-clause-short
 returns-in_ok-put_primitive_head-in-Boolean-clause-short c =
-    let v = value_view c.args.value.now in
-    simple_short c.args.rule c.args.tag v 1 c.requires.tag c.requires.simple (omega arith) (boolean_counts c.args.rule v c.in-Boolean.truth (ap value_view c.in-Boolean.is ∙ value-Boolean c.in-Boolean.truth))
+    simple_short c.args.rule c.args.tag (value_view c.args.value.now) 1 c.requires.tag c.requires.simple (omega arith) (truth_counts c.args.rule c.args.value.now c.in-Boolean.truth c.in-Boolean.is)
 
 pub returns-in_err-put_primitive_head-in-Boolean-clause-short : goal.returns-in_err-put_primitive_head-in-Boolean-clause-short
 returns-in_err-put_primitive_head-in-Boolean-clause-short c =
-    let v = value_view c.args.value.now in
-    simple_short c.args.rule c.args.tag v 1 c.requires.tag c.requires.simple (omega arith) (boolean_counts c.args.rule v c.in-Boolean.truth (ap value_view c.in-Boolean.is ∙ value-Boolean c.in-Boolean.truth))
+    simple_short c.args.rule c.args.tag (value_view c.args.value.now) 1 c.requires.tag c.requires.simple (omega arith) (truth_counts c.args.rule c.args.value.now c.in-Boolean.truth c.in-Boolean.is)
 
-pub returns-in_ok-put_primitive_head-in-Integer-clause-appended : goal.returns-in_ok-put_primitive_head-in-Integer-clause-appended
-returns-in_ok-put_primitive_head-in-Integer-clause-appended c =
-    let v = value_view c.args.value.now in
+pub returns-in_ok-put_primitive_head-in-Integer-clause-written : goal.returns-in_ok-put_primitive_head-in-Integer-clause-written
+returns-in_ok-put_primitive_head-in-Integer-clause-written c =
+    let value = c.args.value.now in
     let number = c.in-Integer.number in
-    let is = number_view c.args.value.now number c.in-Integer.is in
-    let same : to_z w128 (of_z w128 number) ≡ number = to_z-of_z w128 number (number_fits v number is c.requires.simple) in
     let mid = c.put_primitive_head-in-Integer.new.out.items in
     let new = c.put_integer.new.out.items in
-    OnOk-map c.put_integer.result (Appends (IsInteger number) mid new) (Appends (IsSimplyEncoded (rule_of c.args.rule) c.args.tag v) c.args.out.now.items new)
-    (λ h. simple_made c.args.rule c.args.tag v c.size_of_integer.result c.args.out.now.items mid new c.in_ok-put_primitive_head-in-Integer.ensures.appended (number_contents c.args.rule v number mid new is h)
-    (number_counts c.args.rule v number c.size_of_integer.result is (subst (λ n. (contents : List ℕ) → IsInteger n contents → length contents ≡ c.size_of_integer.result) same c.size_of_integer.ensures.size)))
-    (subst (λ n. OnOk c.put_integer.result (Appends (IsInteger n) mid new)) same c.put_integer.ensures.appended)
-
-pub returns-in_ok-put_primitive_head-in-Integer-clause-kept : goal.returns-in_ok-put_primitive_head-in-Integer-clause-kept
-returns-in_ok-put_primitive_head-in-Integer-clause-kept c =
-    let old = c.args.out.now.items in
-    let mid = c.put_primitive_head-in-Integer.new.out.items in
-    let new = c.put_integer.new.out.items in
-    let head = c.in_ok-put_primitive_head-in-Integer.ensures.appended in
-    kept c.put_integer.result (new ≡ mid) (Keeps old new) (λ same. (head.0, same ∙ head.1, tt)) c.put_integer.ensures.unchanged
+    written c.put_integer.result c.args.rule c.args.tag value c.size_of_integer.result (IsInteger number) c.args.out.now.items mid new c.in_ok-put_primitive_head-in-Integer.ensures.appended
+    (number_contents c.args.rule (value_view value) number mid new (number_view value number c.in-Integer.is)) (value_counts c.args.rule value number c.size_of_integer.result c.in-Integer.is c.requires.simple c.size_of_integer.ensures.size)
+    (subst (λ n. OnOk c.put_integer.result (Appends (IsInteger n) mid new)) (number_same value number c.in-Integer.is c.requires.simple) c.put_integer.ensures.appended) c.put_integer.ensures.unchanged
 
 pub returns-in_ok-put_primitive_head-in-Integer-clause-short : goal.returns-in_ok-put_primitive_head-in-Integer-clause-short
 returns-in_ok-put_primitive_head-in-Integer-clause-short c =
-    let v = value_view c.args.value.now in
-    let number = c.in-Integer.number in
-    let is = number_view c.args.value.now number c.in-Integer.is in
-    let same : to_z w128 (of_z w128 number) ≡ number = to_z-of_z w128 number (number_fits v number is c.requires.simple) in
-    simple_short c.args.rule c.args.tag v c.size_of_integer.result c.requires.tag c.requires.simple (omega (arith, c.size_of_integer.ensures.at_most))
-    (number_counts c.args.rule v number c.size_of_integer.result is (subst (λ n. (contents : List ℕ) → IsInteger n contents → length contents ≡ c.size_of_integer.result) same c.size_of_integer.ensures.size))
+    let size = c.size_of_integer in
+    simple_short c.args.rule c.args.tag (value_view c.args.value.now) size.result c.requires.tag c.requires.simple (omega (arith, size.ensures.at_most)) (value_counts c.args.rule c.args.value.now c.in-Integer.number size.result c.in-Integer.is c.requires.simple size.ensures.size)
 
 pub returns-in_err-put_primitive_head-in-Integer-clause-short : goal.returns-in_err-put_primitive_head-in-Integer-clause-short
 returns-in_err-put_primitive_head-in-Integer-clause-short c =
-    let v = value_view c.args.value.now in
-    let number = c.in-Integer.number in
-    let is = number_view c.args.value.now number c.in-Integer.is in
-    let same : to_z w128 (of_z w128 number) ≡ number = to_z-of_z w128 number (number_fits v number is c.requires.simple) in
-    simple_short c.args.rule c.args.tag v c.size_of_integer.result c.requires.tag c.requires.simple (omega (arith, c.size_of_integer.ensures.at_most))
-    (number_counts c.args.rule v number c.size_of_integer.result is (subst (λ n. (contents : List ℕ) → IsInteger n contents → length contents ≡ c.size_of_integer.result) same c.size_of_integer.ensures.size))
+    let size = c.size_of_integer in
+    simple_short c.args.rule c.args.tag (value_view c.args.value.now) size.result c.requires.tag c.requires.simple (omega (arith, size.ensures.at_most)) (value_counts c.args.rule c.args.value.now c.in-Integer.number size.result c.in-Integer.is c.requires.simple size.ensures.size)
 
-pub returns-in_ok-put_primitive_head-in-WideInteger-clause-appended : goal.returns-in_ok-put_primitive_head-in-WideInteger-clause-appended
-returns-in_ok-put_primitive_head-in-WideInteger-clause-appended c =
-    let v = value_view c.args.value.now in
-    let mid = c.put_primitive_head-in-WideInteger.new.out.items in
-    let new = c.put_contents.new.out.items in
-    OnOk-map c.put_contents.result (Appends (IsContentsOf (rule_of c.args.rule) v) mid new) (Appends (IsSimplyEncoded (rule_of c.args.rule) c.args.tag v) c.args.out.now.items new)
-    (λ h. simple_made c.args.rule c.args.tag v c.size_of_contents.result c.args.out.now.items mid new c.in_ok-put_primitive_head-in-WideInteger.ensures.appended h c.size_of_contents.ensures.size)
-    c.put_contents.ensures.appended
-
-pub returns-in_ok-put_primitive_head-in-WideInteger-clause-kept : goal.returns-in_ok-put_primitive_head-in-WideInteger-clause-kept
-returns-in_ok-put_primitive_head-in-WideInteger-clause-kept c =
-    let old = c.args.out.now.items in
-    let mid = c.put_primitive_head-in-WideInteger.new.out.items in
-    let new = c.put_contents.new.out.items in
-    let head = c.in_ok-put_primitive_head-in-WideInteger.ensures.appended in
-    kept c.put_contents.result (new ≡ mid) (Keeps old new) (λ same. (head.0, same ∙ head.1, tt)) c.put_contents.ensures.unchanged
+pub returns-in_ok-put_primitive_head-in-WideInteger-clause-written : goal.returns-in_ok-put_primitive_head-in-WideInteger-clause-written
+returns-in_ok-put_primitive_head-in-WideInteger-clause-written c =
+    written c.put_contents.result c.args.rule c.args.tag c.args.value.now c.size_of_contents.result (IsContentsOf (rule_of c.args.rule) (value_view c.args.value.now)) c.args.out.now.items c.put_primitive_head-in-WideInteger.new.out.items c.put_contents.new.out.items
+    c.in_ok-put_primitive_head-in-WideInteger.ensures.appended (λ h. h) c.size_of_contents.ensures.size c.put_contents.ensures.appended c.put_contents.ensures.unchanged
 
 pub returns-in_ok-put_primitive_head-in-WideInteger-clause-short : goal.returns-in_ok-put_primitive_head-in-WideInteger-clause-short
 returns-in_ok-put_primitive_head-in-WideInteger-clause-short c =

@@ -1,17 +1,18 @@
 use Rattle.std.proofs.Common.{arith}
 use Rattle.canon.specs.Leaf.{IsLeafEncoding}
 use Rattle.canon.specs.Rule.{rule_of}
-use Rattle.canon.proofs.KeptLemmas.{always_kept, keeps_chain}
+use Rattle.canon.proofs.KeptLemmas.{keeps_chain}
 use Rattle.canon.proofs.LeavesLemmas.{leaf_at, item_behind}
+use Rattle.canon.proofs.WritesLemmas.{refused}
 use Rattle.canon.proofs.leaves.join_leaves.Goals as goal
 
 pub put_forwards-requires-clause-leaf : goal.put_forwards-requires-clause-leaf
 put_forwards-requires-clause-leaf c = leaf_at c.args.values.now c.loop-value.value-index c.value-item.result (omega arith) c.value-item.is c.requires.leaves
 
-pub returns-in_err-put_forwards-clause-kept : goal.returns-in_err-put_forwards-clause-kept
-returns-in_err-put_forwards-clause-kept c =
+pub returns-in_err-put_forwards : goal.returns-in_err-put_forwards
+returns-in_err-put_forwards c =
     let done = c.loop-value.invariant in
-    always_kept c.from_residual.result _ (keeps_chain c.args.out.now.items c.loop-value.out.items c.put_forwards.new.out.items (done.0, done.1, tt) c.in_err-put_forwards.ensures.kept)
+    refused _ c.from_residual.ensures.1 (keeps_chain c.args.out.now.items c.loop-value.out.items c.put_forwards.new.out.items (done.0, done.1, tt) c.in_err-put_forwards.ensures.kept)
 
 pub loop-value-preserved : goal.loop-value-preserved
 loop-value-preserved c =

@@ -173,12 +173,12 @@ sort_items-order_value-requires t c =
     let conforms = item_conforms (ty_view c.args.ty.now) c.args.items.now c.loop-item.item-index c.item-item.result (omega arith) c.item-item.is c.requires.conform in
     (search (rules, node.the_lemmas), (c.requires.sound, conforms))
 
-pub sort_items-put_span-requires-clause-conforms : goal.sort_items-put_span-requires-clause-conforms
-sort_items-put_span-requires-clause-conforms t c =
+pub sort_items-put_span-requires : goal.sort_items-put_span-requires
+sort_items-put_span-requires t c =
     let type = ty_view c.args.ty.now in
     let x = c.item-item.result in
     let conforms = item_conforms type c.args.items.now c.loop-item.item-index x (omega arith) c.item-item.is c.requires.conform in
-    same_conforms type (value_view x) (value_view c.in_ok-value.value) c.requires.sound.defaults c.in_ok-value.ensures.same conforms
+    record { nodes = c.requires.sound.nodes; conforms = same_conforms type (value_view x) (value_view c.in_ok-value.value) c.requires.sound.defaults c.in_ok-value.ensures.same conforms }
 
 pub sort_items-loop-item-preserved : goal.sort_items-loop-item-preserved
 sort_items-loop-item-preserved t c =

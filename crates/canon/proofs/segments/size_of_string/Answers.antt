@@ -15,7 +15,7 @@ pub returns-in-Cer-clause-size : goal.returns-in-Cer-clause-size
 returns-in-Cer-clause-size c = λ segment whole front string low one two three.
     let long : 1000 < length (front ++ string) = omega (arith, length-append front string, two, three) in
     let cut = cut_string_size c.args.tag segment whole front string c.size_of_cut.result c.requires.tag low (one ∙ sym two) (omega (arith, two, c.requires.lead)) long
-    (λ octets h. c.size_of_cut.ensures.size segment whole front string octets low one two three h) in
+    (λ octets h. c.size_of_cut.ensures segment whole front string octets low one two three h) in
     let capped : min c.size_of_cut.result 1_048_577 ≡ c.min.result = omega (arith, c.min.ensures) in
     subst (λ (r : CanonicalRule). HasSize (IsStringOf (rule_of r) c.args.tag segment whole front string) c.min.result) (sym c.in-Cer.is) (subst (HasSize (IsStringOf cer c.args.tag segment whole front string)) capped cut)
 

@@ -1,26 +1,28 @@
 use Rattle.std.specs.List.{AllByRecursion}
-use Rattle.std.proofs.Common.{◌≡◌, ◌∙◌, ◌+◌, ◌-◌, ◌<◌, List, Option, Some, None, length, drop, get_or, map, min, sym, ap, subst, arith, rules}
+use Rattle.std.proofs.Common.{◌≡◌, ◌∙◌, ◌+◌, ◌-◌, ◌<◌, List, Some, None, length, drop, get_or, map, min, sym, ap, subst, arith, rules}
 use Rattle.types.specs.declared.ty.Ty.{Ty}
 use Rattle.types.specs.declared.ty.Ty as node
 use Rattle.types.specs.declared.ty.Field.{Field}
 use Rattle.types.specs.declared.ty.Field as field
 use Rattle.types.specs.declared.ty.Alternative as alternative
-use Rattle.types.specs.declared.value.Value.{Value}
 use Rattle.types.specs.Shape.{Val, Shape, Slots, listed}
-use Rattle.types.specs.View.{ty_view, value_view, components_view, slots_view, alternatives_view}
+use Rattle.types.specs.View.{ty_view, value_view, components_view, slots_view}
 use Rattle.types.specs.Conforms.{Conforms}
 use Rattle.types.specs.Encoding.{IsEncoding}
 use Rattle.types.proofs.ViewLemmas.{ty-Choice, ty-Explicit}
 use Rattle.canon.specs.Node.{HasGoodNodes, AreItems, AreComponents}
 use Rattle.canon.specs.Rule.{rule_of}
 use Rattle.canon.specs.Size.{HasSize}
-use Rattle.canon.proofs.AlikeLemmas.{size_alike, alike-chain}
+use Rattle.canon.specs.Writes.{AreWritable}
+use Rattle.canon.proofs.AlikeLemmas.{size_alike}
 use Rattle.canon.proofs.LeafLemmas.{leaf_alike}
-use Rattle.canon.proofs.NodeLemmas.{choice_parts, choice_alike, has_items, has_slots, has_inner, explicit_alike}
+use Rattle.canon.proofs.NodeLemmas.{choice_parts, has_items, has_slots, has_inner, explicit_alike}
 use Rattle.canon.proofs.NodeSizeLemmas.{around_size}
 use Rattle.canon.proofs.SimpleLemmas.{rule_is_canonical}
-use Rattle.canon.proofs.StepLemmas.{item_conforms, item_size, as_many_slots, present_at, size_from_end, present_size, absent_size_any}
+use Rattle.canon.proofs.StepLemmas.{item_size, as_many_slots, present_at, size_from_end, present_size, absent_size_any}
 use Rattle.canon.proofs.TyLemmas.{leaf_view, list_view, set_list_view, record_view, list_size, record_size}
+use Rattle.canon.proofs.StraightLemmas.{chosen_in_choice}
+use Rattle.canon.proofs.WritableLemmas.{stands_at, item_writable, part_writable}
 use Rattle.canon.proofs.size_of.+size.Goals as goal
 use Rattle.canon.proofs.size_of.+size.Goals.{size_of_components-in-Some, size_of_components-in-None}
 
@@ -37,26 +39,17 @@ size_of-size_of-requires t c =
     let alternatives = c.in-Choice.alternatives in
     let is = ap ty_view c.in-Choice.is ∙ ty-Choice alternatives in
     let parts = choice_parts alternatives.items (value_view c.args.value.now) (subst (λ (s : Shape). Conforms s (value_view c.args.value.now)) is c.requires.conforms) (subst HasGoodNodes is c.requires.nodes) in
-    let told = c.in-Some.ensures parts.which parts.value parts.is in
-    let a = c.index.result.now in
-    let at : a ≡ get_or alternatives.items parts.which a = c.index.ensures ∙ ap (λ k. get_or alternatives.items k a) told.0 in
-    (search (rules, node.the_lemmas, alternative.the_lemmas), (parts.alternative.nodes a at, subst (Conforms (ty_view a.ty)) (sym told.1) (parts.alternative.conforms a at)))
+    let here = chosen_in_choice (rule_of c.args.rule) alternatives.items (ty_view c.args.ty.now) (value_view c.args.value.now) c.in-Some.which (value_view c.in-Some.chosen.now) c.index.result.now is parts (c.in-Some.ensures parts.which parts.value parts.is) c.index.ensures in
+    (search (rules, node.the_lemmas, alternative.the_lemmas), here.writable)
 
 pub size_of-returns-in-Some-clause-size : goal.size_of-returns-in-Some-clause-size
 size_of-returns-in-Some-clause-size t c =
-    let rule = rule_of c.args.rule in
     let v = value_view c.args.value.now in
-    let size = c.size_of.result in
     let alternatives = c.in-Choice.alternatives in
     let is = ap ty_view c.in-Choice.is ∙ ty-Choice alternatives in
     let parts = choice_parts alternatives.items v (subst (λ (s : Shape). Conforms s v) is c.requires.conforms) (subst HasGoodNodes is c.requires.nodes) in
-    let told = c.in-Some.ensures parts.which parts.value parts.is in
-    let a = c.index.result.now in
-    let at : a ≡ get_or alternatives.items parts.which a = c.index.ensures ∙ ap (λ k. get_or alternatives.items k a) told.0 in
-    let here : HasSize (IsEncoding rule (ty_view a.ty) parts.value) size = subst (λ (w : Val). HasSize (IsEncoding rule (ty_view a.ty) w) size) told.1 c.size_of.ensures.size in
-    let alike = alike-chain _ _ _ (parts.alternative.encodes rule a at) (choice_alike rule (alternatives_view alternatives.items) parts.which parts.value) in
-    subst (λ (s : Shape). HasSize (IsEncoding rule s v) size) (sym is)
-    (subst (λ (w : Val). HasSize (IsEncoding rule (Shape.choice (alternatives_view alternatives.items)) w) size) (sym parts.is) (size_alike _ _ size alike here))
+    let here = chosen_in_choice (rule_of c.args.rule) alternatives.items (ty_view c.args.ty.now) v c.in-Some.which (value_view c.in-Some.chosen.now) c.index.result.now is parts (c.in-Some.ensures parts.which parts.value parts.is) c.index.ensures in
+    size_alike _ _ c.size_of.result here.alike c.size_of.ensures.size
 
 pub size_of-size_of_items-contents-requires : goal.size_of-size_of_items-contents-requires
 size_of-size_of_items-contents-requires t c =
@@ -64,7 +57,7 @@ size_of-size_of_items-contents-requires t c =
     let shape = list_view c.args.ty.now c.in-SequenceOf.tag inner c.in-SequenceOf.is in
     let parts = has_items c.in-SequenceOf.tag (ty_view inner.value) (ty_view c.args.ty.now) (value_view c.args.value.now) shape c.requires.conforms c.requires.nodes in
     let all : AllByRecursion (Conforms (ty_view inner.value)) (map value_view c.items_in.result.now) = subst (AllByRecursion (Conforms (ty_view inner.value))) (c.items_in.ensures parts.items parts.is) parts.conform in
-    (search (rules, node.the_lemmas), (subst (λ (e : Ty). HasGoodNodes (ty_view e)) (sym c.deref.ensures) parts.nodes, subst (λ (e : Ty). AllByRecursion (Conforms (ty_view e)) (map value_view c.items_in.result.now)) (sym c.deref.ensures) all))
+    (search (rules, node.the_lemmas), subst (λ (e : Ty). AreWritable (ty_view e) (map value_view c.items_in.result.now)) (sym c.deref.ensures) record { nodes = parts.nodes; conform = all })
 
 pub size_of-returns-in-SequenceOf-clause-size : goal.size_of-returns-in-SequenceOf-clause-size
 size_of-returns-in-SequenceOf-clause-size t c =
@@ -86,7 +79,7 @@ size_of-size_of_items-sorted-requires t c =
     let shape = set_list_view c.args.ty.now c.in-SetOf.tag inner c.in-SetOf.is in
     let parts = has_items c.in-SetOf.tag (ty_view inner.value) (ty_view c.args.ty.now) (value_view c.args.value.now) shape c.requires.conforms c.requires.nodes in
     let all : AllByRecursion (Conforms (ty_view inner.value)) (map value_view c.items_in-in-SetOf.result.now) = subst (AllByRecursion (Conforms (ty_view inner.value))) (c.items_in-in-SetOf.ensures parts.items parts.is) parts.conform in
-    (search (rules, node.the_lemmas), (subst (λ (e : Ty). HasGoodNodes (ty_view e)) (sym c.deref-in-SetOf.ensures) parts.nodes, subst (λ (e : Ty). AllByRecursion (Conforms (ty_view e)) (map value_view c.items_in-in-SetOf.result.now)) (sym c.deref-in-SetOf.ensures) all))
+    (search (rules, node.the_lemmas), subst (λ (e : Ty). AreWritable (ty_view e) (map value_view c.items_in-in-SetOf.result.now)) (sym c.deref-in-SetOf.ensures) record { nodes = parts.nodes; conform = all })
 
 pub size_of-returns-in-SetOf-clause-size : goal.size_of-returns-in-SetOf-clause-size
 size_of-returns-in-SetOf-clause-size t c =
@@ -138,7 +131,7 @@ size_of-returns-in-Boolean-clause-size t c =
 
 pub size_of_items-size_of-requires : goal.size_of_items-size_of-requires
 size_of_items-size_of-requires t c =
-    (search rules, (c.requires.nodes, item_conforms (ty_view c.args.ty.now) c.args.items.now (length c.args.items.now - 1 - c.loop-done.done) c.index-items-count.result (omega arith) c.index-items-count.is c.requires.conform))
+    (search rules, item_writable (ty_view c.args.ty.now) c.args.items.now (length c.args.items.now - 1 - c.loop-done.done) c.index-items-count.result (omega arith) c.index-items-count.is c.requires)
 
 pub size_of_items-loop-done-preserved : goal.size_of_items-loop-done-preserved
 size_of_items-loop-done-preserved t c =
@@ -162,15 +155,12 @@ size_of_components-loop-done-init t c =
 
 pub size_of_components-size_of-size-requires : goal.size_of_components-size_of-size-requires
 size_of_components-size_of-size-requires t c =
-    let fields = c.args.fields.now in
-    let slots = c.args.slots.now in
     let place = c.min-count.result - 1 - c.loop-done.done in
-    let bound : place < length fields = omega (arith, c.min-count.ensures) in
-    let f = c.index-fields-place.result in
-    let at : f ≡ get_or fields place f = c.index-fields-place.is in
-    let stands : Some c.in-Some.value ≡ get_or slots place (Some c.in-Some.value) = sym c.in-Some.is ∙ c.index-slots-place.is ∙ ap (λ (d : Option Value). get_or slots place d) c.in-Some.is in
-    let here = present_at fields slots place f c.in-Some.value (omega (arith, c.min-count.ensures)) at stands c.requires.conform c.requires.nodes in
-    (search (rules, node.the_lemmas, field.the_lemmas, bound, at), (subst (λ (g : Field). HasGoodNodes (ty_view g.ty)) at here.nodes, subst (λ (g : Field). Conforms (ty_view g.ty) (value_view c.in-Some.value)) at here.conforms))
+    let bound : place < length c.args.fields.now = omega (arith, c.min-count.ensures) in
+    let at = c.index-fields-place.is in (
+      search (rules, node.the_lemmas, field.the_lemmas, bound, at),
+      part_writable c.args.fields.now c.args.slots.now place c.index-fields-place.result c.index-slots-place.result c.in-Some.value (omega (arith, c.min-count.ensures)) at c.index-slots-place.is c.in-Some.is c.requires,
+    )
 
 pub size_of_components-loop-done-preserved : goal.size_of_components-loop-done-preserved
 size_of_components-loop-done-preserved t c =
@@ -184,18 +174,20 @@ size_of_components-loop-done-preserved t c =
     let place : count - 1 - c.loop-done.done ≡ i = omega arith in
     let there : i < length fields = omega (arith, many, c.min-count.ensures) in
     let here : i < length slots = omega (arith, many, c.min-count.ensures) in
+    let slot = c.index-slots-place.result in
+    let slot_is : slot ≡ get_or slots i slot = c.index-slots-place.is ∙ ap (λ k. get_or slots k slot) place in
     elim c.match-slots-place.branch [
       | size_of_components-in-Some w ↦
           let v = w.in-Some.value in
           let f = w.index-fields-place.result in
-          let stands : Some v ≡ get_or slots i (Some v) = sym w.in-Some.is ∙ c.index-slots-place.is ∙ ap (λ k. get_or slots k c.index-slots-place.result) place ∙ ap (λ (d : Option Value). get_or slots i d) w.in-Some.is in
+          let stands = stands_at slots i slot (Some v) slot_is w.in-Some.is in
           let at : f ≡ get_or fields i f = w.index-fields-place.is ∙ ap (λ k. get_or fields k f) place in
           let is = present_at fields slots i f v here at stands c.requires.conform c.requires.nodes in
           let size = present_size rule fields slots i j f v w.size_of-size.result c.loop-done.total there here (omega arith) at stands is (subst (λ (g : Field). HasSize (IsEncoding rule (ty_view g.ty) (value_view v)) w.size_of-size.result) (sym w.index-fields-place.is) w.size_of-size.ensures.size) c.loop-done.invariant.size in
           let capped : min (c.loop-done.total + w.size_of-size.result) 1_048_577 ≡ c.match-slots-place.total = omega (arith, w.min-total.ensures, w.total-is) in
           record { at_most = omega (arith, w.min-total.ensures, w.total-is); size = subst (λ n. HasSize (AreComponents rule (components_view (drop i fields)) (slots_view (drop i slots))) n) capped size }
       | size_of_components-in-None w ↦
-          let stands : None ≡ get_or slots i None = sym w.in-None.is ∙ c.index-slots-place.is ∙ ap (λ k. get_or slots k c.index-slots-place.result) place ∙ ap (λ (d : Option Value). get_or slots i d) w.in-None.is in
+          let stands = stands_at slots i slot None slot_is w.in-None.is in
           let size = absent_size_any rule fields slots i j c.loop-done.total there here (omega arith) stands (rule_is_canonical c.args.rule) c.requires.conform c.loop-done.invariant.size in
           record { at_most = omega (arith, w.total-is, c.loop-done.invariant.at_most); size = subst (λ n. HasSize (AreComponents rule (components_view (drop i fields)) (slots_view (drop i slots))) n) (sym w.total-is) size }
     ]

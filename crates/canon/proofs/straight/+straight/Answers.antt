@@ -1,45 +1,41 @@
-use Rattle.std.proofs.Common.{◌≡◌, ◌∙◌, ◌+◌, ◌<◌, ℕ, suc, List, Option, Some, None, Vec, Global, length, get_or, map, inl, sym, ap, subst, arith, rules}
+use Rattle.std.proofs.Common.{◌≡◌, ◌∙◌, ◌+◌, ◌<◌, ℕ, suc, List, Some, None, Vec, Global, length, map, inl, sym, ap, subst, arith, rules}
 use Rattle.octets.specs.Front.{Appends}
 use Rattle.types.specs.declared.ty.Ty.{Ty}
 use Rattle.types.specs.declared.ty.Ty as node
 use Rattle.types.specs.declared.ty.Alternative as alternative
 use Rattle.types.specs.declared.ty.Field.{Field}
 use Rattle.types.specs.declared.ty.Field as field
-use Rattle.types.specs.declared.value.Value.{Value}
 use Rattle.types.specs.Conforms.{Conforms}
 use Rattle.types.specs.Encoding.{IsEncoding}
 use Rattle.types.specs.Shape.{Shape, Slots, Val, listed}
 use Rattle.types.specs.View.{ty_view, value_view, components_view, slots_view}
 use Rattle.types.proofs.ViewLemmas.{ty-Sequence, ty-SequenceOf, ty-Choice, ty-Explicit}
-use Rattle.canon.specs.Leaf.{IsLeafEncoding}
 use Rattle.canon.specs.Node.{HasGoodNodes, AreItems, AreComponents}
-use Rattle.canon.specs.Part.{Keeps}
 use Rattle.canon.specs.Rule.{rule_of}
-use Rattle.canon.proofs.AlikeLemmas.{appended_by}
 use Rattle.canon.proofs.JoinLemmas.{BeginsComponents, none_joined, present_joined, absent_joined, all_joined, sequence_around, sequence_of_around}
-use Rattle.canon.proofs.KeptLemmas.{kept, always_kept, keeps_chain}
+use Rattle.canon.proofs.KeptLemmas.{keeps_chain}
 use Rattle.canon.proofs.LeafLemmas.{leaf_alike, leaf_conforms}
 use Rattle.canon.proofs.LeavesLemmas.{leaves_conform, leaves_alike, item_behind}
 use Rattle.canon.proofs.NodeLemmas.{choice_parts, has_items, has_slots, explicit_alike}
-use Rattle.canon.proofs.OpeningLemmas.{opened_kept, around_closed}
+use Rattle.canon.proofs.OpeningLemmas.{opened_kept}
 use Rattle.canon.proofs.SimpleLemmas.{rule_is_canonical}
-use Rattle.canon.proofs.StepLemmas.{item_conforms, as_many_slots, present_at}
+use Rattle.canon.proofs.StepLemmas.{as_many_slots, present_at}
 use Rattle.canon.proofs.StraightLemmas.{chosen_in_choice}
 use Rattle.canon.proofs.TyLemmas.{leaf_view}
+use Rattle.canon.proofs.WritableLemmas.{stands_at, item_writable, part_writable}
+use Rattle.canon.proofs.WritesLemmas.{written_by, refused, written_around}
 use Rattle.canon.proofs.straight.+straight.Goals as goal
 use Rattle.canon.proofs.straight.+straight.Goals.{join_components-in-Some+in_ok-put_part-in-Some, join_components-in-None}
 
-pub put_straight-returns-in-Boolean-clause-appended : goal.put_straight-returns-in-Boolean-clause-appended
-put_straight-returns-in-Boolean-clause-appended t c =
+pub put_straight-returns-in-Boolean : goal.put_straight-returns-in-Boolean
+put_straight-returns-in-Boolean t c =
     let tag = c.in-Boolean.tag in
-    let rule = rule_of c.args.rule in
     let shape = ty_view c.args.ty.now in
-    let v = value_view c.args.value.now in
-    let alike = leaf_alike rule (rule_is_canonical c.args.rule) tag shape v (leaf_view c.args.ty.now tag c.in-Boolean.is) c.requires.conforms in
-    appended_by c.put_forwards.result (IsLeafEncoding rule tag v) (IsEncoding rule shape v) c.args.out.now.items c.put_forwards.new.out.items alike.to c.put_forwards.ensures.appended
+    let alike = leaf_alike (rule_of c.args.rule) (rule_is_canonical c.args.rule) tag shape (value_view c.args.value.now) (leaf_view c.args.ty.now tag c.in-Boolean.is) c.requires.conforms in
+    written_by c.put_forwards.ensures alike.to
 
-pub put_straight-returns-in_ok-join_components-in-Sequence-clause-appended : goal.put_straight-returns-in_ok-join_components-in-Sequence-clause-appended
-put_straight-returns-in_ok-join_components-in-Sequence-clause-appended t c =
+pub put_straight-returns-in_ok-join_components-in-Sequence : goal.put_straight-returns-in_ok-join_components-in-Sequence
+put_straight-returns-in_ok-join_components-in-Sequence t c =
     let rule = rule_of c.args.rule in
     let tag = c.in-Sequence.tag in
     let v = value_view c.args.value.now in
@@ -50,27 +46,19 @@ put_straight-returns-in_ok-join_components-in-Sequence-clause-appended t c =
     let two = c.join_components.new.out.items in
     let here : Appends (AreComponents rule components parts.slots) one two = subst (λ (s : Slots). Appends (AreComponents rule components s) one two) (sym (c.slots_in.ensures parts.slots parts.is))
     (subst (λ (fs : List Field). Appends (AreComponents rule (components_view fs) (slots_view c.slots_in.result.now)) one two) c.deref.ensures.value c.in_ok-join_components-in-Sequence.ensures.appended) in
-    around_closed c.put_closing.result rule tag (AreComponents rule components parts.slots) (IsEncoding rule (ty_view c.args.ty.now) v) c.in_ok-place-in-Sequence.place c.args.out.now.items one two c.put_closing.new.out.items c.in_ok-place-in-Sequence.ensures.opened here
-    ((sequence_around rule tag components parts.slots (ty_view c.args.ty.now) v is parts.is).to) c.put_closing.ensures.closed
+    written_around c.put_closing.result rule tag (AreComponents rule components parts.slots) (IsEncoding rule (ty_view c.args.ty.now) v) c.in_ok-place-in-Sequence.place c.args.out.now.items one two c.put_closing.new.out.items c.in_ok-place-in-Sequence.ensures.opened here
+    ((sequence_around rule tag components parts.slots (ty_view c.args.ty.now) v is parts.is).to) c.put_closing.ensures.closed c.put_closing.ensures.kept
 
-pub put_straight-returns-in_ok-join_components-in-Sequence-clause-kept : goal.put_straight-returns-in_ok-join_components-in-Sequence-clause-kept
-put_straight-returns-in_ok-join_components-in-Sequence-clause-kept t c =
+pub put_straight-returns-in_err-join_components-in-Sequence : goal.put_straight-returns-in_err-join_components-in-Sequence
+put_straight-returns-in_err-join_components-in-Sequence t c =
     let old = c.args.out.now.items in
     let one = c.put_opening.new.out.items in
     let two = c.join_components.new.out.items in
-    let new = c.put_closing.new.out.items in
-    let put = c.in_ok-join_components-in-Sequence.ensures.appended in
-    kept c.put_closing.result (Keeps two new) (Keeps old new) (keeps_chain old two new (keeps_chain old one two (opened_kept c.in-Sequence.tag old one c.in_ok-place-in-Sequence.place c.in_ok-place-in-Sequence.ensures.opened) (put.0, put.1, tt))) c.put_closing.ensures.kept
+    refused _ c.from_residual-in_err-join_components-in-Sequence.ensures.1
+    (keeps_chain old one two (opened_kept c.in-Sequence.tag old one c.in_ok-place-in-Sequence.place c.in_ok-place-in-Sequence.ensures.opened) c.in_err-join_components-in-Sequence.ensures.kept)
 
-pub put_straight-returns-in_err-join_components-in-Sequence-clause-kept : goal.put_straight-returns-in_err-join_components-in-Sequence-clause-kept
-put_straight-returns-in_err-join_components-in-Sequence-clause-kept t c =
-    let old = c.args.out.now.items in
-    let one = c.put_opening.new.out.items in
-    let two = c.join_components.new.out.items in
-    always_kept c.from_residual-in_err-join_components-in-Sequence.result (Keeps old two) (keeps_chain old one two (opened_kept c.in-Sequence.tag old one c.in_ok-place-in-Sequence.place c.in_ok-place-in-Sequence.ensures.opened) c.in_err-join_components-in-Sequence.ensures.kept)
-
-pub put_straight-returns-in_ok-join_items-in-SequenceOf-clause-appended : goal.put_straight-returns-in_ok-join_items-in-SequenceOf-clause-appended
-put_straight-returns-in_ok-join_items-in-SequenceOf-clause-appended t c =
+pub put_straight-returns-in_ok-join_items-in-SequenceOf : goal.put_straight-returns-in_ok-join_items-in-SequenceOf
+put_straight-returns-in_ok-join_items-in-SequenceOf t c =
     let rule = rule_of c.args.rule in
     let tag = c.in-SequenceOf.tag in
     let v = value_view c.args.value.now in
@@ -82,27 +70,19 @@ put_straight-returns-in_ok-join_items-in-SequenceOf-clause-appended t c =
     let two = c.join_items.new.out.items in
     let here : Appends (AreItems (IsEncoding rule type) (listed parts.items)) one two = subst (λ (vs : List Val). Appends (AreItems (IsEncoding rule type) vs) one two) (sym (c.items_in.ensures parts.items parts.is))
     (subst (λ (e : Ty). Appends (AreItems (IsEncoding rule (ty_view e)) (map value_view c.items_in.result.now)) one two) c.deref-in-SequenceOf.ensures c.in_ok-join_items-in-SequenceOf.ensures.appended) in
-    around_closed c.put_closing-in-SequenceOf.result rule tag (AreItems (IsEncoding rule type) (listed parts.items)) (IsEncoding rule (ty_view c.args.ty.now) v) c.in_ok-place-in-SequenceOf.place c.args.out.now.items one two c.put_closing-in-SequenceOf.new.out.items c.in_ok-place-in-SequenceOf.ensures.opened here
-    ((sequence_of_around rule tag type parts.items (ty_view c.args.ty.now) v is parts.is).to) c.put_closing-in-SequenceOf.ensures.closed
+    written_around c.put_closing-in-SequenceOf.result rule tag (AreItems (IsEncoding rule type) (listed parts.items)) (IsEncoding rule (ty_view c.args.ty.now) v) c.in_ok-place-in-SequenceOf.place c.args.out.now.items one two c.put_closing-in-SequenceOf.new.out.items c.in_ok-place-in-SequenceOf.ensures.opened here
+    ((sequence_of_around rule tag type parts.items (ty_view c.args.ty.now) v is parts.is).to) c.put_closing-in-SequenceOf.ensures.closed c.put_closing-in-SequenceOf.ensures.kept
 
-pub put_straight-returns-in_ok-join_items-in-SequenceOf-clause-kept : goal.put_straight-returns-in_ok-join_items-in-SequenceOf-clause-kept
-put_straight-returns-in_ok-join_items-in-SequenceOf-clause-kept t c =
+pub put_straight-returns-in_err-join_items-in-SequenceOf : goal.put_straight-returns-in_err-join_items-in-SequenceOf
+put_straight-returns-in_err-join_items-in-SequenceOf t c =
     let old = c.args.out.now.items in
     let one = c.put_opening-in-SequenceOf.new.out.items in
     let two = c.join_items.new.out.items in
-    let new = c.put_closing-in-SequenceOf.new.out.items in
-    let put = c.in_ok-join_items-in-SequenceOf.ensures.appended in
-    kept c.put_closing-in-SequenceOf.result (Keeps two new) (Keeps old new) (keeps_chain old two new (keeps_chain old one two (opened_kept c.in-SequenceOf.tag old one c.in_ok-place-in-SequenceOf.place c.in_ok-place-in-SequenceOf.ensures.opened) (put.0, put.1, tt))) c.put_closing-in-SequenceOf.ensures.kept
+    refused _ c.from_residual-in_err-join_items-in-SequenceOf.ensures.1
+    (keeps_chain old one two (opened_kept c.in-SequenceOf.tag old one c.in_ok-place-in-SequenceOf.place c.in_ok-place-in-SequenceOf.ensures.opened) c.in_err-join_items-in-SequenceOf.ensures.kept)
 
-pub put_straight-returns-in_err-join_items-in-SequenceOf-clause-kept : goal.put_straight-returns-in_err-join_items-in-SequenceOf-clause-kept
-put_straight-returns-in_err-join_items-in-SequenceOf-clause-kept t c =
-    let old = c.args.out.now.items in
-    let one = c.put_opening-in-SequenceOf.new.out.items in
-    let two = c.join_items.new.out.items in
-    always_kept c.from_residual-in_err-join_items-in-SequenceOf.result (Keeps old two) (keeps_chain old one two (opened_kept c.in-SequenceOf.tag old one c.in_ok-place-in-SequenceOf.place c.in_ok-place-in-SequenceOf.ensures.opened) c.in_err-join_items-in-SequenceOf.ensures.kept)
-
-pub put_straight-returns-in_ok-put_straight-in-Explicit-clause-appended : goal.put_straight-returns-in_ok-put_straight-in-Explicit-clause-appended
-put_straight-returns-in_ok-put_straight-in-Explicit-clause-appended t c =
+pub put_straight-returns-in_ok-put_straight-in-Explicit : goal.put_straight-returns-in_ok-put_straight-in-Explicit
+put_straight-returns-in_ok-put_straight-in-Explicit t c =
     let rule = rule_of c.args.rule in
     let tag = c.in-Explicit.tag in
     let v = value_view c.args.value.now in
@@ -111,24 +91,16 @@ put_straight-returns-in_ok-put_straight-in-Explicit-clause-appended t c =
     let one = c.put_opening-in-Explicit.new.out.items in
     let two = c.put_straight-in-Explicit.new.out.items in
     let here : Appends (IsEncoding rule type v) one two = subst (λ (e : Ty). Appends (IsEncoding rule (ty_view e) v) one two) c.deref-in-Explicit.ensures c.in_ok-put_straight-in-Explicit.ensures.appended in
-    around_closed c.put_closing-in-Explicit.result rule tag (IsEncoding rule type v) (IsEncoding rule (ty_view c.args.ty.now) v) c.in_ok-place-in-Explicit.place c.args.out.now.items one two c.put_closing-in-Explicit.new.out.items c.in_ok-place-in-Explicit.ensures.opened here
-    (λ b h. subst (λ (s : Shape). IsEncoding rule s v b) (sym is) ((explicit_alike rule tag type v).to b h)) c.put_closing-in-Explicit.ensures.closed
+    written_around c.put_closing-in-Explicit.result rule tag (IsEncoding rule type v) (IsEncoding rule (ty_view c.args.ty.now) v) c.in_ok-place-in-Explicit.place c.args.out.now.items one two c.put_closing-in-Explicit.new.out.items c.in_ok-place-in-Explicit.ensures.opened here
+    (λ b h. subst (λ (s : Shape). IsEncoding rule s v b) (sym is) ((explicit_alike rule tag type v).to b h)) c.put_closing-in-Explicit.ensures.closed c.put_closing-in-Explicit.ensures.kept
 
-pub put_straight-returns-in_ok-put_straight-in-Explicit-clause-kept : goal.put_straight-returns-in_ok-put_straight-in-Explicit-clause-kept
-put_straight-returns-in_ok-put_straight-in-Explicit-clause-kept t c =
+pub put_straight-returns-in_err-put_straight-in-Explicit : goal.put_straight-returns-in_err-put_straight-in-Explicit
+put_straight-returns-in_err-put_straight-in-Explicit t c =
     let old = c.args.out.now.items in
     let one = c.put_opening-in-Explicit.new.out.items in
     let two = c.put_straight-in-Explicit.new.out.items in
-    let new = c.put_closing-in-Explicit.new.out.items in
-    let put = c.in_ok-put_straight-in-Explicit.ensures.appended in
-    kept c.put_closing-in-Explicit.result (Keeps two new) (Keeps old new) (keeps_chain old two new (keeps_chain old one two (opened_kept c.in-Explicit.tag old one c.in_ok-place-in-Explicit.place c.in_ok-place-in-Explicit.ensures.opened) (put.0, put.1, tt))) c.put_closing-in-Explicit.ensures.kept
-
-pub put_straight-returns-in_err-put_straight-in-Explicit-clause-kept : goal.put_straight-returns-in_err-put_straight-in-Explicit-clause-kept
-put_straight-returns-in_err-put_straight-in-Explicit-clause-kept t c =
-    let old = c.args.out.now.items in
-    let one = c.put_opening-in-Explicit.new.out.items in
-    let two = c.put_straight-in-Explicit.new.out.items in
-    always_kept c.from_residual-in_err-put_straight-in-Explicit.result (Keeps old two) (keeps_chain old one two (opened_kept c.in-Explicit.tag old one c.in_ok-place-in-Explicit.place c.in_ok-place-in-Explicit.ensures.opened) c.in_err-put_straight-in-Explicit.ensures.kept)
+    refused _ c.from_residual-in_err-put_straight-in-Explicit.ensures.1
+    (keeps_chain old one two (opened_kept c.in-Explicit.tag old one c.in_ok-place-in-Explicit.place c.in_ok-place-in-Explicit.ensures.opened) c.in_err-put_straight-in-Explicit.ensures.kept)
 
 pub put_straight-index-requires : goal.put_straight-index-requires
 put_straight-index-requires t c =
@@ -146,10 +118,10 @@ put_straight-put_straight-requires t c =
     let is = ap ty_view c.in-Choice.is ∙ ty-Choice alternatives in
     let parts = choice_parts alternatives.items v (subst (λ (s : Shape). Conforms s v) is c.requires.conforms) (subst HasGoodNodes is c.requires.nodes) in
     let here = chosen_in_choice rule alternatives.items (ty_view c.args.ty.now) v c.in-Some.which (value_view c.in-Some.chosen.now) c.index.result.now is parts (c.in-Some.ensures parts.which parts.value parts.is) c.index.ensures in
-    (search (rules, node.the_lemmas, alternative.the_lemmas), (here.nodes, here.conforms))
+    (search (rules, node.the_lemmas, alternative.the_lemmas), here.writable)
 
-pub put_straight-returns-in-Some-clause-appended : goal.put_straight-returns-in-Some-clause-appended
-put_straight-returns-in-Some-clause-appended t c =
+pub put_straight-returns-in-Some : goal.put_straight-returns-in-Some
+put_straight-returns-in-Some t c =
     let rule = rule_of c.args.rule in
     let v = value_view c.args.value.now in
     let alternatives = c.in-Choice.alternatives in
@@ -157,47 +129,40 @@ put_straight-returns-in-Some-clause-appended t c =
     let parts = choice_parts alternatives.items v (subst (λ (s : Shape). Conforms s v) is c.requires.conforms) (subst HasGoodNodes is c.requires.nodes) in
     let a = c.index.result.now in
     let here = chosen_in_choice rule alternatives.items (ty_view c.args.ty.now) v c.in-Some.which (value_view c.in-Some.chosen.now) a is parts (c.in-Some.ensures parts.which parts.value parts.is) c.index.ensures in
-    appended_by c.put_straight.result (IsEncoding rule (ty_view a.ty) (value_view c.in-Some.chosen.now)) (IsEncoding rule (ty_view c.args.ty.now) v) c.args.out.now.items c.put_straight.new.out.items here.alike.to c.put_straight.ensures.appended
+    written_by c.put_straight.ensures here.alike.to
 
 pub join_items-join_leaves-requires-clause-leaves : goal.join_items-join_leaves-requires-clause-leaves
 join_items-join_leaves-requires-clause-leaves t c = leaves_conform c.in-Some.tag (ty_view c.args.ty.now) c.in-Some.ensures (map value_view c.args.items.now) c.requires.conform
 
-pub join_items-returns-in-Some-clause-appended : goal.join_items-returns-in-Some-clause-appended
-join_items-returns-in-Some-clause-appended t c =
-    let rule = rule_of c.args.rule in
-    let tag = c.in-Some.tag in
-    let type = ty_view c.args.ty.now in
-    let values = map value_view c.args.items.now in
-    let alike = leaves_alike tag type c.in-Some.ensures rule (rule_is_canonical c.args.rule) values c.requires.conform in
-    appended_by c.join_leaves.result (AreItems (IsLeafEncoding rule tag) values) (AreItems (IsEncoding rule type) values) c.args.out.now.items c.join_leaves.new.out.items alike.to c.join_leaves.ensures.appended
+pub join_items-returns-in-Some : goal.join_items-returns-in-Some
+join_items-returns-in-Some t c =
+    let alike = leaves_alike c.in-Some.tag (ty_view c.args.ty.now) c.in-Some.ensures (rule_of c.args.rule) (rule_is_canonical c.args.rule) (map value_view c.args.items.now) c.requires.conform in
+    written_by c.join_leaves.ensures alike.to
 
 pub join_items-put_straight-requires : goal.join_items-put_straight-requires
-join_items-put_straight-requires t c = (search (rules, node.the_lemmas), (c.requires.nodes, item_conforms (ty_view c.args.ty.now) c.args.items.now c.loop-item.item-index c.item-item.result (omega arith) c.item-item.is c.requires.conform))
+join_items-put_straight-requires t c =
+    (search (rules, node.the_lemmas), item_writable (ty_view c.args.ty.now) c.args.items.now c.loop-item.item-index c.item-item.result (omega arith) c.item-item.is c.requires)
 
 pub join_items-loop-item-preserved : goal.join_items-loop-item-preserved
 join_items-loop-item-preserved t c =
     item_behind (IsEncoding (rule_of c.args.rule) (ty_view c.args.ty.now)) c.args.items.now c.loop-item.item-index c.item-item.result c.args.out.now.items c.loop-item.out.items c.put_straight.new.out.items (omega arith) c.item-item.is c.loop-item.invariant c.in_ok-put_straight.ensures.appended
 
-pub join_items-returns-in_err-put_straight-clause-kept : goal.join_items-returns-in_err-put_straight-clause-kept
-join_items-returns-in_err-put_straight-clause-kept t c =
+pub join_items-returns-in_err-put_straight : goal.join_items-returns-in_err-put_straight
+join_items-returns-in_err-put_straight t c =
     let so_far = c.loop-item.invariant in
-    always_kept c.from_residual.result (Keeps c.args.out.now.items c.put_straight.new.out.items)
-    (keeps_chain c.args.out.now.items c.loop-item.out.items c.put_straight.new.out.items (so_far.0, so_far.1, tt) c.in_err-put_straight.ensures.kept)
+    refused _ c.from_residual.ensures.1 (keeps_chain c.args.out.now.items c.loop-item.out.items c.put_straight.new.out.items (so_far.0, so_far.1, tt) c.in_err-put_straight.ensures.kept)
 
 pub join_components-loop-place-init : goal.join_components-loop-place-init
 join_components-loop-place-init t c = none_joined (rule_of c.args.rule) c.args.fields.now c.args.slots.now c.args.out.now.items
 
 pub join_components-put_part-requires : goal.join_components-put_part-requires
 join_components-put_part-requires t c =
-    let fields = c.args.fields.now in
-    let slots = c.args.slots.now in
     let place = c.loop-place.place in
-    let bound : place < length fields = omega (arith, c.min-count.ensures) in
-    let f = c.index-fields-place.result in
-    let at : f ≡ get_or fields place f = c.index-fields-place.is in
-    let stands : Some c.in-Some.value ≡ get_or slots place (Some c.in-Some.value) = sym c.in-Some.is ∙ c.index-slots-place.is ∙ ap (λ (d : Option Value). get_or slots place d) c.in-Some.is in
-    let here = present_at fields slots place f c.in-Some.value (omega (arith, c.min-count.ensures)) at stands c.requires.conform c.requires.nodes in
-    (search (rules, node.the_lemmas, field.the_lemmas, bound, at), (subst (λ (g : Field). HasGoodNodes (ty_view g.ty)) at here.nodes, subst (λ (g : Field). Conforms (ty_view g.ty) (value_view c.in-Some.value)) at here.conforms))
+    let bound : place < length c.args.fields.now = omega (arith, c.min-count.ensures) in
+    let at = c.index-fields-place.is in (
+      search (rules, node.the_lemmas, field.the_lemmas, bound, at),
+      part_writable c.args.fields.now c.args.slots.now place c.index-fields-place.result c.index-slots-place.result c.in-Some.value (omega (arith, c.min-count.ensures)) at c.index-slots-place.is c.in-Some.is c.requires,
+    )
 
 pub join_components-loop-place-preserved : goal.join_components-loop-place-preserved
 join_components-loop-place-preserved t c =
@@ -213,37 +178,33 @@ join_components-loop-place-preserved t c =
       | join_components-in-Some+in_ok-put_part-in-Some w ↦
           let v = w.in-Some.value in
           let f = w.index-fields-place.result in
-          let stands : Some v ≡ get_or slots i (Some v) = sym w.in-Some.is ∙ c.index-slots-place.is ∙ ap (λ (d : Option Value). get_or slots i d) w.in-Some.is in
+          let stands = stands_at slots i c.index-slots-place.result (Some v) c.index-slots-place.is w.in-Some.is in
           let is = present_at fields slots i f v here w.index-fields-place.is stands c.requires.conform c.requires.nodes in
           let new = w.put_part.new.out.items in
           let put : Appends (IsEncoding rule (ty_view f.ty) (value_view v)) c.loop-place.out.items new = subst (λ (g : Field). Appends (IsEncoding rule (ty_view g.ty) (value_view v)) c.loop-place.out.items new) (sym w.index-fields-place.is) w.in_ok-put_part-in-Some.ensures.appended in
           subst (λ (o : Vec ℕ Global). Appends (BeginsComponents rule fields slots (i + 1)) old o.items) (sym w.out-is)
           (subst (λ n. Appends (BeginsComponents rule fields slots n) old new) next (present_joined rule fields slots i f v old c.loop-place.out.items new there here w.index-fields-place.is stands is c.loop-place.invariant put))
       | join_components-in-None w ↦
-          let stands : None ≡ get_or slots i None = sym w.in-None.is ∙ c.index-slots-place.is ∙ ap (λ (d : Option Value). get_or slots i d) w.in-None.is in
+          let stands = stands_at slots i c.index-slots-place.result None c.index-slots-place.is w.in-None.is in
           subst (λ (o : Vec ℕ Global). Appends (BeginsComponents rule fields slots (i + 1)) old o.items) (sym w.out-is)
           (subst (λ n. Appends (BeginsComponents rule fields slots n) old c.loop-place.out.items) next (absent_joined rule fields slots i old c.loop-place.out.items there here stands (rule_is_canonical c.args.rule) c.requires.conform c.loop-place.invariant))
     ]
 
-pub join_components-returns-clause-appended : goal.join_components-returns-clause-appended
-join_components-returns-clause-appended t c =
+pub join_components-returns : goal.join_components-returns
+join_components-returns t c =
     let many = as_many_slots c.args.fields.now c.args.slots.now c.requires.conform in
-    all_joined (rule_of c.args.rule) c.args.fields.now c.args.slots.now c.loop-place.place c.args.out.now.items c.loop-place.out.items (omega (arith, c.min-count.ensures, many)) many c.loop-place.invariant
+    let whole = all_joined (rule_of c.args.rule) c.args.fields.now c.args.slots.now c.loop-place.place c.args.out.now.items c.loop-place.out.items (omega (arith, c.min-count.ensures, many)) many c.loop-place.invariant in
+    record { appended = whole; kept = tt }
 
-pub join_components-returns-in_err-put_part-in-Some-clause-kept : goal.join_components-returns-in_err-put_part-in-Some-clause-kept
-join_components-returns-in_err-put_part-in-Some-clause-kept t c =
+pub join_components-returns-in_err-put_part-in-Some : goal.join_components-returns-in_err-put_part-in-Some
+join_components-returns-in_err-put_part-in-Some t c =
     let so_far = c.loop-place.invariant in
-    always_kept c.from_residual.result (Keeps c.args.out.now.items c.put_part.new.out.items)
-    (keeps_chain c.args.out.now.items c.loop-place.out.items c.put_part.new.out.items (so_far.0, so_far.1, tt) c.in_err-put_part-in-Some.ensures.kept)
+    refused _ c.from_residual.ensures.1 (keeps_chain c.args.out.now.items c.loop-place.out.items c.put_part.new.out.items (so_far.0, so_far.1, tt) c.in_err-put_part-in-Some.ensures.kept)
 
 pub put_part-put_forwards-requires-clause-leaf : goal.put_part-put_forwards-requires-clause-leaf
 put_part-put_forwards-requires-clause-leaf t c = leaf_conforms c.in-Some.tag (ty_view c.args.ty.now) (value_view c.args.value.now) c.in-Some.ensures c.requires.conforms
 
-pub put_part-returns-in-Some-clause-appended : goal.put_part-returns-in-Some-clause-appended
-put_part-returns-in-Some-clause-appended t c =
-    let rule = rule_of c.args.rule in
-    let tag = c.in-Some.tag in
-    let shape = ty_view c.args.ty.now in
-    let v = value_view c.args.value.now in
-    let alike = leaf_alike rule (rule_is_canonical c.args.rule) tag shape v c.in-Some.ensures c.requires.conforms in
-    appended_by c.put_forwards.result (IsLeafEncoding rule tag v) (IsEncoding rule shape v) c.args.out.now.items c.put_forwards.new.out.items alike.to c.put_forwards.ensures.appended
+pub put_part-returns-in-Some : goal.put_part-returns-in-Some
+put_part-returns-in-Some t c =
+    let alike = leaf_alike (rule_of c.args.rule) (rule_is_canonical c.args.rule) c.in-Some.tag (ty_view c.args.ty.now) (value_view c.args.value.now) c.in-Some.ensures c.requires.conforms in
+    written_by c.put_forwards.ensures alike.to
