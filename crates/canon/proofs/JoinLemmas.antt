@@ -1,17 +1,15 @@
 -- Lemmas on parts that are written one after another, from the first to the last.
-use Rattle.std.proofs.Common.{◌≡◌, ◌∙◌, ◌<◌, ℕ, suc, List, [], ◌∷◌, ◌++◌, Option, Some, None, length, drop, get_or, refl, sym, ap, subst, append_assoc, append-nil}
-use Rattle.octets.specs.declared.tag.Tag.{Tag}
+use Rattle.std.proofs.Common.{◌≡◌, ◌∙◌, ◌<◌, ℕ, suc, List, [], ◌∷◌, ◌++◌, Option, Some, None, length, drop, get_or, refl, sym, ap, subst, subst₂, append_assoc, append-nil}
 use Rattle.octets.specs.Front.{Appends}
 use Rattle.octets.specs.Rule.{Rule, IsCanonical}
 use Rattle.types.specs.declared.ty.Field.{Field}
 use Rattle.types.specs.declared.value.Value.{Value}
 use Rattle.types.specs.Conforms.{SlotsConform}
 use Rattle.types.specs.Encoding.{IsEncoding}
-use Rattle.types.specs.Shape.{Val, Slots, absent, present, Items, listed, Shape, Components, component}
+use Rattle.types.specs.Shape.{Val, Slots, absent, present, Shape, Components, component}
 use Rattle.types.specs.View.{value_view, ty_view, field_view, components_view, slots_view}
-use Rattle.canon.specs.Node.{IsAround, AreItems, AreComponents}
+use Rattle.canon.specs.Node.{AreComponents}
 use Rattle.canon.proofs.AlikeLemmas.{HoldAlike}
-use Rattle.canon.proofs.NodeLemmas.{sequence_alike, sequence_of_alike}
 use Rattle.canon.proofs.NodeSizeLemmas.{absent_stands}
 use Rattle.canon.proofs.StepLemmas.{drop_all, element, type_of_field, IsPresent, absent_at, components_from, slots_from_present, slots_from_absent}
 
@@ -66,13 +64,6 @@ module _ (rule : Rule) (fields : List Field) (slots : List (Option Value)) where
       (subst (λ (ss : List (Option Value)). AreComponents rule (components_view []) (slots_view ss) []) (sym none_left) record { encodings = []; each = tt; joined = refl }) in
       (h.0, h.1, subst (AreComponents rule (components_view fields) (slots_view slots)) (append-nil h.0) (h.2 [] none))
 
--- of a SEQUENCE and of a SEQUENCE OF
-pub sequence_around : (rule : Rule) (tag : Tag) (components : Components) (slots : Slots) (shape : Shape) (v : Val) → shape ≡ Shape.sequence tag components → v ≡ Val.fields slots → HoldAlike (IsAround (AreComponents rule components slots) rule tag) (IsEncoding rule shape v)
-sequence_around rule tag components slots shape v is fields =
-    subst (λ s. HoldAlike (IsAround (AreComponents rule components slots) rule tag) (IsEncoding rule s v)) (sym is)
-    (subst (λ w. HoldAlike (IsAround (AreComponents rule components slots) rule tag) (IsEncoding rule (Shape.sequence tag components) w)) (sym fields) (sequence_alike rule tag components slots))
-
-pub sequence_of_around : (rule : Rule) (tag : Tag) (type : Shape) (items : Items) (shape : Shape) (v : Val) → shape ≡ Shape.sequence_of tag type → v ≡ Val.items items → HoldAlike (IsAround (AreItems (IsEncoding rule type) (listed items)) rule tag) (IsEncoding rule shape v)
-sequence_of_around rule tag type items shape v is held =
-    subst (λ s. HoldAlike (IsAround (AreItems (IsEncoding rule type) (listed items)) rule tag) (IsEncoding rule s v)) (sym is)
-    (subst (λ w. HoldAlike (IsAround (AreItems (IsEncoding rule type) (listed items)) rule tag) (IsEncoding rule (Shape.sequence_of tag type) w)) (sym held) (sequence_of_alike rule tag type items))
+-- of a type and a value that are known
+pub encoded_as : (rule : Rule) (P : List ℕ → Type 0) (shape other : Shape) (v w : Val) → shape ≡ other → v ≡ w → HoldAlike P (IsEncoding rule other w) → HoldAlike P (IsEncoding rule shape v)
+encoded_as rule P shape other v w is same h = subst₂ (λ (s : Shape) (u : Val). HoldAlike P (IsEncoding rule s u)) (sym is) (sym same) h

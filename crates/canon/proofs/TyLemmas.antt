@@ -21,11 +21,9 @@ use Rattle.canon.proofs.NodeLemmas.{IsListOf, IsRecordOf, HasItems, HasSlots, se
 use Rattle.canon.proofs.NodeSizeLemmas.{SizesConstructed, around_size, ordered_items_size}
 use Rattle.canon.proofs.TagOrderLemmas.{by_tag_size}
 
-pub list_view : (ty : Ty) (tag : Tag) (inner : Box Ty Global) → ty ≡ node.SequenceOf tag inner → IsListOf tag (ty_view inner.value) (ty_view ty)
-list_view ty tag inner is = inl (ap ty_view is ∙ ty-SequenceOf tag inner)
-
-pub set_list_view : (ty : Ty) (tag : Tag) (inner : Box Ty Global) → ty ≡ node.SetOf tag inner → IsListOf tag (ty_view inner.value) (ty_view ty)
-set_list_view ty tag inner is = inr (ap ty_view is ∙ ty-SetOf tag inner)
+pub list_view : (ty : Ty) (tag : Tag) (inner : Box Ty Global) → (ty ≡ node.SequenceOf tag inner) ⊎ (ty ≡ node.SetOf tag inner) → IsListOf tag (ty_view inner.value) (ty_view ty)
+list_view ty tag inner (inl is) = inl (ap ty_view is ∙ ty-SequenceOf tag inner)
+list_view ty tag inner (inr is) = inr (ap ty_view is ∙ ty-SetOf tag inner)
 
 pub record_view : (ty : Ty) (tag : Tag) (fields : Vec Field Global) → (ty ≡ node.Sequence tag fields) ⊎ (ty ≡ node.Set tag fields) → IsRecordOf tag (components_view fields.items) (ty_view ty)
 record_view ty tag fields (inl is) = inl (ap ty_view is ∙ ty-Sequence tag fields)

@@ -150,7 +150,8 @@ fn put_in_order(
     arrange_turned(alloc, out, from, &sorted)
 }
 
-// Appends the encoding of `value` and returns where it stands.
+// Appends the encoding of `value` and returns where it stands. One without parts is written as it stands, and is not
+// turned round twice.
 #[cycle(back)]
 pub(crate) fn put_span(
     alloc: Global,
@@ -165,32 +166,15 @@ pub(crate) fn put_span(
     ensures kept { OnErr result (Keeps out.old.items out.new.items) }
 {
     let start = out.len();
-    put_upright(alloc, rule, ty, value, out)?;
-    let end = out.len();
-    Ok(Span { start, end })
-}
-
-// Appends the encoding of `value`: one without parts is written so, and is not turned round twice.
-#[cycle(back)]
-#[inline(always)]
-fn put_upright(
-    alloc: Global,
-    rule: CanonicalRule,
-    ty: &Ty,
-    value: &Value,
-    out: &mut Vec<u8>,
-) -> Result<(), NoMemory>
-    requires { IsWritable (ty_view ty.now) (value_view value.now) }
-    ensures { Writes (IsEncoding (rule_of rule) (ty_view ty.now) (value_view value.now))
-        result out.old.items out.new.items }
-{
     if let Some(tag) = leaf_tag(ty) {
-        return put_forwards(rule, tag, value, out);
+        put_forwards(rule, tag, value, out)?;
+        let end = out.len();
+        return Ok(Span { start, end });
     }
-    let start = out.len();
     put_back(alloc, rule, ty, value, out)?;
     turn(out, start);
-    Ok(())
+    let end = out.len();
+    Ok(Span { start, end })
 }
 
 // Appends the encodings of components, the last first, each turned round.

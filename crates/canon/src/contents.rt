@@ -1,6 +1,6 @@
 //! Contents octets of the values whose encodings are primitive.
 
-ghost use Rattle.std.specs.Prelude.{◌≡◌, ◌≤◌, ◌<◌, ◌*◌, ◌^◌, ◌∷◌, ℕ, List, length, Bool, All, OnOk, OnErr};
+ghost use Rattle.std.specs.Prelude.{◌≡◌, ◌≤◌, ◌<◌, ◌*◌, ◌^◌, ℕ, List, length, OnOk, OnErr};
 ghost use Rattle.octets.specs.Base128.{IsBase128};
 ghost use Rattle.octets.specs.Front.{Appends};
 ghost use Rattle.primitives.specs.Integer.{IsInteger, number_at};

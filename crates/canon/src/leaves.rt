@@ -1,20 +1,19 @@
 //! Lists of values without parts.
 
-ghost use Rattle.std.specs.Prelude.{◌≤◌, ◌+◌, map, IfSome};
+ghost use Rattle.std.specs.Prelude.{◌≤◌, map, IfSome};
 ghost use Rattle.std.specs.List.{AllByRecursion};
-ghost use Rattle.octets.specs.declared.TheConstants.{MAX_ENCODING, MAX_TAG_NUMBER};
+ghost use Rattle.octets.specs.declared.TheConstants.{MAX_TAG_NUMBER};
 ghost use Rattle.types.specs.View.{ty_view, value_view};
 ghost use Rattle.canon.specs.Leaf.{IsLeaf, IsLeafEncoding, IsLeafOf};
 ghost use Rattle.canon.specs.Node.{AreItems};
 ghost use Rattle.canon.specs.Rule.{rule_of};
-ghost use Rattle.canon.specs.Size.{HasSize};
 ghost use Rattle.canon.specs.Turned.{Turned};
 ghost use Rattle.canon.specs.Writes.{Writes};
 
-use crate::leaf::{put_forwards, size_of_leaf};
+use crate::leaf::put_forwards;
 use crate::rule::CanonicalRule;
 use crate::spans::turn;
-use octets::{MAX_ENCODING, NoMemory, Tag};
+use octets::{NoMemory, Tag};
 use types::{Ty, Value};
 
 // The tag of a type without parts; nothing of another.

@@ -7,7 +7,7 @@
 //! That the last segment carries at least one octet of data is this project's own rule
 //! (`docs/PROFILE.md`, "The last segment").
 
-ghost use Rattle.std.specs.Prelude.{◌≡◌, ◌≤◌, ◌<◌, ◌+◌, ◌^◌, ◌++◌, [], ℕ, List, length, OnOk, OnErr};
+ghost use Rattle.std.specs.Prelude.{◌≡◌, ◌≤◌, ◌<◌, ◌+◌, ◌++◌, [], ℕ, List, length, OnOk, OnErr};
 ghost use Rattle.octets.specs.declared.TheConstants.{MAX_ENCODING, MAX_TAG_NUMBER};
 ghost use Rattle.octets.specs.Rule.{cer};
 ghost use Rattle.types.specs.Form.{IsPrimitive};
@@ -115,10 +115,10 @@ fn put_cut(
     octets: &[u8],
     out: &mut Vec<u8>,
 ) -> Result<(), NoMemory>
+    requires some { 1 ≤ length octets.now }
     requires tag { tag.number ≤ MAX_TAG_NUMBER }
     requires segment { segment.number ≤ 30 }
     requires leads { AreLeads whole.now lead.now }
-    requires some { 1 ≤ length octets.now }
     ensures { Writes (IsCutOf tag segment whole.now lead.now octets.now) result out.old.items out.new.items }
 {
     put_identifier(out, tag, true)?;
@@ -136,9 +136,9 @@ fn append_segments(
     octets: &[u8],
     out: &mut Vec<u8>,
 ) -> Result<(), NoMemory>
+    requires some { 1 ≤ length octets.now }
     requires segment { segment.number ≤ 30 }
     requires leads { AreLeads whole.now lead.now }
-    requires some { 1 ≤ length octets.now }
     ensures { Writes (AreSegmentsOf segment whole.now lead.now octets.now) result out.old.items out.new.items }
 {
     let room = SEGMENT_OCTETS - lead.len();

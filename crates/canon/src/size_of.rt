@@ -40,13 +40,9 @@ pub(crate) fn size_of(rule: CanonicalRule, ty: &Ty, value: &Value) -> usize
             let contents = size_of_components(rule, fields, slots_in(value));
             size_of_constructed(rule, *tag, contents)
         }
-        Ty::SequenceOf(tag, inner) => {
+        Ty::SequenceOf(tag, inner) | Ty::SetOf(tag, inner) => {
             let contents = size_of_items(rule, inner, items_in(value));
             size_of_constructed(rule, *tag, contents)
-        }
-        Ty::SetOf(tag, inner) => {
-            let sorted = size_of_items(rule, inner, items_in(value));
-            size_of_constructed(rule, *tag, sorted)
         }
         Ty::Choice(alternatives) => {
             let Some((which, chosen)) = chosen_in(value) else {

@@ -108,30 +108,14 @@ fn join_components(
 {
     let count = fields.len().min(slots.len());
     for place in 0..count {
-        match &slots[place] {
-            Some(value) => put_part(alloc, rule, &fields[place].ty, value, out)?,
-            None => {}
+        let Some(value) = &slots[place] else {
+            continue;
+        };
+        let ty = &fields[place].ty;
+        match leaf_tag(ty) {
+            Some(tag) => put_forwards(rule, tag, value, out)?,
+            None => put_straight(alloc, rule, ty, value, out)?,
         }
     }
     Ok(())
-}
-
-// Appends the encoding of a part.
-#[cycle(straight)]
-#[inline(always)]
-fn put_part(
-    alloc: Global,
-    rule: CanonicalRule,
-    ty: &Ty,
-    value: &Value,
-    out: &mut Vec<u8>,
-) -> Result<(), NoMemory>
-    requires { IsWritable (ty_view ty.now) (value_view value.now) }
-    ensures { Writes (IsEncoding (rule_of rule) (ty_view ty.now) (value_view value.now))
-        result out.old.items out.new.items }
-{
-    if let Some(tag) = leaf_tag(ty) {
-        return put_forwards(rule, tag, value, out);
-    }
-    put_straight(alloc, rule, ty, value, out)
 }

@@ -1,5 +1,5 @@
 use Rattle.std.specs.List.{concat}
-use Rattle.std.proofs.Common.{◌≡◌, ◌∙◌, ◌+◌, ◌-◌, ◌<◌, ◌++◌, ℕ, List, OnOk, OnErr, Some, None, Vec, Global, length, take, drop, get_or, map, inl, inr, refl, sym, ap, subst, arith, rules, IsPermutation}
+use Rattle.std.proofs.Common.{◌≡◌, ◌∙◌, ◌+◌, ◌-◌, ◌<◌, ◌++◌, ℕ, List, OnOk, OnErr, Some, None, Vec, Global, length, take, drop, get_or, map, inl, inr, refl, sym, ap, subst, subst₂, arith, rules, IsPermutation}
 use Rattle.std.specs.Prelude.{reverse}
 use Rattle.std.specs.declared.result.Result.{Result}
 use Rattle.std.proofs.lemmas.List.{length-map}
@@ -24,10 +24,12 @@ use Rattle.canon.specs.Part.{IsPut, AreLaid, Keeps}
 use Rattle.canon.specs.Rule.{rule_of}
 use Rattle.canon.specs.Turned.{Turned, end_octets}
 use Rattle.canon.specs.Writes.{IsWritable, Writes}
+use Rattle.canon.proofs.JoinLemmas.{encoded_as}
 use Rattle.canon.proofs.KeptLemmas.{kept, keeps_more, keeps_chain, keeps_taken}
 use Rattle.canon.proofs.LeafLemmas.{leaf_alike, leaf_conforms}
 use Rattle.canon.proofs.LeavesLemmas.{leaves_conform, leaves_alike}
 use Rattle.canon.proofs.NodeLemmas.{choice_parts, has_items, has_slots, explicit_alike, sequence_alike, set_alike, sequence_of_alike, set_of_alike}
+use Rattle.canon.proofs.PartLemmas.{turned_end}
 use Rattle.canon.proofs.PutLemmas.{PutFrom, few_in_order, item_put, no_components_put, present_put, absent_put, laid_more, order_made}
 use Rattle.canon.proofs.SimpleLemmas.{rule_is_canonical}
 use Rattle.canon.proofs.StepLemmas.{as_many_slots, present_at}
@@ -38,7 +40,7 @@ use Rattle.canon.specs.declared.spans.Span.{Span}
 use Rattle.canon.specs.declared.spans.Tagged.{Tagged}
 use Rattle.canon.proofs.TagPutLemmas.{LaidFrom, none_laid_by_tag, present_laid, absent_laid, by_tag_made, part_put, distinct_drop}
 use Rattle.canon.proofs.TurnLemmas.{around_made}
-use Rattle.canon.proofs.TyLemmas.{leaf_view, list_view, set_list_view}
+use Rattle.canon.proofs.TyLemmas.{leaf_view}
 use Rattle.canon.proofs.WritableLemmas.{stands_at, item_writable, part_writable}
 use Rattle.canon.proofs.WritesLemmas.{written_by, refused}
 use Rattle.canon.proofs.back.+back.Goals as goal
@@ -96,35 +98,27 @@ pub put_back-returns-in_ok-put_components-in-Sequence : goal.put_back-returns-in
 put_back-returns-in_ok-put_components-in-Sequence t c =
     let rule = rule_of c.args.rule in
     let tag = c.in-Sequence.tag in
-    let v = value_view c.args.value.now in
     let components = components_view c.in-Sequence.fields.items in
     let is : ty_view c.args.ty.now ≡ Shape.sequence tag components = ap ty_view c.in-Sequence.is ∙ ty-Sequence tag c.in-Sequence.fields in
-    let parts = has_slots tag components (ty_view c.args.ty.now) v (inl is) c.requires.conforms c.requires.nodes in
+    let parts = has_slots tag components (ty_view c.args.ty.now) (value_view c.args.value.now) (inl is) c.requires.conforms c.requires.nodes in
     let one = c.put_end.new.out.items in
     let two = c.put_components.new.out.items in
-    let here : Appends (Turned (AreComponents rule components parts.slots)) one two = subst (λ (s : Slots). Appends (Turned (AreComponents rule components s)) one two) (sym (c.slots_in.ensures parts.slots parts.is))
-    (subst (λ (fs : List Field). Appends (Turned (AreComponents rule (components_view fs) (slots_view c.slots_in.result.now))) one two) c.deref.ensures.value c.in_ok-put_components-in-Sequence.ensures.appended) in
-    arm c.put_head.result rule tag (AreComponents rule components parts.slots) (IsEncoding rule (ty_view c.args.ty.now) v) c.len-start.result c.args.out.now.items one two c.put_head.new.out.items
-    (omega (arith, c.len-start.ensures)) c.in_ok-put_end-in-Sequence.ensures.appended here
-    (λ b h. subst (λ (s : Shape). IsEncoding rule s v b) (sym is) (subst (λ (w : Val). IsEncoding rule (Shape.sequence tag components) w b) (sym parts.is) ((sequence_alike rule tag components parts.slots).to b h)))
-    c.put_head.ensures.appended c.put_head.ensures.kept
+    let here = subst₂ (λ (fs : List Field) (s : Slots). Appends (Turned (AreComponents rule (components_view fs) s)) one two) c.deref.ensures.value (sym (c.slots_in.ensures parts.slots parts.is)) c.in_ok-put_components-in-Sequence.ensures.appended in
+    arm c.put_head.result rule tag (AreComponents rule components parts.slots) (IsEncoding rule (ty_view c.args.ty.now) (value_view c.args.value.now)) c.len-start.result c.args.out.now.items one two c.put_head.new.out.items
+    (omega (arith, c.len-start.ensures)) c.in_ok-put_end-in-Sequence.ensures.appended here (encoded_as rule _ _ _ _ _ is parts.is (sequence_alike rule tag components parts.slots)).to c.put_head.ensures.appended c.put_head.ensures.kept
 
 pub put_back-returns-in_ok-put_by_tag-in-Set : goal.put_back-returns-in_ok-put_by_tag-in-Set
 put_back-returns-in_ok-put_by_tag-in-Set t c =
     let rule = rule_of c.args.rule in
     let tag = c.in-Set.tag in
-    let v = value_view c.args.value.now in
     let components = components_view c.in-Set.fields.items in
     let is : ty_view c.args.ty.now ≡ Shape.set tag components = ap ty_view c.in-Set.is ∙ ty-Set tag c.in-Set.fields in
-    let parts = has_slots tag components (ty_view c.args.ty.now) v (inr is) c.requires.conforms c.requires.nodes in
+    let parts = has_slots tag components (ty_view c.args.ty.now) (value_view c.args.value.now) (inr is) c.requires.conforms c.requires.nodes in
     let one = c.put_end-in-Set.new.out.items in
     let two = c.put_by_tag.new.out.items in
-    let here : Appends (Turned (AreComponentsByTag rule components parts.slots)) one two = subst (λ (s : Slots). Appends (Turned (AreComponentsByTag rule components s)) one two) (sym (c.slots_in-in-Set.ensures parts.slots parts.is))
-    (subst (λ (fs : List Field). Appends (Turned (AreComponentsByTag rule (components_view fs) (slots_view c.slots_in-in-Set.result.now))) one two) c.deref-in-Set.ensures.value c.in_ok-put_by_tag-in-Set.ensures.appended) in
-    arm c.put_head-in-Set.result rule tag (AreComponentsByTag rule components parts.slots) (IsEncoding rule (ty_view c.args.ty.now) v) c.len-start.result c.args.out.now.items one two c.put_head-in-Set.new.out.items
-    (omega (arith, c.len-start.ensures)) c.in_ok-put_end-in-Set.ensures.appended here
-    (λ b h. subst (λ (s : Shape). IsEncoding rule s v b) (sym is) (subst (λ (w : Val). IsEncoding rule (Shape.set tag components) w b) (sym parts.is) ((set_alike rule tag components parts.slots (rule_is_canonical c.args.rule)).to b h)))
-    c.put_head-in-Set.ensures.appended c.put_head-in-Set.ensures.kept
+    let here = subst₂ (λ (fs : List Field) (s : Slots). Appends (Turned (AreComponentsByTag rule (components_view fs) s)) one two) c.deref-in-Set.ensures.value (sym (c.slots_in-in-Set.ensures parts.slots parts.is)) c.in_ok-put_by_tag-in-Set.ensures.appended in
+    arm c.put_head-in-Set.result rule tag (AreComponentsByTag rule components parts.slots) (IsEncoding rule (ty_view c.args.ty.now) (value_view c.args.value.now)) c.len-start.result c.args.out.now.items one two c.put_head-in-Set.new.out.items
+    (omega (arith, c.len-start.ensures)) c.in_ok-put_end-in-Set.ensures.appended here (encoded_as rule _ _ _ _ _ is parts.is (set_alike rule tag components parts.slots (rule_is_canonical c.args.rule))).to c.put_head-in-Set.ensures.appended c.put_head-in-Set.ensures.kept
 
 pub put_back-returns-in_ok-put_items-in-SequenceOf : goal.put_back-returns-in_ok-put_items-in-SequenceOf
 put_back-returns-in_ok-put_items-in-SequenceOf t c =
@@ -132,18 +126,13 @@ put_back-returns-in_ok-put_items-in-SequenceOf t c =
     let tag = c.in-SequenceOf.tag in
     let inner = c.in-SequenceOf.inner in
     let type = ty_view inner.value in
-    let v = value_view c.args.value.now in
-    let shape = list_view c.args.ty.now tag inner c.in-SequenceOf.is in
     let is : ty_view c.args.ty.now ≡ Shape.sequence_of tag type = ap ty_view c.in-SequenceOf.is ∙ ty-SequenceOf tag inner in
-    let parts = has_items tag type (ty_view c.args.ty.now) v shape c.requires.conforms c.requires.nodes in
+    let parts = has_items tag type (ty_view c.args.ty.now) (value_view c.args.value.now) (inl is) c.requires.conforms c.requires.nodes in
     let one = c.put_end-in-SequenceOf.new.out.items in
     let two = c.put_items.new.out.items in
-    let here : Appends (Turned (AreItems (IsEncoding rule type) (listed parts.items))) one two = subst (λ (vs : List Val). Appends (Turned (AreItems (IsEncoding rule type) vs)) one two) (sym (c.items_in.ensures parts.items parts.is))
-    (subst (λ (e : Ty). Appends (Turned (AreItems (IsEncoding rule (ty_view e)) (map value_view c.items_in.result.now))) one two) c.deref-in-SequenceOf.ensures c.in_ok-put_items-in-SequenceOf.ensures.appended) in
-    arm c.put_head-in-SequenceOf.result rule tag (AreItems (IsEncoding rule type) (listed parts.items)) (IsEncoding rule (ty_view c.args.ty.now) v) c.len-start.result c.args.out.now.items one two c.put_head-in-SequenceOf.new.out.items
-    (omega (arith, c.len-start.ensures)) c.in_ok-put_end-in-SequenceOf.ensures.appended here
-    (λ b h. subst (λ (s : Shape). IsEncoding rule s v b) (sym is) (subst (λ (w : Val). IsEncoding rule (Shape.sequence_of tag type) w b) (sym parts.is) ((sequence_of_alike rule tag type parts.items).to b h)))
-    c.put_head-in-SequenceOf.ensures.appended c.put_head-in-SequenceOf.ensures.kept
+    let here = subst₂ (λ (e : Ty) (vs : List Val). Appends (Turned (AreItems (IsEncoding rule (ty_view e)) vs)) one two) c.deref-in-SequenceOf.ensures (sym (c.items_in.ensures parts.items parts.is)) c.in_ok-put_items-in-SequenceOf.ensures.appended in
+    arm c.put_head-in-SequenceOf.result rule tag (AreItems (IsEncoding rule type) (listed parts.items)) (IsEncoding rule (ty_view c.args.ty.now) (value_view c.args.value.now)) c.len-start.result c.args.out.now.items one two c.put_head-in-SequenceOf.new.out.items
+    (omega (arith, c.len-start.ensures)) c.in_ok-put_end-in-SequenceOf.ensures.appended here (encoded_as rule _ _ _ _ _ is parts.is (sequence_of_alike rule tag type parts.items)).to c.put_head-in-SequenceOf.ensures.appended c.put_head-in-SequenceOf.ensures.kept
 
 pub put_back-returns-in_ok-put_in_order-in-SetOf : goal.put_back-returns-in_ok-put_in_order-in-SetOf
 put_back-returns-in_ok-put_in_order-in-SetOf t c =
@@ -151,18 +140,13 @@ put_back-returns-in_ok-put_in_order-in-SetOf t c =
     let tag = c.in-SetOf.tag in
     let inner = c.in-SetOf.inner in
     let type = ty_view inner.value in
-    let v = value_view c.args.value.now in
-    let shape = set_list_view c.args.ty.now tag inner c.in-SetOf.is in
     let is : ty_view c.args.ty.now ≡ Shape.set_of tag type = ap ty_view c.in-SetOf.is ∙ ty-SetOf tag inner in
-    let parts = has_items tag type (ty_view c.args.ty.now) v shape c.requires.conforms c.requires.nodes in
+    let parts = has_items tag type (ty_view c.args.ty.now) (value_view c.args.value.now) (inr is) c.requires.conforms c.requires.nodes in
     let one = c.put_end-in-SetOf.new.out.items in
     let two = c.put_in_order.new.out.items in
-    let here : Appends (Turned (AreItemsInOrder (IsEncoding rule type) (listed parts.items))) one two = subst (λ (vs : List Val). Appends (Turned (AreItemsInOrder (IsEncoding rule type) vs)) one two) (sym (c.items_in-in-SetOf.ensures parts.items parts.is))
-    (subst (λ (e : Ty). Appends (Turned (AreItemsInOrder (IsEncoding rule (ty_view e)) (map value_view c.items_in-in-SetOf.result.now))) one two) c.deref-in-SetOf.ensures c.in_ok-put_in_order-in-SetOf.ensures.appended) in
-    arm c.put_head-in-SetOf.result rule tag (AreItemsInOrder (IsEncoding rule type) (listed parts.items)) (IsEncoding rule (ty_view c.args.ty.now) v) c.len-start.result c.args.out.now.items one two c.put_head-in-SetOf.new.out.items
-    (omega (arith, c.len-start.ensures)) c.in_ok-put_end-in-SetOf.ensures.appended here
-    (λ b h. subst (λ (s : Shape). IsEncoding rule s v b) (sym is) (subst (λ (w : Val). IsEncoding rule (Shape.set_of tag type) w b) (sym parts.is) ((set_of_alike rule tag type parts.items (rule_is_canonical c.args.rule)).to b h)))
-    c.put_head-in-SetOf.ensures.appended c.put_head-in-SetOf.ensures.kept
+    let here = subst₂ (λ (e : Ty) (vs : List Val). Appends (Turned (AreItemsInOrder (IsEncoding rule (ty_view e)) vs)) one two) c.deref-in-SetOf.ensures (sym (c.items_in-in-SetOf.ensures parts.items parts.is)) c.in_ok-put_in_order-in-SetOf.ensures.appended in
+    arm c.put_head-in-SetOf.result rule tag (AreItemsInOrder (IsEncoding rule type) (listed parts.items)) (IsEncoding rule (ty_view c.args.ty.now) (value_view c.args.value.now)) c.len-start.result c.args.out.now.items one two c.put_head-in-SetOf.new.out.items
+    (omega (arith, c.len-start.ensures)) c.in_ok-put_end-in-SetOf.ensures.appended here (encoded_as rule _ _ _ _ _ is parts.is (set_of_alike rule tag type parts.items (rule_is_canonical c.args.rule))).to c.put_head-in-SetOf.ensures.appended c.put_head-in-SetOf.ensures.kept
 
 pub put_back-returns-in_ok-put_back-in-Explicit : goal.put_back-returns-in_ok-put_back-in-Explicit
 put_back-returns-in_ok-put_back-in-Explicit t c =
@@ -412,10 +396,17 @@ pub put_by_tag-returns-in_err-spans : goal.put_by_tag-returns-in_err-spans
 put_by_tag-returns-in_err-spans t c =
     refused _ c.from_residual-in_err-spans.ensures.1 (_, c.loop-done.invariant.is, tt)
 
-pub put_upright-put_forwards-requires-clause-leaf : goal.put_upright-put_forwards-requires-clause-leaf
-put_upright-put_forwards-requires-clause-leaf t c = leaf_conforms c.in-Some.tag (ty_view c.args.ty.now) (value_view c.args.value.now) c.in-Some.ensures c.requires.conforms
+pub put_span-put_forwards-requires-clause-leaf : goal.put_span-put_forwards-requires-clause-leaf
+put_span-put_forwards-requires-clause-leaf t c = leaf_conforms c.in-Some.tag (ty_view c.args.ty.now) (value_view c.args.value.now) c.in-Some.ensures c.requires.conforms
 
-pub put_upright-returns-in-Some : goal.put_upright-returns-in-Some
-put_upright-returns-in-Some t c =
+pub put_span-returns-in-Some-clause-put : goal.put_span-returns-in-Some-clause-put
+put_span-returns-in-Some-clause-put t c =
     let alike = leaf_alike (rule_of c.args.rule) (rule_is_canonical c.args.rule) c.in-Some.tag (ty_view c.args.ty.now) (value_view c.args.value.now) c.in-Some.ensures c.requires.conforms in
-    written_by c.put_forwards.ensures alike.to
+    let put = c.in_ok-put_forwards.ensures.appended in
+    record { octets = put.0; is = put.1; holds = alike.to put.0 put.2; start = search rules; end = search rules }
+
+pub put_span-returns-clause-put : goal.put_span-returns-clause-put
+put_span-returns-clause-put t c =
+    let put = c.in_ok-put_back.ensures.appended in
+    let is = turned_end c.args.out.now.items put.0 c.put_back.new.out.items c.turn.new.out.items c.len-start.result (omega (arith, c.len-start.ensures)) put.1 c.turn.ensures in
+    record { octets = reverse put.0; is = is; holds = put.2; start = search rules; end = search rules }

@@ -1,5 +1,5 @@
 use Rattle.std.specs.List.{AllByRecursion, AllZip}
-use Rattle.std.proofs.Common.{◌≡◌, ◌∙◌, ◌+◌, ◌<◌, ℕ, List, Option, Some, None, Vec, Global, length, take, get_or, map, sym, ap, subst, arith, rules}
+use Rattle.std.proofs.Common.{◌≡◌, ◌∙◌, ◌+◌, ◌<◌, ℕ, List, Option, Some, None, Vec, Global, inl, inr, length, take, get_or, map, sym, ap, subst, arith, rules}
 use Rattle.std.proofs.lemmas.List.{take_all}
 use Rattle.types.specs.declared.ty.Ty.{Ty}
 use Rattle.types.specs.declared.ty.Ty as node
@@ -23,7 +23,6 @@ use Rattle.octets.proofs.ResultLemmas.{IfOk-map}
 use Rattle.canon.proofs.OrderedLemmas.{slotted_view, OrderedUpTo, IsPlaced, alternative_defaults, field_defaults, chosen_ordered, record_ordered, list_ordered, set_list_ordered, present_ordered, absent_ordered, slots_ordered, item_ordered, item_placed, items_sorted}
 use Rattle.canon.proofs.SameValueLemmas.{same_conforms}
 use Rattle.canon.proofs.StepLemmas.{item_conforms, as_many_slots, present_at}
-use Rattle.canon.proofs.TyLemmas.{list_view, set_list_view}
 use Rattle.canon.proofs.ordering.+ordering.Goals as goal
 use Rattle.canon.proofs.ordering.+ordering.Goals.{order_slots-in-Some+in_ok-value-in-Some+in_ok-push-in-Some, order_slots-in-None+in_ok-push-in-None}
 
@@ -141,7 +140,7 @@ order_value-returns-in_ok-order_items-in-SequenceOf t c =
     let type = ty_view inner.value in
     let v = value_view c.args.value.now in
     let is : ty_view c.args.ty.now ≡ Shape.sequence_of tag type = ap ty_view c.in-SequenceOf.is ∙ ty-SequenceOf tag inner in
-    let parts = has_items tag type (ty_view c.args.ty.now) v (list_view c.args.ty.now tag inner c.in-SequenceOf.is) c.requires.conforms c.requires.sound.nodes in
+    let parts = has_items tag type (ty_view c.args.ty.now) v (inl is) c.requires.conforms c.requires.sound.nodes in
     let made = c.in_ok-order_items-in-SequenceOf.field-0 in
     let ws = map value_view made.items in
     let each : AllZip (IsOrderedFrom type) (map value_view c.items_in.result.now) ws = subst (λ (e : Ty). AllZip (IsOrderedFrom (ty_view e)) (map value_view c.items_in.result.now) ws) c.deref.ensures c.in_ok-order_items-in-SequenceOf.ensures in
@@ -158,7 +157,7 @@ order_value-returns-in_ok-sort_items-in-SetOf t c =
     let type = ty_view inner.value in
     let v = value_view c.args.value.now in
     let is : ty_view c.args.ty.now ≡ Shape.set_of tag type = ap ty_view c.in-SetOf.is ∙ ty-SetOf tag inner in
-    let parts = has_items tag type (ty_view c.args.ty.now) v (set_list_view c.args.ty.now tag inner c.in-SetOf.is) c.requires.conforms c.requires.sound.nodes in
+    let parts = has_items tag type (ty_view c.args.ty.now) v (inr is) c.requires.conforms c.requires.sound.nodes in
     let made = c.in_ok-sort_items-in-SetOf.field-0 in
     let ws = map value_view made.items in
     let each : AreItemsOrderedFrom type (map value_view c.items_in-in-SetOf.result.now) ws = subst (λ (e : Ty). AreItemsOrderedFrom (ty_view e) (map value_view c.items_in-in-SetOf.result.now) ws) c.deref-in-SetOf.ensures c.in_ok-sort_items-in-SetOf.ensures in

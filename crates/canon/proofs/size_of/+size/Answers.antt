@@ -1,11 +1,10 @@
-use Rattle.std.specs.List.{AllByRecursion}
-use Rattle.std.proofs.Common.{◌≡◌, ◌∙◌, ◌+◌, ◌-◌, ◌<◌, List, Some, None, length, drop, get_or, map, min, sym, ap, subst, arith, rules}
+use Rattle.std.proofs.Common.{◌≡◌, ◌∙◌, ◌+◌, ◌-◌, ◌<◌, List, Some, None, length, drop, get_or, map, min, sym, ap, subst, subst₂, arith, rules}
 use Rattle.types.specs.declared.ty.Ty.{Ty}
 use Rattle.types.specs.declared.ty.Ty as node
 use Rattle.types.specs.declared.ty.Field.{Field}
 use Rattle.types.specs.declared.ty.Field as field
 use Rattle.types.specs.declared.ty.Alternative as alternative
-use Rattle.types.specs.Shape.{Val, Shape, Slots, listed}
+use Rattle.types.specs.Shape.{Val, Shape, Slots}
 use Rattle.types.specs.View.{ty_view, value_view, components_view, slots_view}
 use Rattle.types.specs.Conforms.{Conforms}
 use Rattle.types.specs.Encoding.{IsEncoding}
@@ -20,7 +19,7 @@ use Rattle.canon.proofs.NodeLemmas.{choice_parts, has_items, has_slots, has_inne
 use Rattle.canon.proofs.NodeSizeLemmas.{around_size}
 use Rattle.canon.proofs.SimpleLemmas.{rule_is_canonical}
 use Rattle.canon.proofs.StepLemmas.{item_size, as_many_slots, present_at, size_from_end, present_size, absent_size_any}
-use Rattle.canon.proofs.TyLemmas.{leaf_view, list_view, set_list_view, record_view, list_size, record_size}
+use Rattle.canon.proofs.TyLemmas.{leaf_view, list_view, record_view, list_size, record_size}
 use Rattle.canon.proofs.StraightLemmas.{chosen_in_choice}
 use Rattle.canon.proofs.WritableLemmas.{stands_at, item_writable, part_writable}
 use Rattle.canon.proofs.size_of.+size.Goals as goal
@@ -56,8 +55,7 @@ size_of-size_of_items-contents-requires t c =
     let inner = c.in-SequenceOf.inner in
     let shape = list_view c.args.ty.now c.in-SequenceOf.tag inner c.in-SequenceOf.is in
     let parts = has_items c.in-SequenceOf.tag (ty_view inner.value) (ty_view c.args.ty.now) (value_view c.args.value.now) shape c.requires.conforms c.requires.nodes in
-    let all : AllByRecursion (Conforms (ty_view inner.value)) (map value_view c.items_in.result.now) = subst (AllByRecursion (Conforms (ty_view inner.value))) (c.items_in.ensures parts.items parts.is) parts.conform in
-    (search (rules, node.the_lemmas), subst (λ (e : Ty). AreWritable (ty_view e) (map value_view c.items_in.result.now)) (sym c.deref.ensures) record { nodes = parts.nodes; conform = all })
+    (search (rules, node.the_lemmas), subst₂ (λ (e : Ty) (vs : List Val). AreWritable (ty_view e) vs) (sym c.deref-in-SequenceOf.ensures) (c.items_in.ensures parts.items parts.is) record { nodes = parts.nodes; conform = parts.conform })
 
 pub size_of-returns-in-SequenceOf-clause-size : goal.size_of-returns-in-SequenceOf-clause-size
 size_of-returns-in-SequenceOf-clause-size t c =
@@ -66,34 +64,8 @@ size_of-returns-in-SequenceOf-clause-size t c =
     let shape = list_view c.args.ty.now c.in-SequenceOf.tag inner c.in-SequenceOf.is in
     let parts = has_items c.in-SequenceOf.tag (ty_view inner.value) (ty_view c.args.ty.now) (value_view c.args.value.now) shape c.requires.conforms c.requires.nodes in
     let n = c.size_of_items-contents.result in
-    let size = c.size_of_constructed.result in
-    let here : HasSize (AreItems (IsEncoding rule (ty_view inner.value)) (map value_view c.items_in.result.now)) n =
-    subst (λ (e : Ty). HasSize (AreItems (IsEncoding rule (ty_view e)) (map value_view c.items_in.result.now)) n) c.deref.ensures c.size_of_items-contents.ensures.size in
-    let items : HasSize (AreItems (IsEncoding rule (ty_view inner.value)) (listed parts.items)) n =
-    subst (λ (vs : List Val). HasSize (AreItems (IsEncoding rule (ty_view inner.value)) vs) n) (sym (c.items_in.ensures parts.items parts.is)) here in
-    list_size rule c.in-SequenceOf.tag (ty_view inner.value) (ty_view c.args.ty.now) (value_view c.args.value.now) n size (rule_is_canonical c.args.rule) shape parts items c.size_of_constructed.ensures.more c.size_of_constructed.ensures.size
-
-pub size_of-size_of_items-sorted-requires : goal.size_of-size_of_items-sorted-requires
-size_of-size_of_items-sorted-requires t c =
-    let inner = c.in-SetOf.inner in
-    let shape = set_list_view c.args.ty.now c.in-SetOf.tag inner c.in-SetOf.is in
-    let parts = has_items c.in-SetOf.tag (ty_view inner.value) (ty_view c.args.ty.now) (value_view c.args.value.now) shape c.requires.conforms c.requires.nodes in
-    let all : AllByRecursion (Conforms (ty_view inner.value)) (map value_view c.items_in-in-SetOf.result.now) = subst (AllByRecursion (Conforms (ty_view inner.value))) (c.items_in-in-SetOf.ensures parts.items parts.is) parts.conform in
-    (search (rules, node.the_lemmas), subst (λ (e : Ty). AreWritable (ty_view e) (map value_view c.items_in-in-SetOf.result.now)) (sym c.deref-in-SetOf.ensures) record { nodes = parts.nodes; conform = all })
-
-pub size_of-returns-in-SetOf-clause-size : goal.size_of-returns-in-SetOf-clause-size
-size_of-returns-in-SetOf-clause-size t c =
-    let rule = rule_of c.args.rule in
-    let inner = c.in-SetOf.inner in
-    let shape = set_list_view c.args.ty.now c.in-SetOf.tag inner c.in-SetOf.is in
-    let parts = has_items c.in-SetOf.tag (ty_view inner.value) (ty_view c.args.ty.now) (value_view c.args.value.now) shape c.requires.conforms c.requires.nodes in
-    let n = c.size_of_items-sorted.result in
-    let size = c.size_of_constructed-in-SetOf.result in
-    let here : HasSize (AreItems (IsEncoding rule (ty_view inner.value)) (map value_view c.items_in-in-SetOf.result.now)) n =
-    subst (λ (e : Ty). HasSize (AreItems (IsEncoding rule (ty_view e)) (map value_view c.items_in-in-SetOf.result.now)) n) c.deref-in-SetOf.ensures c.size_of_items-sorted.ensures.size in
-    let items : HasSize (AreItems (IsEncoding rule (ty_view inner.value)) (listed parts.items)) n =
-    subst (λ (vs : List Val). HasSize (AreItems (IsEncoding rule (ty_view inner.value)) vs) n) (sym (c.items_in-in-SetOf.ensures parts.items parts.is)) here in
-    list_size rule c.in-SetOf.tag (ty_view inner.value) (ty_view c.args.ty.now) (value_view c.args.value.now) n size (rule_is_canonical c.args.rule) shape parts items c.size_of_constructed-in-SetOf.ensures.more c.size_of_constructed-in-SetOf.ensures.size
+    let items = subst₂ (λ (e : Ty) (vs : List Val). HasSize (AreItems (IsEncoding rule (ty_view e)) vs) n) c.deref-in-SequenceOf.ensures (sym (c.items_in.ensures parts.items parts.is)) c.size_of_items-contents.ensures.size in
+    list_size rule c.in-SequenceOf.tag (ty_view inner.value) (ty_view c.args.ty.now) (value_view c.args.value.now) n c.size_of_constructed-in-SequenceOf.result (rule_is_canonical c.args.rule) shape parts items c.size_of_constructed-in-SequenceOf.ensures.more c.size_of_constructed-in-SequenceOf.ensures.size
 
 pub size_of-returns-in-Sequence-clause-size : goal.size_of-returns-in-Sequence-clause-size
 size_of-returns-in-Sequence-clause-size t c =
@@ -103,9 +75,7 @@ size_of-returns-in-Sequence-clause-size t c =
     let parts = has_slots c.in-Sequence.tag components (ty_view c.args.ty.now) (value_view c.args.value.now) shape c.requires.conforms c.requires.nodes in
     let n = c.size_of_components-contents.result in
     let size = c.size_of_constructed-in-Sequence.result in
-    let here : HasSize (AreComponents rule components parts.slots) n =
-    subst (λ (s : Slots). HasSize (AreComponents rule components s) n) (sym (c.slots_in.ensures parts.slots parts.is))
-    (subst (λ (fs : List Field). HasSize (AreComponents rule (components_view fs) (slots_view c.slots_in.result.now)) n) c.deref-in-Sequence.ensures.value c.size_of_components-contents.ensures.size) in
+    let here = subst₂ (λ (fs : List Field) (s : Slots). HasSize (AreComponents rule (components_view fs) s) n) c.deref-in-Sequence.ensures.value (sym (c.slots_in.ensures parts.slots parts.is)) c.size_of_components-contents.ensures.size in
     record_size rule c.in-Sequence.tag components (ty_view c.args.ty.now) (value_view c.args.value.now) n size (rule_is_canonical c.args.rule) shape c.requires.nodes parts here c.size_of_constructed-in-Sequence.ensures.more c.size_of_constructed-in-Sequence.ensures.size
 
 pub size_of-returns-in-Explicit-clause-size : goal.size_of-returns-in-Explicit-clause-size
@@ -117,10 +87,10 @@ size_of-returns-in-Explicit-clause-size t c =
     let is : ty_view c.args.ty.now ≡ Shape.explicit tag inner = ap ty_view c.in-Explicit.is ∙ ty-Explicit tag c.in-Explicit.inner in
     let parts = has_inner tag inner (ty_view c.args.ty.now) v is c.requires.conforms c.requires.nodes in
     let n = c.size_of-contents.result in
-    let size = c.size_of_constructed-in-Explicit.result in
-    let here : HasSize (IsEncoding rule inner v) n = subst (λ (e : Ty). HasSize (IsEncoding rule (ty_view e) v) n) c.deref-in-Explicit.ensures c.size_of-contents.ensures.size in
+    let size = c.size_of_constructed.result in
+    let here : HasSize (IsEncoding rule inner v) n = subst (λ (e : Ty). HasSize (IsEncoding rule (ty_view e) v) n) c.deref.ensures c.size_of-contents.ensures.size in
     subst (λ (s : Shape). HasSize (IsEncoding rule s v) size) (sym is)
-    (size_alike _ _ size (explicit_alike rule tag inner v) (around_size (IsEncoding rule inner v) rule tag n size parts.kept here c.size_of_constructed-in-Explicit.ensures.more c.size_of_constructed-in-Explicit.ensures.size))
+    (size_alike _ _ size (explicit_alike rule tag inner v) (around_size (IsEncoding rule inner v) rule tag n size parts.kept here c.size_of_constructed.ensures.more c.size_of_constructed.ensures.size))
 
 pub size_of-returns-in-Boolean-clause-size : goal.size_of-returns-in-Boolean-clause-size
 size_of-returns-in-Boolean-clause-size t c =
