@@ -9,14 +9,14 @@ use Rattle.octets.proofs.RuleLemmas.{cer_is_canonical}
 use Rattle.primitives.specs.Bits.{bits_of, IsBits, IsPadded}
 use Rattle.primitives.proofs.BitsLemmas.{length-bits_of, bits_of-append, IsBits-from_padded}
 use Rattle.types.specs.Shape.{SimpleType, StringType, SimpleValue, StringValue, Shape, Val}
-use Rattle.types.specs.Conforms.{Conforms, SimpleConforms}
+use Rattle.types.specs.Conforms.{Conforms, SimpleConforms, StringConforms}
 use Rattle.types.specs.Contents.{IsContents}
 use Rattle.types.specs.View.{value_view}
 use Rattle.types.specs.declared.value.Value.{Value}
 use Rattle.types.specs.declared.value.Value as value_is
 use Rattle.types.proofs.ViewLemmas.{value-Bits, value-Octets, value-Text}
 use Rattle.types.specs.Form.{IsPrimitive}
-use Rattle.types.specs.Encoding.{IsEncoding}
+use Rattle.types.specs.Encoding.{IsEncoding, IsOctetStringEncoding}
 use Rattle.types.specs.Strings.{AreCerSegments, IsStringEncoding, bit_segment, octet_segment, IsWholeOctets, AreOctets, AlwaysWhole}
 use Rattle.types.proofs.CerLemmas.{same_fronts, bits_by_der, bits_by_cer, one_der_bits}
 use Rattle.types.proofs.EncodingLemmas.{simple-injective}
@@ -196,6 +196,14 @@ simple_alike rule tag type (Val.simple value) c = record {
 }
 simple_alike rule tag type v c = elim c [ ]
 
+-- a string of octets, whatever its type
+octets_held : (rule : Rule) (tag : Tag) (type : StringType) (value_of : List ℕ → StringValue) (string : List ℕ) → ((other : List ℕ) → Val.string (value_of string) ≡ Val.string (value_of other) → other ≡ string) → StringConforms type (value_of string)
+    → HoldAlike (IsStringEncoding rule tag octet_segment AreOctets AlwaysWhole string) (IsOctetStringEncoding rule tag type value_of (Val.string (value_of string)))
+octets_held rule tag type value_of string one c = record {
+  to = λ b h. record { string_octets = string; is = refl; conforms = c; string = h };
+  from = λ b h. subst (λ x. IsStringEncoding rule tag octet_segment AreOctets AlwaysWhole x b) (one h.string_octets h.is) h.string;
+}
+
 string_alike : (rule : Rule) (tag : Tag) (type : StringType) (v : Val) → IsCanonical rule → Conforms (Shape.string tag type) v → HoldAlike (IsLeafEncoding rule tag v) (IsEncoding rule (Shape.string tag type) v)
 string_alike rule tag StringType.bit_string (Val.string (StringValue.bits bits)) canonical c = record {
   to = λ b h. record { bits = bits; is = refl; string = h };
@@ -212,27 +220,9 @@ string_alike rule tag (StringType.named_bits names) (Val.string (StringValue.bit
       let none : h.bits ++ replicate h.zeros false ≡ bits = ap (λ n. h.bits ++ replicate n false) (h.canonical canonical) ∙ (append-nil h.bits ∙ same) in
       subst (λ x. IsStringEncoding rule tag bit_segment (IsBits rule) IsWholeOctets x b) none h.string;
 }
-string_alike rule tag StringType.octet_string (Val.string (StringValue.octets string)) canonical c = record {
-  to = λ b h. record { string_octets = string; is = refl; conforms = c; string = h };
-  from = λ b h.
-      let is : Val.string (StringValue.octets string) ≡ Val.string (StringValue.octets h.string_octets) = h.is in
-      let same : h.string_octets ≡ string = cc is in
-      subst (λ x. IsStringEncoding rule tag octet_segment AreOctets AlwaysWhole x b) same h.string;
-}
-string_alike rule tag (StringType.text kind) (Val.string (StringValue.text string)) canonical c = record {
-  to = λ b h. record { string_octets = string; is = refl; conforms = c; string = h };
-  from = λ b h.
-      let is : Val.string (StringValue.text string) ≡ Val.string (StringValue.text h.string_octets) = h.is in
-      let same : h.string_octets ≡ string = cc is in
-      subst (λ x. IsStringEncoding rule tag octet_segment AreOctets AlwaysWhole x b) same h.string;
-}
-string_alike rule tag (StringType.time kind) (Val.string (StringValue.text string)) canonical c = record {
-  to = λ b h. record { string_octets = string; is = refl; conforms = c; string = h };
-  from = λ b h.
-      let is : Val.string (StringValue.text string) ≡ Val.string (StringValue.text h.string_octets) = h.is in
-      let same : h.string_octets ≡ string = cc is in
-      subst (λ x. IsStringEncoding rule tag octet_segment AreOctets AlwaysWhole x b) same h.string;
-}
+string_alike rule tag StringType.octet_string (Val.string (StringValue.octets string)) canonical c = octets_held rule tag StringType.octet_string StringValue.octets string (λ other same. cc) c
+string_alike rule tag (StringType.text kind) (Val.string (StringValue.text string)) canonical c = octets_held rule tag (StringType.text kind) StringValue.text string (λ other same. cc) c
+string_alike rule tag (StringType.time kind) (Val.string (StringValue.text string)) canonical c = octets_held rule tag (StringType.time kind) StringValue.text string (λ other same. cc) c
 string_alike rule tag type v canonical c = elim c [ ]
 
 pub leaf_alike : (rule : Rule) → IsCanonical rule → (tag : Tag) (shape : Shape) (v : Val) → IsLeafOf tag shape → Conforms shape v → HoldAlike (IsLeafEncoding rule tag v) (IsEncoding rule shape v)

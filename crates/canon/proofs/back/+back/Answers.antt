@@ -19,7 +19,7 @@ use Rattle.types.specs.View.{ty_view, value_view, components_view, slots_view, a
 use Rattle.types.specs.Form.{IsConstructed}
 use Rattle.types.specs.Encoding.{IsEncoding}
 use Rattle.types.proofs.ViewLemmas.{ty-Sequence, ty-Set, ty-SequenceOf, ty-SetOf, ty-Explicit}
-use Rattle.canon.specs.Node.{HasGoodNodes, IsAround, AreItems, AreItemsInOrder, AreComponents, AreComponentsByTag}
+use Rattle.canon.specs.Node.{IsAround, AreItems, AreItemsInOrder, AreComponents, AreComponentsByTag}
 use Rattle.canon.specs.Part.{IsPut, AreLaid, Keeps}
 use Rattle.canon.specs.Rule.{rule_of}
 use Rattle.canon.specs.Turned.{Turned, end_octets}
@@ -291,13 +291,9 @@ put_by_tag-loop-done-init t c =
 
 pub put_by_tag-order_tag-tag-requires : goal.put_by_tag-order_tag-tag-requires
 put_by_tag-order_tag-tag-requires t c =
-    let fields = c.args.fields.now in
-    let slots = c.args.slots.now in
     let place = c.min-count.result - 1 - c.loop-done.done in
-    let f = c.index-fields-place.result in
-    let stands = stands_at slots place c.index-slots-place.result (Some c.in-Some.value) c.index-slots-place.is c.in-Some.is in
-    let here = present_at fields slots place f c.in-Some.value (omega (arith, c.min-count.ensures)) c.index-fields-place.is stands c.requires.slots.conform c.requires.slots.nodes in
-    subst (λ (g : Field). HasGoodNodes (ty_view g.ty)) c.index-fields-place.is here.nodes
+    let here = part_writable c.args.fields.now c.args.slots.now place c.index-fields-place.result c.index-slots-place.result c.in-Some.value (omega (arith, c.min-count.ensures)) c.index-fields-place.is c.index-slots-place.is c.in-Some.is c.requires.slots in
+    here.nodes
 
 pub put_by_tag-loop-done-preserved : goal.put_by_tag-loop-done-preserved
 put_by_tag-loop-done-preserved t c =

@@ -1,5 +1,5 @@
 use Rattle.std.specs.List.{AllByRecursion, AllZip}
-use Rattle.std.proofs.Common.{◌≡◌, ◌∙◌, ◌+◌, ◌<◌, ℕ, List, Option, Some, None, Vec, Global, inl, inr, length, take, get_or, map, sym, ap, subst, arith, rules}
+use Rattle.std.proofs.Common.{◌≡◌, ◌∙◌, ◌+◌, ◌<◌, ℕ, List, Option, Some, None, Vec, Global, inl, inr, length, take, get_or, map, sym, ap, subst, subst₂, arith, rules}
 use Rattle.std.proofs.lemmas.List.{take_all}
 use Rattle.types.specs.declared.ty.Ty.{Ty}
 use Rattle.types.specs.declared.ty.Ty as node
@@ -23,6 +23,7 @@ use Rattle.octets.proofs.ResultLemmas.{IfOk-map}
 use Rattle.canon.proofs.OrderedLemmas.{slotted_view, OrderedUpTo, IsPlaced, alternative_defaults, field_defaults, chosen_ordered, record_ordered, list_ordered, set_list_ordered, present_ordered, absent_ordered, slots_ordered, item_ordered, item_placed, items_sorted}
 use Rattle.canon.proofs.SameValueLemmas.{same_conforms}
 use Rattle.canon.proofs.StepLemmas.{item_conforms, as_many_slots, present_at}
+use Rattle.canon.proofs.WritableLemmas.{stands_at}
 use Rattle.canon.proofs.ordering.+ordering.Goals as goal
 use Rattle.canon.proofs.ordering.+ordering.Goals.{order_slots-in-Some+in_ok-value-in-Some+in_ok-push-in-Some, order_slots-in-None+in_ok-push-in-None}
 
@@ -47,7 +48,7 @@ order_slots-order_value-requires t c =
     let bound : place < length fields = omega (arith, c.min-count.ensures) in
     let f = c.index-fields-place.result in
     let at : f ≡ get_or fields place f = c.index-fields-place.is in
-    let stands : Some c.in-Some.value ≡ get_or slots place (Some c.in-Some.value) = sym c.in-Some.is ∙ c.index-slots-place.is ∙ ap (λ (d : Option Value). get_or slots place d) c.in-Some.is in
+    let stands = stands_at slots place c.index-slots-place.result (Some c.in-Some.value) c.index-slots-place.is c.in-Some.is in
     let here = present_at fields slots place f c.in-Some.value (omega (arith, c.min-count.ensures)) at stands c.requires.conform c.requires.sound.nodes in
     let good : IsSound (ty_view f.ty) = record { nodes = here.nodes; defaults = field_defaults fields place f bound at c.requires.sound.defaults } in
     (search (rules, node.the_lemmas, field.the_lemmas, bound, at), (subst (λ (g : Field). IsSound (ty_view g.ty)) at good, subst (λ (g : Field). Conforms (ty_view g.ty) (value_view c.in-Some.value)) at here.conforms))
@@ -64,13 +65,13 @@ order_slots-loop-place-preserved t c =
       | order_slots-in-Some+in_ok-value-in-Some+in_ok-push-in-Some w ↦
           let v = w.in-Some.value in
           let f = w.index-fields-place.result in
-          let stands : Some v ≡ get_or slots i (Some v) = sym w.in-Some.is ∙ c.index-slots-place.is ∙ ap (λ (d : Option Value). get_or slots i d) w.in-Some.is in
+          let stands = stands_at slots i c.index-slots-place.result (Some v) c.index-slots-place.is w.in-Some.is in
           let y = w.in_ok-value-in-Some.value in
           let from : IsOrderedFrom (ty_view f.ty) (value_view v) (value_view y) = subst (λ (g : Field). IsOrderedFrom (ty_view g.ty) (value_view v) (value_view y)) (sym w.index-fields-place.is) w.in_ok-value-in-Some.ensures in
           let more = present_ordered fields slots i f v y c.loop-place.ordered.items there here w.index-fields-place.is stands from c.loop-place.invariant in
           subst (λ (done : List (Option Value)). OrderedUpTo fields slots (i + 1) done) (sym (ap (λ (x : Vec (Option Value) Global). x.items) w.ordered-is ∙ w.in_ok-push-in-Some.ensures.items)) more
       | order_slots-in-None+in_ok-push-in-None w ↦
-          let stands : None ≡ get_or slots i None = sym w.in-None.is ∙ c.index-slots-place.is ∙ ap (λ (d : Option Value). get_or slots i d) w.in-None.is in
+          let stands = stands_at slots i c.index-slots-place.result None c.index-slots-place.is w.in-None.is in
           let more = absent_ordered fields slots i c.loop-place.ordered.items there here stands c.loop-place.invariant in
           subst (λ (done : List (Option Value)). OrderedUpTo fields slots (i + 1) done) (sym (ap (λ (x : Vec (Option Value) Global). x.items) w.ordered-is ∙ w.in_ok-push-in-None.ensures.items)) more
     ]
@@ -115,9 +116,8 @@ order_value-returns-in_ok-new-in-Choice t c =
     let whole = chosen_ordered alternatives.items parts.which a parts.value (value_view y) parts.alternative.there at from in
     let made : value_view (node_value.Chosen c.in-Some.which boxed) ≡ Val.chosen parts.which (value_view y) =
     value-Chosen c.in-Some.which boxed ∙ ap (λ k. Val.chosen k (value_view boxed.value)) told.0 ∙ ap (λ (x : Value). Val.chosen parts.which (value_view x)) c.in_ok-new-in-Choice.ensures.ok in
-    subst (λ (s : Shape). IsOrderedFrom s v (value_view (node_value.Chosen c.in-Some.which boxed))) (sym is)
-    (subst (λ (w : Val). IsOrderedFrom (Shape.choice (alternatives_view alternatives.items)) w (value_view (node_value.Chosen c.in-Some.which boxed))) (sym parts.is)
-    (subst (IsOrderedFrom (Shape.choice (alternatives_view alternatives.items)) (Val.chosen parts.which parts.value)) (sym made) whole))
+    subst₂ (λ (s : Shape) (w : Val). IsOrderedFrom s w (value_view (node_value.Chosen c.in-Some.which boxed))) (sym is) (sym parts.is)
+    (subst (IsOrderedFrom (Shape.choice (alternatives_view alternatives.items)) (Val.chosen parts.which parts.value)) (sym made) whole)
 
 pub order_value-returns-in_ok-order_slots-in-Sequence : goal.order_value-returns-in_ok-order_slots-in-Sequence
 order_value-returns-in_ok-order_slots-in-Sequence t c =
@@ -127,8 +127,7 @@ order_value-returns-in_ok-order_slots-in-Sequence t c =
     let parts = has_slots of.0 components (ty_view c.args.ty.now) v of.1 c.requires.conforms c.requires.sound.nodes in
     let made = c.in_ok-order_slots-in-Sequence.field-0 in
     let ws = slots_view made.items in
-    let each : AreOrderedFrom components (slots_view c.slots_in.result.now) ws = subst (λ (fs : List Field). AreOrderedFrom (components_view fs) (slots_view c.slots_in.result.now) ws) c.deref-in-Sequence.ensures.value c.in_ok-order_slots-in-Sequence.ensures in
-    let both : AreOrderedFrom components parts.slots ws = subst (λ (vs : Slots). AreOrderedFrom components vs ws) (sym (c.slots_in.ensures parts.slots parts.is)) each in
+    let both = subst₂ (λ (fs : List Field) (vs : Slots). AreOrderedFrom (components_view fs) vs ws) c.deref-in-Sequence.ensures.value (sym (c.slots_in.ensures parts.slots parts.is)) c.in_ok-order_slots-in-Sequence.ensures in
     let whole = record_ordered of.0 components (ty_view c.args.ty.now) parts.slots ws of.1 both in
     subst (λ (w : Val). IsOrderedFrom (ty_view c.args.ty.now) w (value_view (node_value.Fields made))) (sym parts.is)
     (subst (IsOrderedFrom (ty_view c.args.ty.now) (Val.fields parts.slots)) (sym (value-Fields made)) whole)
@@ -143,12 +142,9 @@ order_value-returns-in_ok-order_items-in-SequenceOf t c =
     let parts = has_items tag type (ty_view c.args.ty.now) v (inl is) c.requires.conforms c.requires.sound.nodes in
     let made = c.in_ok-order_items-in-SequenceOf.field-0 in
     let ws = map value_view made.items in
-    let each : AllZip (IsOrderedFrom type) (map value_view c.items_in.result.now) ws = subst (λ (e : Ty). AllZip (IsOrderedFrom (ty_view e)) (map value_view c.items_in.result.now) ws) c.deref.ensures c.in_ok-order_items-in-SequenceOf.ensures in
-    let both : AllZip (IsOrderedFrom type) (listed parts.items) ws = subst (λ (vs : List Val). AllZip (IsOrderedFrom type) vs ws) (sym (c.items_in.ensures parts.items parts.is)) each in
+    let both = subst₂ (λ (e : Ty) (vs : List Val). AllZip (IsOrderedFrom (ty_view e)) vs ws) c.deref.ensures (sym (c.items_in.ensures parts.items parts.is)) c.in_ok-order_items-in-SequenceOf.ensures in
     let whole = list_ordered tag type parts.items (items_view made.items) (subst (AllZip (IsOrderedFrom type) (listed parts.items)) (sym (listed-items_view made.items)) both) in
-    subst (λ (s : Shape). IsOrderedFrom s v (value_view (node_value.Items made))) (sym is)
-    (subst (λ (w : Val). IsOrderedFrom (Shape.sequence_of tag type) w (value_view (node_value.Items made))) (sym parts.is)
-    (subst (IsOrderedFrom (Shape.sequence_of tag type) (Val.items parts.items)) (sym (value-Items made)) whole))
+    subst₂ (λ (s : Shape) (w : Val). IsOrderedFrom s w (value_view (node_value.Items made))) (sym is) (sym parts.is) (subst (IsOrderedFrom (Shape.sequence_of tag type) (Val.items parts.items)) (sym (value-Items made)) whole)
 
 pub order_value-returns-in_ok-sort_items-in-SetOf : goal.order_value-returns-in_ok-sort_items-in-SetOf
 order_value-returns-in_ok-sort_items-in-SetOf t c =
@@ -160,12 +156,9 @@ order_value-returns-in_ok-sort_items-in-SetOf t c =
     let parts = has_items tag type (ty_view c.args.ty.now) v (inr is) c.requires.conforms c.requires.sound.nodes in
     let made = c.in_ok-sort_items-in-SetOf.field-0 in
     let ws = map value_view made.items in
-    let each : AreItemsOrderedFrom type (map value_view c.items_in-in-SetOf.result.now) ws = subst (λ (e : Ty). AreItemsOrderedFrom (ty_view e) (map value_view c.items_in-in-SetOf.result.now) ws) c.deref-in-SetOf.ensures c.in_ok-sort_items-in-SetOf.ensures in
-    let both : AreItemsOrderedFrom type (listed parts.items) ws = subst (λ (vs : List Val). AreItemsOrderedFrom type vs ws) (sym (c.items_in-in-SetOf.ensures parts.items parts.is)) each in
+    let both = subst₂ (λ (e : Ty) (vs : List Val). AreItemsOrderedFrom (ty_view e) vs ws) c.deref-in-SetOf.ensures (sym (c.items_in-in-SetOf.ensures parts.items parts.is)) c.in_ok-sort_items-in-SetOf.ensures in
     let whole = set_list_ordered tag type parts.items (items_view made.items) (subst (AreItemsOrderedFrom type (listed parts.items)) (sym (listed-items_view made.items)) both) in
-    subst (λ (s : Shape). IsOrderedFrom s v (value_view (node_value.Items made))) (sym is)
-    (subst (λ (w : Val). IsOrderedFrom (Shape.set_of tag type) w (value_view (node_value.Items made))) (sym parts.is)
-    (subst (IsOrderedFrom (Shape.set_of tag type) (Val.items parts.items)) (sym (value-Items made)) whole))
+    subst₂ (λ (s : Shape) (w : Val). IsOrderedFrom s w (value_view (node_value.Items made))) (sym is) (sym parts.is) (subst (IsOrderedFrom (Shape.set_of tag type) (Val.items parts.items)) (sym (value-Items made)) whole)
 
 pub sort_items-order_value-requires : goal.sort_items-order_value-requires
 sort_items-order_value-requires t c =
