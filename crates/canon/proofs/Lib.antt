@@ -19,7 +19,7 @@ pub mod TurnLemmas
 pub mod PutLemmas
 pub mod OpeningLemmas
 pub mod WritesLemmas
-pub mod StraightLemmas
+pub mod ForwardLemmas
 pub mod TagPutLemmas
 pub mod OrderTagLemmas
 pub mod AcceptedLemmas

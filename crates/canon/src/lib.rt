@@ -7,12 +7,13 @@
 //! the former.
 #![tactic(auto)]
 
-mod back;
+mod backward;
 mod canon;
 mod cer;
 mod contents;
 mod copying;
 mod der;
+mod forward;
 mod heads;
 mod laws;
 mod leaf;
@@ -26,7 +27,6 @@ mod segments;
 mod size_of;
 mod sizes;
 mod spans;
-mod straight;
 mod tags;
 
 pub use canon::Canon;

@@ -11,7 +11,7 @@ ghost use Rattle.types.specs.View.{ty_view, value_view, components_view, slots_v
 ghost use Rattle.canon.specs.Ordered.{IsOrdered, IsOrderedFrom, AreOrderedFrom, AreItemsOrderedFrom, IsSound, AreSound};
 ghost use Rattle.canon.specs.Span.{part_of};
 
-use crate::back::put_span;
+use crate::backward::put_span;
 use crate::copying::copy_leaf;
 use crate::parts::{chosen_in, items_in, slots_in};
 use crate::rule::CanonicalRule;

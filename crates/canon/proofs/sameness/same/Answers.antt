@@ -13,14 +13,14 @@ use Rattle.canon.specs.Node.{HasGoodNodes}
 use Rattle.canon.proofs.AcceptedLemmas.{good_nodes}
 use Rattle.canon.proofs.sameness.same.Goals as goal
 
-pub put_back-requires : goal.put_back-requires
-put_back-requires c = record {
+pub put_backward-requires : goal.put_backward-requires
+put_backward-requires c = record {
   nodes = subst (λ (t : Ty). HasGoodNodes (ty_view t)) (sym c.as_type-shape.ensures.value) (good_nodes (ty_view c.args.ty.now) c.as_type-shape.ensures.well_formed);
   conforms = subst (λ (t : Ty). Conforms (ty_view t) (value_view c.args.value.now)) (sym c.as_type-shape.ensures.value) c.requires.value;
 }
 
-pub put_back-requires-2 : goal.put_back-requires-2
-put_back-requires-2 c = record {
+pub put_backward-requires-2 : goal.put_backward-requires-2
+put_backward-requires-2 c = record {
   nodes = subst (λ (t : Ty). HasGoodNodes (ty_view t)) (sym c.as_type-shape.ensures.value) (good_nodes (ty_view c.args.ty.now) c.as_type-shape.ensures.well_formed);
   conforms = subst (λ (t : Ty). Conforms (ty_view t) (value_view c.args.other.now)) (sym c.as_type-shape.ensures.value) c.requires.other;
 }
@@ -30,10 +30,10 @@ returns c =
     let shape = ty_view c.args.ty.now in
     let v = value_view c.args.value.now in
     let w = value_view c.args.other.now in
-    let a = c.in_ok-put_back.ensures.appended in
-    let b = c.in_ok-put_back-2.ensures.appended in
-    let x = c.put_back.new.out.items in
-    let y = c.put_back-2.new.out.items in
+    let a = c.in_ok-put_backward.ensures.appended in
+    let b = c.in_ok-put_backward-2.ensures.appended in
+    let x = c.put_backward.new.out.items in
+    let y = c.put_backward-2.new.out.items in
     let first : x ≡ a.0 = a.1 ∙ ap (λ s. s ++ a.0) c.new-first.ensures.items in
     let second : y ≡ b.0 = b.1 ∙ ap (λ s. s ++ b.0) c.new-second.ensures.items in
     let encodes_first : IsEncoding der shape v (reverse a.0) = subst (λ (t : Ty). IsEncoding der (ty_view t) v (reverse a.0)) c.as_type-shape.ensures.value a.2 in

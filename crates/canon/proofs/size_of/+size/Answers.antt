@@ -20,7 +20,7 @@ use Rattle.canon.proofs.NodeSizeLemmas.{around_size}
 use Rattle.canon.proofs.SimpleLemmas.{rule_is_canonical}
 use Rattle.canon.proofs.StepLemmas.{item_size, as_many_slots, present_at, size_from_end, present_size, absent_size_any}
 use Rattle.canon.proofs.TyLemmas.{leaf_view, list_view, record_view, list_size, record_size}
-use Rattle.canon.proofs.StraightLemmas.{chosen_in_choice}
+use Rattle.canon.proofs.ForwardLemmas.{chosen_in_choice}
 use Rattle.canon.proofs.WritableLemmas.{stands_at, item_writable, part_writable}
 use Rattle.canon.proofs.size_of.+size.Goals as goal
 use Rattle.canon.proofs.size_of.+size.Goals.{size_of_components-in-Some, size_of_components-in-None}

@@ -25,8 +25,8 @@ use std::alloc::Global;
 use types::{Alternative, Field, Ty, Value};
 
 // Appends the encoding of `value`, turned round.
-#[cycle(back)]
-pub(crate) fn put_back(
+#[cycle(backward)]
+pub(crate) fn put_backward(
     alloc: Global,
     rule: CanonicalRule,
     ty: &Ty,
@@ -73,14 +73,14 @@ pub(crate) fn put_back(
         Ty::Choice(alternatives) => put_chosen(alloc, rule, alternatives, value, out),
         Ty::Explicit(tag, inner) => {
             put_end(rule, out)?;
-            put_back(alloc, rule, inner, value, out)?;
+            put_backward(alloc, rule, inner, value, out)?;
             put_head(rule, *tag, start, out)
         }
     }
 }
 
 // Appends the encoding of the chosen alternative's value, turned round.
-#[cycle(back)]
+#[cycle(backward)]
 #[inline(always)]
 fn put_chosen(
     alloc: Global,
@@ -96,11 +96,11 @@ fn put_chosen(
     let Some((which, chosen)) = chosen_in(value) else {
         unreachable!()
     };
-    put_back(alloc, rule, &alternatives[which].ty, chosen, out)
+    put_backward(alloc, rule, &alternatives[which].ty, chosen, out)
 }
 
 // Appends the encodings of items, the last first, each turned round.
-#[cycle(back)]
+#[cycle(backward)]
 fn put_items(
     alloc: Global,
     rule: CanonicalRule,
@@ -117,13 +117,13 @@ fn put_items(
     }
     let count = items.len();
     for done in 0..count {
-        put_back(alloc, rule, ty, &items[count - 1 - done], out)?;
+        put_backward(alloc, rule, ty, &items[count - 1 - done], out)?;
     }
     Ok(())
 }
 
 // Appends the encodings of items, the greatest first, each turned round.
-#[cycle(back)]
+#[cycle(backward)]
 fn put_in_order(
     alloc: Global,
     rule: CanonicalRule,
@@ -152,7 +152,7 @@ fn put_in_order(
 
 // Appends the encoding of `value` and returns where it stands. One without parts is written as it stands, and is not
 // turned round twice.
-#[cycle(back)]
+#[cycle(backward)]
 pub(crate) fn put_span(
     alloc: Global,
     rule: CanonicalRule,
@@ -171,14 +171,14 @@ pub(crate) fn put_span(
         let end = out.len();
         return Ok(Span { start, end });
     }
-    put_back(alloc, rule, ty, value, out)?;
+    put_backward(alloc, rule, ty, value, out)?;
     turn(out, start);
     let end = out.len();
     Ok(Span { start, end })
 }
 
 // Appends the encodings of components, the last first, each turned round.
-#[cycle(back)]
+#[cycle(backward)]
 fn put_components(
     alloc: Global,
     rule: CanonicalRule,
@@ -194,7 +194,7 @@ fn put_components(
     for done in 0..count {
         let place = count - 1 - done;
         match &slots[place] {
-            Some(value) => put_back(alloc, rule, &fields[place].ty, value, out)?,
+            Some(value) => put_backward(alloc, rule, &fields[place].ty, value, out)?,
             None => {}
         }
     }
@@ -202,7 +202,7 @@ fn put_components(
 }
 
 // Appends the encodings of components, those of the greatest tags first, each turned round.
-#[cycle(back)]
+#[cycle(backward)]
 fn put_by_tag(
     alloc: Global,
     rule: CanonicalRule,

@@ -33,7 +33,7 @@ use Rattle.canon.proofs.PartLemmas.{turned_end}
 use Rattle.canon.proofs.PutLemmas.{PutFrom, few_in_order, item_put, no_components_put, present_put, absent_put, laid_more, order_made}
 use Rattle.canon.proofs.SimpleLemmas.{rule_is_canonical}
 use Rattle.canon.proofs.StepLemmas.{as_many_slots, present_at}
-use Rattle.canon.proofs.StraightLemmas.{chosen_in_choice}
+use Rattle.canon.proofs.ForwardLemmas.{chosen_in_choice}
 use Rattle.types.specs.Order.{Ascends, IsOrderTag}
 use Rattle.canon.specs.Span.{part_of, turned_part}
 use Rattle.canon.specs.declared.spans.Span.{Span}
@@ -43,8 +43,8 @@ use Rattle.canon.proofs.TurnLemmas.{around_made}
 use Rattle.canon.proofs.TyLemmas.{leaf_view}
 use Rattle.canon.proofs.WritableLemmas.{stands_at, item_writable, part_writable}
 use Rattle.canon.proofs.WritesLemmas.{written_by, refused}
-use Rattle.canon.proofs.back.+back.Goals as goal
-use Rattle.canon.proofs.back.+back.Goals.{put_components-in-Some+in_ok-put_back-in-Some, put_components-in-None, put_by_tag-in-Some+in_ok-span-in-Some+in_ok-push-in-Some, put_by_tag-in-None}
+use Rattle.canon.proofs.backward.+backward.Goals as goal
+use Rattle.canon.proofs.backward.+backward.Goals.{put_components-in-Some+in_ok-put_backward-in-Some, put_components-in-None, put_by_tag-in-Some+in_ok-span-in-Some+in_ok-push-in-Some, put_by_tag-in-None}
 
 -- contents between what ends the encoding and its head
 arm : (r : Result (Unit {0}) NoMemory) (rule : Rule) (tag : Tag) (P Q : List ℕ → Type 0) (start : ℕ) (old one two new : List ℕ) → start ≡ length old → one ≡ old ++ end_octets rule → Appends (Turned P) one two → ((b : List ℕ) → IsAround P rule tag b → Q b)
@@ -54,8 +54,8 @@ arm r rule tag P Q start old one two new at end a f h left = record {
   kept = kept r (Keeps two new) (Keeps old new) (keeps_chain old two new (keeps_chain old one two (end_octets rule, end, tt) (a.0, a.1, tt))) left;
 }
 
-pub put_back-returns-in-Boolean : goal.put_back-returns-in-Boolean
-put_back-returns-in-Boolean t c =
+pub put_backward-returns-in-Boolean : goal.put_backward-returns-in-Boolean
+put_backward-returns-in-Boolean t c =
     let tag = c.in-Boolean.tag in
     let shape = ty_view c.args.ty.now in
     let alike = leaf_alike (rule_of c.args.rule) (rule_is_canonical c.args.rule) tag shape (value_view c.args.value.now) (leaf_view c.args.ty.now tag c.in-Boolean.is) c.requires.conforms in
@@ -74,8 +74,8 @@ put_chosen-bounds-alternatives-which t c =
     let told = c.in-Some.ensures parts.which parts.value parts.is in
     omega (arith, told.0, parts.alternative.there)
 
-pub put_chosen-put_back-requires : goal.put_chosen-put_back-requires
-put_chosen-put_back-requires t c =
+pub put_chosen-put_backward-requires : goal.put_chosen-put_backward-requires
+put_chosen-put_backward-requires t c =
     let alternatives = c.args.alternatives.now in
     let parts = choice_parts alternatives (value_view c.args.value.now) c.requires.conforms c.requires.nodes in
     let a = c.index-alternatives-which.result in
@@ -91,11 +91,11 @@ put_chosen-returns t c =
     let picked = value_view c.in-Some.chosen.now in
     let here = chosen_in_choice (rule_of c.args.rule) alternatives (Shape.choice (alternatives_view alternatives)) v c.in-Some.which picked a refl parts (c.in-Some.ensures parts.which parts.value parts.is) c.index-alternatives-which.is in
     written_by
-    (subst (λ (x : Alternative). Writes (Turned (IsEncoding (rule_of c.args.rule) (ty_view x.ty) picked)) c.put_back.result c.args.out.now.items c.put_back.new.out.items) (sym c.index-alternatives-which.is) c.put_back.ensures)
+    (subst (λ (x : Alternative). Writes (Turned (IsEncoding (rule_of c.args.rule) (ty_view x.ty) picked)) c.put_backward.result c.args.out.now.items c.put_backward.new.out.items) (sym c.index-alternatives-which.is) c.put_backward.ensures)
     (λ b h. here.alike.to (reverse b) h)
 
-pub put_back-returns-in_ok-put_components-in-Sequence : goal.put_back-returns-in_ok-put_components-in-Sequence
-put_back-returns-in_ok-put_components-in-Sequence t c =
+pub put_backward-returns-in_ok-put_components-in-Sequence : goal.put_backward-returns-in_ok-put_components-in-Sequence
+put_backward-returns-in_ok-put_components-in-Sequence t c =
     let rule = rule_of c.args.rule in
     let tag = c.in-Sequence.tag in
     let components = components_view c.in-Sequence.fields.items in
@@ -107,8 +107,8 @@ put_back-returns-in_ok-put_components-in-Sequence t c =
     arm c.put_head.result rule tag (AreComponents rule components parts.slots) (IsEncoding rule (ty_view c.args.ty.now) (value_view c.args.value.now)) c.len-start.result c.args.out.now.items one two c.put_head.new.out.items
     (omega (arith, c.len-start.ensures)) c.in_ok-put_end-in-Sequence.ensures.appended here (encoded_as rule _ _ _ _ _ is parts.is (sequence_alike rule tag components parts.slots)).to c.put_head.ensures.appended c.put_head.ensures.kept
 
-pub put_back-returns-in_ok-put_by_tag-in-Set : goal.put_back-returns-in_ok-put_by_tag-in-Set
-put_back-returns-in_ok-put_by_tag-in-Set t c =
+pub put_backward-returns-in_ok-put_by_tag-in-Set : goal.put_backward-returns-in_ok-put_by_tag-in-Set
+put_backward-returns-in_ok-put_by_tag-in-Set t c =
     let rule = rule_of c.args.rule in
     let tag = c.in-Set.tag in
     let components = components_view c.in-Set.fields.items in
@@ -120,8 +120,8 @@ put_back-returns-in_ok-put_by_tag-in-Set t c =
     arm c.put_head-in-Set.result rule tag (AreComponentsByTag rule components parts.slots) (IsEncoding rule (ty_view c.args.ty.now) (value_view c.args.value.now)) c.len-start.result c.args.out.now.items one two c.put_head-in-Set.new.out.items
     (omega (arith, c.len-start.ensures)) c.in_ok-put_end-in-Set.ensures.appended here (encoded_as rule _ _ _ _ _ is parts.is (set_alike rule tag components parts.slots (rule_is_canonical c.args.rule))).to c.put_head-in-Set.ensures.appended c.put_head-in-Set.ensures.kept
 
-pub put_back-returns-in_ok-put_items-in-SequenceOf : goal.put_back-returns-in_ok-put_items-in-SequenceOf
-put_back-returns-in_ok-put_items-in-SequenceOf t c =
+pub put_backward-returns-in_ok-put_items-in-SequenceOf : goal.put_backward-returns-in_ok-put_items-in-SequenceOf
+put_backward-returns-in_ok-put_items-in-SequenceOf t c =
     let rule = rule_of c.args.rule in
     let tag = c.in-SequenceOf.tag in
     let inner = c.in-SequenceOf.inner in
@@ -134,8 +134,8 @@ put_back-returns-in_ok-put_items-in-SequenceOf t c =
     arm c.put_head-in-SequenceOf.result rule tag (AreItems (IsEncoding rule type) (listed parts.items)) (IsEncoding rule (ty_view c.args.ty.now) (value_view c.args.value.now)) c.len-start.result c.args.out.now.items one two c.put_head-in-SequenceOf.new.out.items
     (omega (arith, c.len-start.ensures)) c.in_ok-put_end-in-SequenceOf.ensures.appended here (encoded_as rule _ _ _ _ _ is parts.is (sequence_of_alike rule tag type parts.items)).to c.put_head-in-SequenceOf.ensures.appended c.put_head-in-SequenceOf.ensures.kept
 
-pub put_back-returns-in_ok-put_in_order-in-SetOf : goal.put_back-returns-in_ok-put_in_order-in-SetOf
-put_back-returns-in_ok-put_in_order-in-SetOf t c =
+pub put_backward-returns-in_ok-put_in_order-in-SetOf : goal.put_backward-returns-in_ok-put_in_order-in-SetOf
+put_backward-returns-in_ok-put_in_order-in-SetOf t c =
     let rule = rule_of c.args.rule in
     let tag = c.in-SetOf.tag in
     let inner = c.in-SetOf.inner in
@@ -148,16 +148,16 @@ put_back-returns-in_ok-put_in_order-in-SetOf t c =
     arm c.put_head-in-SetOf.result rule tag (AreItemsInOrder (IsEncoding rule type) (listed parts.items)) (IsEncoding rule (ty_view c.args.ty.now) (value_view c.args.value.now)) c.len-start.result c.args.out.now.items one two c.put_head-in-SetOf.new.out.items
     (omega (arith, c.len-start.ensures)) c.in_ok-put_end-in-SetOf.ensures.appended here (encoded_as rule _ _ _ _ _ is parts.is (set_of_alike rule tag type parts.items (rule_is_canonical c.args.rule))).to c.put_head-in-SetOf.ensures.appended c.put_head-in-SetOf.ensures.kept
 
-pub put_back-returns-in_ok-put_back-in-Explicit : goal.put_back-returns-in_ok-put_back-in-Explicit
-put_back-returns-in_ok-put_back-in-Explicit t c =
+pub put_backward-returns-in_ok-put_backward-in-Explicit : goal.put_backward-returns-in_ok-put_backward-in-Explicit
+put_backward-returns-in_ok-put_backward-in-Explicit t c =
     let rule = rule_of c.args.rule in
     let tag = c.in-Explicit.tag in
     let type = ty_view c.in-Explicit.inner.value in
     let v = value_view c.args.value.now in
     let is : ty_view c.args.ty.now ≡ Shape.explicit tag type = ap ty_view c.in-Explicit.is ∙ ty-Explicit tag c.in-Explicit.inner in
     let one = c.put_end-in-Explicit.new.out.items in
-    let two = c.put_back.new.out.items in
-    let here : Appends (Turned (IsEncoding rule type v)) one two = subst (λ (e : Ty). Appends (Turned (IsEncoding rule (ty_view e) v)) one two) c.deref-in-Explicit.ensures c.in_ok-put_back-in-Explicit.ensures.appended in
+    let two = c.put_backward.new.out.items in
+    let here : Appends (Turned (IsEncoding rule type v)) one two = subst (λ (e : Ty). Appends (Turned (IsEncoding rule (ty_view e) v)) one two) c.deref-in-Explicit.ensures c.in_ok-put_backward-in-Explicit.ensures.appended in
     arm c.put_head-in-Explicit.result rule tag (IsEncoding rule type v) (IsEncoding rule (ty_view c.args.ty.now) v) c.len-start.result c.args.out.now.items one two c.put_head-in-Explicit.new.out.items
     (omega (arith, c.len-start.ensures)) c.in_ok-put_end-in-Explicit.ensures.appended here (λ b h. subst (λ (s : Shape). IsEncoding rule s v b) (sym is) ((explicit_alike rule tag type v).to b h)) c.put_head-in-Explicit.ensures.appended c.put_head-in-Explicit.ensures.kept
 
@@ -169,8 +169,8 @@ put_items-returns-in-Some t c =
     let alike = leaves_alike c.in-Some.tag (ty_view c.args.ty.now) c.in-Some.ensures (rule_of c.args.rule) (rule_is_canonical c.args.rule) (map value_view c.args.items.now) c.requires.conform in
     written_by c.put_leaves.ensures (λ b h. alike.to (reverse b) h)
 
-pub put_items-put_back-requires : goal.put_items-put_back-requires
-put_items-put_back-requires t c =
+pub put_items-put_backward-requires : goal.put_items-put_backward-requires
+put_items-put_backward-requires t c =
     (search rules, item_writable (ty_view c.args.ty.now) c.args.items.now (length c.args.items.now - 1 - c.loop-done.done) c.index-items-count.result (omega arith) c.index-items-count.is c.requires)
 
 pub put_items-loop-done-preserved : goal.put_items-loop-done-preserved
@@ -179,7 +179,7 @@ put_items-loop-done-preserved t c =
     let i = length items - (c.loop-done.done + 1) in
     let place : length items - 1 - c.loop-done.done ≡ i = omega arith in
     let at : c.index-items-count.result ≡ get_or items i c.index-items-count.result = c.index-items-count.is ∙ ap (λ k. get_or items k c.index-items-count.result) place in
-    item_put (IsEncoding (rule_of c.args.rule) (ty_view c.args.ty.now)) items i (length items - c.loop-done.done) c.index-items-count.result c.args.out.now.items c.loop-done.out.items c.put_back.new.out.items (omega arith) (omega arith) at c.loop-done.invariant c.in_ok-put_back.ensures.appended
+    item_put (IsEncoding (rule_of c.args.rule) (ty_view c.args.ty.now)) items i (length items - c.loop-done.done) c.index-items-count.result c.args.out.now.items c.loop-done.out.items c.put_backward.new.out.items (omega arith) (omega arith) at c.loop-done.invariant c.in_ok-put_backward.ensures.appended
 
 pub put_in_order-returns-then-items-lt2 : goal.put_in_order-returns-then-items-lt2
 put_in_order-returns-then-items-lt2 t c =
@@ -227,8 +227,8 @@ put_components-loop-done-init t c =
     let many = as_many_slots c.args.fields.now c.args.slots.now c.requires.conform in
     no_components_put (rule_of c.args.rule) c.args.fields.now c.args.slots.now (c.min-count.result - 0) c.args.out.now.items (omega (arith, c.min-count.ensures, many)) many
 
-pub put_components-put_back-requires : goal.put_components-put_back-requires
-put_components-put_back-requires t c =
+pub put_components-put_backward-requires : goal.put_components-put_backward-requires
+put_components-put_backward-requires t c =
     let place = c.min-count.result - 1 - c.loop-done.done in
     let bound : place < length c.args.fields.now = omega (arith, c.min-count.ensures) in
     let at = c.index-fields-place.is in (
@@ -261,14 +261,14 @@ put_components-loop-done-preserved t c =
     let slot = c.index-slots-place.result in
     let slot_is : slot ≡ get_or slots i slot = c.index-slots-place.is ∙ ap (λ k. get_or slots k slot) place in
     elim c.match-slots-place.branch [
-      | put_components-in-Some+in_ok-put_back-in-Some w ↦
+      | put_components-in-Some+in_ok-put_backward-in-Some w ↦
           let v = w.in-Some.value in
           let f = w.index-fields-place.result in
           let stands = stands_at slots i slot (Some v) slot_is w.in-Some.is in
           let at : f ≡ get_or fields i f = w.index-fields-place.is ∙ ap (λ k. get_or fields k f) place in
           let is = present_at fields slots i f v here at stands c.requires.conform c.requires.nodes in
-          let new = w.put_back.new.out.items in
-          let put : Appends (Turned (IsEncoding rule (ty_view f.ty) (value_view v))) c.loop-done.out.items new = subst (λ (g : Field). Appends (Turned (IsEncoding rule (ty_view g.ty) (value_view v))) c.loop-done.out.items new) (sym w.index-fields-place.is) w.in_ok-put_back-in-Some.ensures.appended in
+          let new = w.put_backward.new.out.items in
+          let put : Appends (Turned (IsEncoding rule (ty_view f.ty) (value_view v))) c.loop-done.out.items new = subst (λ (g : Field). Appends (Turned (IsEncoding rule (ty_view g.ty) (value_view v))) c.loop-done.out.items new) (sym w.index-fields-place.is) w.in_ok-put_backward-in-Some.ensures.appended in
           subst (λ (o : Vec ℕ Global). PutFrom rule fields slots i old o.items) (sym w.out-is) (present_put rule fields slots i j f v old c.loop-done.out.items new there here (omega arith) at stands is c.loop-done.invariant put)
       | put_components-in-None w ↦
           let stands = stands_at slots i slot None slot_is w.in-None.is in
@@ -356,15 +356,15 @@ put_by_tag-returns t c =
       kept = kept c.arrange_turned.result (Keeps (take c.len-from.result mid) new) (Keeps old new) (keeps_taken old _ mid new c.len-from.result (omega (arith, c.len-from.ensures)) c.loop-done.invariant.is) c.arrange_turned.ensures.kept;
     }
 
-pub put_items-returns-in_err-put_back : goal.put_items-returns-in_err-put_back
-put_items-returns-in_err-put_back t c =
+pub put_items-returns-in_err-put_backward : goal.put_items-returns-in_err-put_backward
+put_items-returns-in_err-put_backward t c =
     let so_far = c.loop-done.invariant in
-    refused _ c.from_residual.ensures.1 (keeps_chain c.args.out.now.items c.loop-done.out.items c.put_back.new.out.items (so_far.0, so_far.1, tt) c.in_err-put_back.ensures.kept)
+    refused _ c.from_residual.ensures.1 (keeps_chain c.args.out.now.items c.loop-done.out.items c.put_backward.new.out.items (so_far.0, so_far.1, tt) c.in_err-put_backward.ensures.kept)
 
-pub put_components-returns-in_err-put_back-in-Some : goal.put_components-returns-in_err-put_back-in-Some
-put_components-returns-in_err-put_back-in-Some t c =
+pub put_components-returns-in_err-put_backward-in-Some : goal.put_components-returns-in_err-put_backward-in-Some
+put_components-returns-in_err-put_backward-in-Some t c =
     let so_far = c.loop-done.invariant in
-    refused _ c.from_residual.ensures.1 (keeps_chain c.args.out.now.items c.loop-done.out.items c.put_back.new.out.items (so_far.0, so_far.1, tt) c.in_err-put_back-in-Some.ensures.kept)
+    refused _ c.from_residual.ensures.1 (keeps_chain c.args.out.now.items c.loop-done.out.items c.put_backward.new.out.items (so_far.0, so_far.1, tt) c.in_err-put_backward-in-Some.ensures.kept)
 
 pub put_in_order-returns-in_err-span : goal.put_in_order-returns-in_err-span
 put_in_order-returns-in_err-span t c =
@@ -403,6 +403,6 @@ put_span-returns-in-Some-clause-put t c =
 
 pub put_span-returns-clause-put : goal.put_span-returns-clause-put
 put_span-returns-clause-put t c =
-    let put = c.in_ok-put_back.ensures.appended in
-    let is = turned_end c.args.out.now.items put.0 c.put_back.new.out.items c.turn.new.out.items c.len-start.result (omega (arith, c.len-start.ensures)) put.1 c.turn.ensures in
+    let put = c.in_ok-put_backward.ensures.appended in
+    let is = turned_end c.args.out.now.items put.0 c.put_backward.new.out.items c.turn.new.out.items c.len-start.result (omega (arith, c.len-start.ensures)) put.1 c.turn.ensures in
     record { octets = reverse put.0; is = is; holds = put.2; start = search rules; end = search rules }

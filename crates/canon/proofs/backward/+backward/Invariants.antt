@@ -8,7 +8,7 @@ use Rattle.canon.specs.Rule.{rule_of}
 use Rattle.canon.specs.Turned.{Turned}
 use Rattle.canon.proofs.PutLemmas.{PutFrom}
 use Rattle.canon.proofs.TagPutLemmas.{LaidFrom}
-use Rattle.canon.proofs.back.+back.Given as goal
+use Rattle.canon.proofs.backward.+backward.Given as goal
 
 abbrev pub invariant-put_items-loop-done : goal.invariant-put_items-loop-done
 invariant-put_items-loop-done l = Appends (Turned (AreItems (IsEncoding (rule_of l.rule) (ty_view l.ty)) (map value_view (drop (l.count - l.done) l.items)))) l.initial.out.items l.out.items

@@ -8,7 +8,7 @@ ghost use Rattle.canon.specs.Node.{AreItems, AreComponents};
 ghost use Rattle.canon.specs.Rule.{rule_of};
 ghost use Rattle.canon.specs.Writes.{IsWritable, AreWritable, AreWritableSlots, Writes};
 
-use crate::back::put_span;
+use crate::backward::put_span;
 use crate::heads::{put_closing, put_opening};
 use crate::leaf::put_forwards;
 use crate::leaves::{join_leaves, leaf_tag};
@@ -19,8 +19,8 @@ use std::alloc::Global;
 use types::{Field, Ty, Value};
 
 // Appends the encoding of `value`, or a part of it where memory runs out.
-#[cycle(straight)]
-pub(crate) fn put_straight(
+#[cycle(forward)]
+pub(crate) fn put_forward(
     alloc: Global,
     rule: CanonicalRule,
     ty: &Ty,
@@ -61,18 +61,18 @@ pub(crate) fn put_straight(
             let Some((which, chosen)) = chosen_in(value) else {
                 unreachable!()
             };
-            put_straight(alloc, rule, &alternatives[which].ty, chosen, out)
+            put_forward(alloc, rule, &alternatives[which].ty, chosen, out)
         }
         Ty::Explicit(tag, inner) => {
             let place = put_opening(*tag, out)?;
-            put_straight(alloc, rule, inner, value, out)?;
+            put_forward(alloc, rule, inner, value, out)?;
             put_closing(rule, place, out)
         }
     }
 }
 
 // Appends the encodings of items, in order.
-#[cycle(straight)]
+#[cycle(forward)]
 fn join_items(
     alloc: Global,
     rule: CanonicalRule,
@@ -88,13 +88,13 @@ fn join_items(
         return join_leaves(rule, tag, items, out);
     }
     for item in items {
-        put_straight(alloc, rule, ty, item, out)?;
+        put_forward(alloc, rule, ty, item, out)?;
     }
     Ok(())
 }
 
 // Appends the encodings of components, in order of declaration.
-#[cycle(straight)]
+#[cycle(forward)]
 fn join_components(
     alloc: Global,
     rule: CanonicalRule,
@@ -114,7 +114,7 @@ fn join_components(
         let ty = &fields[place].ty;
         match leaf_tag(ty) {
             Some(tag) => put_forwards(rule, tag, value, out)?,
-            None => put_straight(alloc, rule, ty, value, out)?,
+            None => put_forward(alloc, rule, ty, value, out)?,
         }
     }
     Ok(())
