@@ -67,18 +67,10 @@ pub fn quoted_octets(alloc: Global, spelled: &str) -> Result<Option<Vec<u8>>, Al
     ensures value { IfOk result (λ found. IfSome found (λ octets. spelled.now ≡ character_string octets.items)) }
     ensures none { IfOk result (λ found. IsNone found → (octets : List ℕ) → spelled.now ≢ character_string octets) }
 {
-    match between_quotes(spelled.as_bytes()) {
-        Some(quoted) => undoubled(alloc, quoted),
-        None => Ok(None),
+    match spelled.as_bytes() {
+        [b'"', quoted @ .., b'"'] => undoubled(alloc, quoted),
+        _ => Ok(None),
     }
-}
-
-/// What stands between the first and the last quotation mark.
-fn between_quotes(spelled: &[u8]) -> Option<&[u8]>
-    ensures value { IfSome result (λ quoted. spelled.now ≡ 34 ∷ quoted.now ++ 34 ∷ []) }
-    ensures none { IsNone result → (quoted : List ℕ) → spelled.now ≢ 34 ∷ quoted ++ 34 ∷ [] }
-{
-    spelled.strip_prefix(b"\"")?.strip_suffix(b"\"")
 }
 
 /// The octets, one quote for each two; None where a quote stands alone.
