@@ -89,6 +89,12 @@ cleared_bits o (suc (suc (suc (suc (suc (suc zero)))))) low = shifted_bits o 6
 cleared_bits o (suc (suc (suc (suc (suc (suc (suc zero))))))) low = shifted_bits o 7
 cleared_bits o (suc (suc (suc (suc (suc (suc (suc (suc u)))))))) low = absurd (omega arith)
 
+-- an octet's bits once it was shifted there and back
+pub shifted_octet : (o u : ℕ) → o < 256 → u ≤ 7 → bits_of_octet (o / 2 ^ u * 2 ^ u % 256) ≡ take (8 - u) (bits_of_octet o) ++ replicate u false
+shifted_octet o u small low =
+    let whole : o / 2 ^ u * 2 ^ u % 256 ≡ o / 2 ^ u * 2 ^ u = omega (arith, shr_split o u) in
+    ap bits_of_octet whole ∙ cleared_bits o u low
+
 -- the bits before the unused ones
 pub bits_before-parts : (octets : List ℕ) (unused : ℕ) (bits tail : List Bool) → bits_of octets ≡ bits ++ tail → length tail ≡ unused → bits_before octets unused ≡ bits
 bits_before-parts octets unused bits tail parts size =
@@ -112,17 +118,17 @@ pub record IsCleared (octets : List ℕ) (unused y : ℕ) : Type 0 where
   pub low : y < 256
   pub bits_are : bits_of_octet y ≡ take (8 - unused) (bits_of_octet (get_or octets (length octets - 1) 0)) ++ replicate unused false
 
-pub IsCleared-from : (octets : List ℕ) (n unused x y : ℕ) → n ≡ length octets → 1 ≤ n → unused ≤ 7 → All (λ o. o < 256) octets → x ≡ get_or octets (n - 1) x → y < 256
-    → bits_of_octet y ≡ take (8 - unused) (bits_of_octet x) ++ replicate unused false → IsCleared octets unused y
-IsCleared-from octets n unused x y size some most below item low bits =
+pub IsCleared-from : (octets : List ℕ) (n unused x : ℕ) → n ≡ length octets → 1 ≤ n → unused ≤ 7 → All (λ o. o < 256) octets → x ≡ get_or octets (n - 1) x → IsCleared octets unused (x / 2 ^ unused * 2 ^ unused % 256)
+IsCleared-from octets n unused x size some most below item =
     let there : x ≡ get_or octets (n - 1) 0 = get_or_read_under octets (n - 1) n x 0 item (omega arith) size in
     let last : x ≡ get_or octets (length octets - 1) 0 = there ∙ ap (λ k. get_or octets (k - 1) 0) size in
+    let small : x < 256 = subst (λ o. o < 256) (sym last) (below (length octets - 1) 0 (omega arith)) in
     record {
       some = omega arith;
       at_most_7 = most;
       below_256 = below;
-      low = low;
-      bits_are = bits ∙ ap (λ o. take (8 - unused) (bits_of_octet o) ++ replicate unused false) last;
+      low = omega arith;
+      bits_are = shifted_octet x unused small most ∙ ap (λ o. take (8 - unused) (bits_of_octet o) ++ replicate unused false) last;
     }
 
 front_bits : (octets : List ℕ) (unused y : ℕ) → List Bool
@@ -340,12 +346,6 @@ one_canonical_bits r s bits c d canonical canonical' f g =
     let two = canonical_padding s bits d canonical' g in
     let same = one_padding bits f.octets g.octets f.unused g.unused one two in
     f.contents_are ∙ (ap (λ n. n ∷ f.octets) same.unused ∙ (ap (λ t. g.unused ∷ t) same.octets ∙ sym g.contents_are))
-
--- an octet's bits once it was shifted there and back
-pub shifted_octet : (o u : ℕ) → o < 256 → u ≤ 7 → bits_of_octet (o / 2 ^ u * 2 ^ u % 256) ≡ take (8 - u) (bits_of_octet o) ++ replicate u false
-shifted_octet o u small low =
-    let whole : o / 2 ^ u * 2 ^ u % 256 ≡ o / 2 ^ u * 2 ^ u = omega (arith, shr_split o u) in
-    ap bits_of_octet whole ∙ cleared_bits o u low
 
 not_true : (b : Bool) → (b ≡ true → ⊥) → b ≡ false
 not_true true h = absurd (h refl)

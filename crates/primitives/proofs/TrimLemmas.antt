@@ -1,6 +1,8 @@
 -- Lemmas on bits without the zero bits at their end.
 use Rattle.std.proofs.Common.{◌≡◌, ℕ, ◌+◌, ◌*◌, ◌^◌, ◌<◌, ◌≤◌, ◌-◌, inl, inr, Bool, true, false, List, [], ◌∷◌, ◌++◌, length, take, refl, sym, ◌∙◌, ap, arith, All, get_or, zero, suc, subst, length-append, append_assoc, replicate, nat_eq}
-use Rattle.std.specs.Int.{bit_at}
+use Rattle.std.specs.Int.{bit_at, w8}
+use Rattle.std.specs.Int.Count.{count_trailing_zeros}
+use Rattle.std.proofs.lemmas.Nat.Bits.{bit_at-trailing_zeros}
 use Rattle.std.proofs.lemmas.List.{take_more, take_all, length-take-le, get_or_read_under, append-nil, length-replicate, get_or-replicate, get_or_past, get_or_append_left, get_or-append-add, get_or-append_right, replicate-append-replicate, append_cancel_right}
 use Rattle.std.proofs.lemmas.List.Elements.{All-take}
 use Rattle.std.proofs.lemmas.Bool.{cases_lt}
@@ -40,7 +42,7 @@ bits_of-zeros (suc zeros) =
     ap (λ t. replicate 8 false ++ t) (bits_of-zeros zeros) ∙ (replicate-append-replicate 8 (8 * zeros) false ∙ ap (λ n. replicate n false) size)
 
 -- an octet up to its last bit that is 1, and the zero bits after it
-pub octet_end : (x v : ℕ) → v ≤ 7 → bit_at x v ≡ 1 → ((i : ℕ) → i < v → bit_at x i ≡ 0) → bits_of_octet x ≡ take (7 - v) (bits_of_octet x) ++ true ∷ replicate v false
+octet_end : (x v : ℕ) → v ≤ 7 → bit_at x v ≡ 1 → ((i : ℕ) → i < v → bit_at x i ≡ 0) → bits_of_octet x ≡ take (7 - v) (bits_of_octet x) ++ true ∷ replicate v false
 unfolding bits_of_octet
 octet_end x zero low one none = let b0 : bit_of x 1 ≡ true = ap (λ n. nat_eq n 1) one in cc
 octet_end x (suc zero) low one none =
@@ -172,13 +174,17 @@ IsTrimming-from_octet octets unused some below low bits_are =
     }
 
 -- octets up to the last that is not zero, and its zero bits after the last that is 1
-pub IsTrimming-from_front : (octets kept : List ℕ) (count x unused : ℕ) → All (λ o. o < 256) octets → kept ≡ take count octets → count ≤ length octets → (count ≡ 0 → ⊥) → x ≡ get_or kept (count - 1) x → unused ≤ 7
-    → bits_of_octet x ≡ take (7 - unused) (bits_of_octet x) ++ true ∷ replicate unused false → IsTrimming kept unused
-IsTrimming-from_front octets kept count x unused below front within some item low bits_are =
+pub IsTrimming-from_front : (octets kept : List ℕ) (count x : ℕ) → All (λ o. o < 256) octets → kept ≡ take count octets → count ≤ length octets → (count ≡ 0 → ⊥) → x ≡ get_or kept (count - 1) x → 0 < x → IsTrimming kept (count_trailing_zeros 8 x)
+IsTrimming-from_front octets kept count x below front within some item one =
     let size : length kept ≡ count = ap length front ∙ length-take-le count octets within in
     let there : x ≡ get_or kept (count - 1) 0 = get_or_read_under kept (count - 1) count x 0 item (omega arith) (sym size) in
     let last : x ≡ get_or kept (length kept - 1) 0 = there ∙ ap (λ n. get_or kept (n - 1) 0) (sym size) in
     let all : All (λ o. o < 256) kept = subst (All (λ o. o < 256)) (sym front) (All-take (λ o. o < 256) count octets below) in
+    let small : x < 256 = subst (λ o. o < 256) (sym last) (all (length kept - 1) 0 (omega arith)) in
+    let zeros = bit_at-trailing_zeros w8 x one small in
+    let unused = count_trailing_zeros 8 x in
+    let low : unused ≤ 7 = omega (arith, zeros.0) in
+    let bits_are = octet_end x unused low zeros.1 zeros.2 in
     IsTrimming-from_octet kept unused (omega arith) all low (subst (λ o. bits_of_octet o ≡ take (7 - unused) (bits_of_octet o) ++ true ∷ replicate unused false) last bits_are)
 
 -- after zero bits no bit is 1

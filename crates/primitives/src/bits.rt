@@ -44,7 +44,7 @@ impl Bits {
             return None;
         }
         let last = octets.len() - 1;
-        octets[last] = clear_last_bits(octets[last], unused);
+        octets[last] = octets[last] >> unused << unused;
         Some(Bits { octets, unused })
     }
 
@@ -88,7 +88,7 @@ impl Bits {
         if count == 0 {
             return Bits { octets, unused: 0 };
         }
-        let unused = zero_bits_at_end(octets[count - 1]);
+        let unused = octets[count - 1].trailing_zeros() as u8;
         Bits { octets, unused }
     }
 }
@@ -107,15 +107,6 @@ impl Eq for Bits {
     ghost laws = { lists_equiv bool_eq_equiv };
 }
 
-// The octet with its last bits zero, as many as `unused`.
-#[tactic(auto, using(crate::proofs::BitsLemmas::shifted_octet))]
-fn clear_last_bits(octet: u8, unused: u8) -> u8
-    requires { unused ≤ 7 }
-    ensures { bits_of_octet result ≡ take (8 - unused) (bits_of_octet octet) ++ replicate unused false }
-{
-    octet >> unused << unused
-}
-
 // How many octets there are before the zero octets at the end.
 fn count_before_zeros(octets: &[u8]) -> usize
     ensures within { result ≤ length octets.now }
@@ -127,15 +118,6 @@ fn count_before_zeros(octets: &[u8]) -> usize
         count -= 1;
     }
     count
-}
-
-// How many zero bits there are after the last bit that is 1.
-fn zero_bits_at_end(octet: u8) -> u8
-    requires { 0 < octet }
-    ensures within { result ≤ 7 }
-    ensures bits { bits_of_octet octet ≡ take (7 - result) (bits_of_octet octet) ++ true ∷ replicate result false }
-{
-    octet.trailing_zeros() as u8
 }
 
 /// The value of a BIT STRING's contents octets in a primitive encoding under BER. Unused bits need not

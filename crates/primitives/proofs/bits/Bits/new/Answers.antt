@@ -26,8 +26,8 @@ invariant_of-result-2 c =
     let size : n ≡ length octets = omega (arith, c.args.octets.ok, c.len-last.ensures) in
     let none = eqb-false (vec_len c.args.octets) 0 (sym c.is_empty.ensures ∙ c.if-is_empty.false) in
     let some : 1 ≤ n = omega (arith, none, c.len-last.ensures) in
-    let h = IsCleared-from octets n c.args.unused c.index.result.now c.clear_last_bits.result size some c.if-unused-gt7.false below c.index.ensures c.clear_last_bits.type_inv c.clear_last_bits.ensures in
-    rw size (IsPadded-cleared octets c.args.unused c.clear_last_bits.result h)
+    let h = IsCleared-from octets n c.args.unused c.index.result.now size some c.if-unused-gt7.false below c.index.ensures in
+    rw size (IsPadded-cleared octets c.args.unused _ h)
 
 pub returns-clause-value : goal.returns-clause-value
 returns-clause-value c =
@@ -37,5 +37,5 @@ returns-clause-value c =
     let size : n ≡ length octets = omega (arith, c.args.octets.ok, c.len-last.ensures) in
     let none = eqb-false (vec_len c.args.octets) 0 (sym c.is_empty.ensures ∙ c.if-is_empty.false) in
     let some : 1 ≤ n = omega (arith, none, c.len-last.ensures) in
-    let h = IsCleared-from octets n c.args.unused c.index.result.now c.clear_last_bits.result size some c.if-unused-gt7.false below c.index.ensures c.clear_last_bits.type_inv c.clear_last_bits.ensures in
-    rw size (IsFrontOf-cleared octets c.args.unused c.clear_last_bits.result h)
+    let h = IsCleared-from octets n c.args.unused c.index.result.now size some c.if-unused-gt7.false below c.index.ensures in
+    rw size (IsFrontOf-cleared octets c.args.unused _ h)

@@ -1,4 +1,5 @@
-use Rattle.std.proofs.Common.{◌≡◌, ◌∙◌, ◌++◌, ◌≤◌, ℕ, List, [], length, take, replicate, sym, ap, subst}
+use Rattle.std.proofs.Common.{◌≡◌, ◌∙◌, ◌++◌, ◌<◌, ◌≤◌, rules, ℕ, List, [], length, take, replicate, sym, ap, subst}
+use Rattle.std.specs.Int.Count.{count_trailing_zeros}
 use Rattle.primitives.specs.Bits.{IsPadded, bits_before}
 use Rattle.primitives.proofs.TrimLemmas.{IsTrimming, IsTrimming-none, IsTrimming-from_front, trimmed_front}
 use Rattle.primitives.proofs.bits.Bits.trimmed.Goals as goal
@@ -22,7 +23,8 @@ invariant_of-result-2 c =
     let p : List ℕ = c.truncate.new.self.items in
     let count : ℕ = c.count_before_zeros-count.result in
     let within : count ≤ length o = subst (λ t. count ≤ length t) c.deref.ensures.value c.count_before_zeros-count.ensures.within in
-    let h = IsTrimming-from_front o p count c.index.result.now c.zero_bits_at_end-unused.result c.self.invariant.below_256 c.truncate.ensures.items within c.if-count-eq0.false c.index.ensures c.zero_bits_at_end-unused.ensures.within c.zero_bits_at_end-unused.ensures.bits in
+    let last : 0 < c.index.result.now = search rules in
+    let h = IsTrimming-from_front o p count c.index.result.now c.self.invariant.below_256 c.truncate.ensures.items within c.if-count-eq0.false c.index.ensures last in
     h.padded
 
 pub returns-clause-front : goal.returns-clause-front
@@ -31,10 +33,11 @@ returns-clause-front c =
     let p : List ℕ = c.truncate.new.self.items in
     let count : ℕ = c.count_before_zeros-count.result in
     let u : ℕ = c.self.inside.unused in
-    let v : ℕ = c.zero_bits_at_end-unused.result in
+    let v : ℕ = count_trailing_zeros 8 c.index.result.now in
     let f : IsPadded c.args.self o u = subst (λ t. IsPadded t o u) c.self.view_is c.self.invariant in
     let within : count ≤ length o = subst (λ t. count ≤ length t) c.deref.ensures.value c.count_before_zeros-count.ensures.within in
-    let h = IsTrimming-from_front o p count c.index.result.now v c.self.invariant.below_256 c.truncate.ensures.items within c.if-count-eq0.false c.index.ensures c.zero_bits_at_end-unused.ensures.within c.zero_bits_at_end-unused.ensures.bits in
+    let last : 0 < c.index.result.now = search rules in
+    let h = IsTrimming-from_front o p count c.index.result.now c.self.invariant.below_256 c.truncate.ensures.items within c.if-count-eq0.false c.index.ensures last in
     let zeros : (n : ℕ) × (o ≡ take count o ++ replicate n 0) = subst (λ t. (n : ℕ) × (t ≡ take count t ++ replicate n 0)) c.deref.ensures.value c.count_before_zeros-count.ensures.zeros in
     let parts : o ≡ p ++ replicate zeros.0 0 = zeros.1 ∙ ap (λ t. t ++ replicate zeros.0 0) (sym c.truncate.ensures.items) in
     trimmed_front c.args.self (bits_before p v) o p u v zeros.0 f h.padded h.trimmed parts
@@ -45,5 +48,6 @@ returns-clause-trimmed c =
     let p : List ℕ = c.truncate.new.self.items in
     let count : ℕ = c.count_before_zeros-count.result in
     let within : count ≤ length o = subst (λ t. count ≤ length t) c.deref.ensures.value c.count_before_zeros-count.ensures.within in
-    let h = IsTrimming-from_front o p count c.index.result.now c.zero_bits_at_end-unused.result c.self.invariant.below_256 c.truncate.ensures.items within c.if-count-eq0.false c.index.ensures c.zero_bits_at_end-unused.ensures.within c.zero_bits_at_end-unused.ensures.bits in
+    let last : 0 < c.index.result.now = search rules in
+    let h = IsTrimming-from_front o p count c.index.result.now c.self.invariant.below_256 c.truncate.ensures.items within c.if-count-eq0.false c.index.ensures last in
     h.trimmed
