@@ -1,5 +1,5 @@
 -- What the scanner of tokens asks and answers of the octets where a token must begin.
-use Rattle.std.specs.Prelude.{◌≡◌, ◌≢◌, ℕ, ◌-◌, ◌≤◌, List, ◌∷◌, length, take, drop, false, Option, Some, None, Result, Ok, Err}
+use Rattle.std.specs.Prelude.{◌≡◌, ◌≢◌, ℕ, ◌-◌, ◌≤◌, List, ◌∷◌, length, take, drop, slice_index, true, false, Option, Some, None, Result, Ok, Err}
 use Rattle.std.specs.Char.{is_ascii_digit, is_ascii_alphabetic}
 use Rattle.lexis.specs.declared.front.Refused.{Refused}
 use Rattle.lexis.specs.declared.front.Refused.TheVariants.{Token as NoToken, TooLarge}
@@ -12,6 +12,10 @@ use Rattle.lexis.specs.Tokens.{IsToken, StandsNext}
 -- neither white space nor a comment stands in front
 abbrev pub StandsApart : List ℕ → Type 0
 StandsApart x = (m : ℕ) → ¬ IsPiece x m
+
+-- a digit stands behind a 0 in front
+abbrev pub IsLedByZero : List ℕ → Type 0
+IsLedByZero x = (slice_index x 0 ≡ 48) × (is_ascii_digit (slice_index x 1) ≡ true)
 
 -- no token stands in front
 abbrev pub HasNoToken : List ℕ → Type 0

@@ -1,10 +1,10 @@
 //! Numbers (X.680, clause 12): `0`, or digits of which the first is not `0`.
 
-ghost use Rattle.std.specs.Prelude.{◌≡◌, ℕ, ◌<◌, ◌≤◌, ◌^◌, length, take, slice_index, true, false, IfSome, IfNone};
+ghost use Rattle.std.specs.Prelude.{◌≡◌, ◌↔◌, ℕ, ◌<◌, ◌≤◌, ◌^◌, length, take, slice_index, true, IsTrue, IfSome, IfNone};
 ghost use Rattle.std.specs.Char.{is_ascii_digit};
 ghost use Rattle.std.specs.List.{prefix_len};
 ghost use Rattle.std.specs.Str.Parse.{digits_value};
-ghost use Rattle.lexis.specs.Fronts.{StandsApart, AnswersToken};
+ghost use Rattle.lexis.specs.Fronts.{IsLedByZero, StandsApart, AnswersToken};
 
 use crate::front::Refused;
 use crate::{Kind, MAX_NUMBER};
@@ -32,10 +32,7 @@ pub(crate) fn digits(octets: &[u8]) -> Option<(u128, usize)>
 
 // Whether a digit stands behind a 0 in front.
 fn is_led_by_zero(octets: &[u8]) -> bool
-    ensures yes { result ≡ true
-        → (slice_index octets.now 0 ≡ 48) × (is_ascii_digit (slice_index octets.now 1) ≡ true) }
-    ensures no { result ≡ false
-        → slice_index octets.now 0 ≡ 48 → ¬ (is_ascii_digit (slice_index octets.now 1) ≡ true) }
+    ensures { IsTrue result ↔ IsLedByZero octets.now }
 {
     octets.len() >= 2 && octets[0] == b'0' && octets[1].is_ascii_digit()
 }
