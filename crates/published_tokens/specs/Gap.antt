@@ -1,4 +1,4 @@
-use Rattle.std.specs.Prelude.{ℕ, ◌≡◌, ◌≢◌, ◌+◌, ◌<◌, ◌≤◌, List, length, slice_index}
+use Rattle.std.specs.Prelude.{ℕ, ◌≢◌, ◌+◌, ◌<◌, ◌≤◌, List, length, slice_index}
 use Rattle.published_tokens.specs.declared.gap.Piece.{Piece}
 use Rattle.published_tokens.specs.declared.gap.Piece.TheVariants.{Of, Unclosed, Nothing}
 
@@ -15,7 +15,3 @@ IsOneLine octets n = (i : ℕ) → i + 1 < n → slice_index octets i ≢ 10
 -- none of the first n octets ends a line
 abbrev pub IsWithinLine : List ℕ → ℕ → Type 0
 IsWithinLine octets n = (i : ℕ) → i < n → slice_index octets i ≢ 10
-
--- two hyphens stand there
-abbrev pub IsHyphens : List ℕ → ℕ → Type 0
-IsHyphens octets at = (at + 2 ≤ length octets) × (slice_index octets at ≡ 45) × (slice_index octets (at + 1) ≡ 45)

@@ -1,7 +1,7 @@
 //! Gaps between tokens: white space, comments (X.680 clause 12), feet and heads of pages.
 
-ghost use Rattle.std.specs.Prelude.{◌≡◌, ◌<◌, ◌≤◌, length, IsTrue, IfSome};
-ghost use Rattle.published_tokens.specs.Gap.{IsHyphens, IsWithin, IsWithinLine};
+ghost use Rattle.std.specs.Prelude.{◌≤◌, length};
+ghost use Rattle.published_tokens.specs.Gap.{IsWithin, IsWithinLine};
 
 use crate::page::page_line;
 
@@ -72,20 +72,12 @@ fn comment_rest(octets: &[u8]) -> usize
 {
     let mut count = 0;
     while count < octets.len() && !matches!(octets[count], 10..=13) {
-        if begins_hyphens(octets, count) {
+        if octets[count] == b'-' && count + 1 < octets.len() && octets[count + 1] == b'-' {
             return count + 2;
         }
         count += 1;
     }
     count
-}
-
-// Whether two hyphens stand here.
-fn begins_hyphens(octets: &[u8], at: usize) -> bool
-    requires { at < length octets.now }
-    ensures { IsTrue result → IsHyphens octets.now at }
-{
-    octets[at] == b'-' && at + 1 < octets.len() && octets[at + 1] == b'-'
 }
 
 /// The comment in front of these octets, which begin `/*`. Comments within it are counted.
