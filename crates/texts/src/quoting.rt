@@ -1,7 +1,7 @@
 //! Texts of strings.
 
 ghost use Rattle.std.specs.Prelude.{◌≡◌, ◌≤◌, ◌<◌, ◌++◌, IsAscii, IsTrue, OnOk, flat_map, length, map, string_bytes, take, true};
-ghost use Rattle.primitives.specs.Bits.{bit_of, bits_of_octet, bits_before};
+ghost use Rattle.primitives.specs.Bits.{bits_of_octet, bits_before};
 ghost use Rattle.texts.specs.Leaf.{bit_digit as digit_of_bit, hex_digit as digit_of_hex, bits_text, octets_text, hex_digits, quoted_octet, quoted_text, are_printable, readable_text, text_of_kind};
 
 use octets::NoMemory;
@@ -54,18 +54,15 @@ fn put_first_digits(octet: u8, count: usize, out: &mut String) -> Result<(), NoM
     ensures { OnOk result (string_bytes out.new ≡ string_bytes out.old ++ map digit_of_bit (take count (bits_of_octet octet))) }
 {
     for place in &PLACES[..count] {
-        out.push(bit_digit(octet, *place))?;
+        out.push(bit_digit(octet / *place % 2 == 1))?;
     }
     Ok(())
 }
 
-// The digit for the bit of this place value.
-fn bit_digit(octet: u8, place: u8) -> char
-    requires { 0 < place }
-    ensures value { result ≡ digit_of_bit (bit_of octet place) }
-    ensures ascii { result < 128 }
+fn bit_digit(bit: bool) -> char
+    ensures { result ≡ digit_of_bit bit }
 {
-    if octet / place % 2 == 1 { '1' } else { '0' }
+    if bit { '1' } else { '0' }
 }
 
 /// Appends two hexadecimal digits for each octet, in quotes.
@@ -99,7 +96,10 @@ fn hex_digit(value: u8) -> u8
     ensures value { result ≡ digit_of_hex value }
     ensures ascii { result < 128 }
 {
-    if value < 10 { 48 + value } else { 55 + value }
+    match value {
+        0..=9 => b'0' + value,
+        _ => b'A' + (value - 10),
+    }
 }
 
 // Appends characters of ASCII.
