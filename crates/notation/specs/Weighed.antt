@@ -1,5 +1,5 @@
 -- Weights of types that are not made yet.
-use Rattle.std.specs.Prelude.{◌≡◌, ℕ, Bool, List, Some, None, slice_get}
+use Rattle.std.specs.Prelude.{◌≡◌, ◌≤◌, ℕ, Bool, List, Some, None, slice_get}
 use Rattle.syntax.specs.Tree.{Ending, Form, Tree}
 use Rattle.syntax.specs.View.{form, tree}
 use Rattle.syntax.specs.declared.tree.Assignment.{Assignment}
@@ -33,6 +33,12 @@ IsComponentsWeight m automatic written weight = Weighs (ComponentsHaveSize m aut
 
 abbrev pub IsAlternativesWeight : Tree → Bool → List (List ℕ × Form) → Weight → Type 0
 IsAlternativesWeight m automatic written weight = Weighs (AlternativesHaveSize m automatic written) (AlternativesHaveNoTypes m automatic written) weight
+
+-- the weight, refused where there are too many nodes or levels
+pub record IsLimited (weight limited : Weight) : Type 0 where
+  pub means : (m : Tree) (form : Form) → IsWeight m form weight → IsWeight m form limited
+  pub within : limited.cause ≡ None → (limited ≡ weight) × (weight.nodes ≤ 4_096) × (weight.levels ≤ 60)
+  pub kept : weight.nodes ≤ 4_096 → weight.levels ≤ 60 → limited ≡ weight
 
 -- the weights that are known are those of the assignments
 abbrev pub AreWeighed : Module → Scope → Type 0

@@ -1,12 +1,12 @@
 //! What is known of the names of a module without any type being made.
 
-ghost use Rattle.std.specs.Prelude.{◌≡◌, ◌≤◌, IfOk, OnOk, IfSome, Some, None as Nothing, slice_get, slice_set, List, ℕ};
-ghost use Rattle.syntax.specs.Tree.{Form, Tree};
+ghost use Rattle.std.specs.Prelude.{◌≡◌, IfOk, OnOk, IfSome, Some, None as Nothing, slice_get, slice_set, List, ℕ};
+ghost use Rattle.syntax.specs.Tree.{Form};
 ghost use Rattle.syntax.specs.View.{form, tree};
 ghost use Rattle.notation.specs.Known.{LeadsTo, IsScope, IsNewScope};
 ghost use Rattle.notation.specs.Settled.{NamesTold, MeansNothing, IsSettled};
 ghost use Rattle.notation.specs.Apart.{IsApart, AreApart};
-ghost use Rattle.notation.specs.Weighed.{IsWeight, AreWeighed, CanWeigh};
+ghost use Rattle.notation.specs.Weighed.{IsWeight, IsLimited, AreWeighed, CanWeigh};
 
 use crate::ordering::Waits;
 use crate::scope::{Scope, Seen};
@@ -72,9 +72,7 @@ impl<'a> Scope<'a> {
 
 /// The weight, refused where there are too many nodes or levels.
 fn limited(weight: Weight) -> Weight
-    ensures weight { (m : Tree) (form : Form) → IsWeight m form weight → IsWeight m form result }
-    ensures within { result.cause ≡ Nothing → (result ≡ weight) × (weight.nodes ≤ 4_096) × (weight.levels ≤ 60) }
-    ensures kept { weight.nodes ≤ 4_096 → weight.levels ≤ 60 → result ≡ weight }
+    ensures { IsLimited weight result }
 {
     let fits = weight.nodes <= MAX_NODES && weight.levels <= MAX_LEVELS;
     weight.unless(fits, Cause::TooLarge)

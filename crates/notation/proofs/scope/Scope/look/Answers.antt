@@ -9,4 +9,4 @@ pub returns-clause-weighed : goal.returns-clause-weighed
 returns-clause-weighed c = λ a at can.
     let m = c.args.self.now.module.now in
     let is : form c.in-Some.body.now ≡ a.1 = body_is (form c.in-Some.body.now) _ a c.in-Some.ensures at in
-    c.limited.ensures.weight (tree m) a.1 (subst (λ (f : Form). IsWeight (tree m) f c.in_ok-weight.weight) is (c.in_ok-weight.ensures.weight (subst (CanWeigh m c.args.self.now) (sym is) can)))
+    c.limited.ensures.means (tree m) a.1 (subst (λ (f : Form). IsWeight (tree m) f c.in_ok-weight.weight) is (c.in_ok-weight.ensures.weight (subst (CanWeigh m c.args.self.now) (sym is) can)))
