@@ -1,18 +1,17 @@
 //! What stands behind `BIT` (X.680 clause 22).
 
-ghost use Rattle.std.specs.Prelude.{◌≡◌, map};
+ghost use Rattle.std.specs.Prelude.{◌≡◌, List, ℕ};
 ghost use Rattle.syntax.specs.View.{form, bit};
-ghost use Rattle.syntax.specs.Reading.{Gives, signs_from, more_at};
+ghost use Rattle.syntax.specs.Reading.{Gives, signs_from};
 ghost use Rattle.syntax.specs.BitReading.{bit_number_at, named_bit_at, named_bits_at, behind_string_at, bit_string_at};
 
+use crate::listing::{Part, parts_at};
 use crate::reading::{
     end_at, first_at, identifier_at, is_symbol, limited_number_at, symbol_at, word_at,
 };
-use crate::refusing::refuse_part;
 use crate::stop::Stop;
 use crate::terminal::Terminal;
 use crate::tree::{Expr, NamedBit, Simple};
-use crate::values::MAX_PARTS;
 use lexis::{Symbol, Word};
 use names::Name;
 use std::alloc::Global;
@@ -51,41 +50,29 @@ fn behind_string_at(alloc: Global, terminals: &[Terminal], at: usize) -> Result<
 fn named_bits_at(alloc: Global, terminals: &[Terminal], at: usize) -> Result<(Expr, usize), Stop>
     ensures { Gives (λ r. (form r.0, signs_from r.1 terminals.now)) result (named_bits_at (signs_from at terminals.now)) }
 {
-    let (bits, next) = bits_at(alloc, terminals, at)?;
+    let (bits, next) = parts_at(alloc, terminals, at)?;
     Ok((Expr::NamedBits(bits), next))
 }
 
-/// Named bits, to the brace that closes their list.
-fn bits_at(alloc: Global, terminals: &[Terminal], at: usize) -> Result<(Vec<NamedBit>, usize), Stop>
-    ensures { Gives (λ r. (map bit r.0.items, signs_from r.1 terminals.now)) result (more_at named_bit_at 256 (signs_from at terminals.now)) }
-{
-    let mut found = Vec::new(alloc);
-    let mut next = at;
-    for _count in 0..MAX_PARTS {
-        let (bit, is_last, behind) = named_bit_at(alloc, terminals, next)?;
-        found.push(bit)?;
-        next = behind;
-        if is_last {
-            return Ok((found, next));
-        }
-    }
-    Err(refuse_part(terminals, next))
-}
+impl Part for NamedBit {
+    ghost Form = { List ℕ × ℕ };
 
-/// A named bit, and whether it is the last of its list.
-#[tactic(auto, unfolding(crate::specs::BitReading::named_bit_at))]
-fn named_bit_at(
-    alloc: Global,
-    terminals: &[Terminal],
-    at: usize,
-) -> Result<(NamedBit, bool, usize), Stop>
-    ensures { Gives (λ r. ((bit r.0, r.1), signs_from r.2 terminals.now)) result (named_bit_at (signs_from at terminals.now)) }
-{
-    let (name, next) = identifier_at(terminals, at)?;
-    let (number, next) = bit_number_at(terminals, next)?;
-    let (is_last, next) = end_at(terminals, next)?;
-    let name = Name::new(alloc, name)?;
-    Ok((NamedBit { name, number }, is_last, next))
+    ghost view = { bit };
+
+    ghost read = { named_bit_at };
+
+    #[tactic(auto, unfolding(crate::specs::BitReading::named_bit_at))]
+    fn part_at(
+        alloc: Global,
+        terminals: &[Terminal],
+        at: usize,
+    ) -> Result<(NamedBit, bool, usize), Stop> {
+        let (name, next) = identifier_at(terminals, at)?;
+        let (number, next) = bit_number_at(terminals, next)?;
+        let (is_last, next) = end_at(terminals, next)?;
+        let name = Name::new(alloc, name)?;
+        Ok((NamedBit { name, number }, is_last, next))
+    }
 }
 
 /// The number of a bit, in parentheses.

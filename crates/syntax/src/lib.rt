@@ -2,6 +2,7 @@
 #![tactic(auto)]
 
 mod bits;
+mod listing;
 mod modules;
 mod parsing;
 mod prefixes;

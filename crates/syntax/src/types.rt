@@ -7,6 +7,7 @@ ghost use Rattle.syntax.specs.Reading.{Gives, signs_from, more_at};
 ghost use Rattle.syntax.specs.TypeReading.{type_at, shape_at, tagged_at, group_at, of_at, list_at, components_at, component_at, choice_at, alternative_at, named_at};
 
 use crate::bits::bit_string_at;
+use crate::listing::MAX_PARTS;
 use crate::prefixes::prefix_at;
 use crate::reading::{end_at, first_at, identifier_at, is_symbol, is_word, symbol_at};
 use crate::refusing::{Wanted, refuse, refuse_part};
@@ -14,7 +15,7 @@ use crate::simple::plain_at;
 use crate::stop::{Cause, Stop};
 use crate::terminal::Terminal;
 use crate::tree::{Alternative, Component, Expr, Group};
-use crate::values::{MAX_PARTS, ending_at, enumerated_at};
+use crate::values::{ending_at, enumerated_at};
 use lexis::{Lexeme, Symbol, Word};
 use names::Name;
 use std::alloc::Global;

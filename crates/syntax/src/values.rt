@@ -1,23 +1,22 @@
 //! What stands behind the types of components, and the items of an ENUMERATED.
 
-ghost use Rattle.std.specs.Prelude.{◌≡◌, map};
+ghost use Rattle.std.specs.Prelude.{◌≡◌};
+ghost use Rattle.syntax.specs.Tree.{Entry};
 ghost use Rattle.syntax.specs.View.{form, value_view, ending, entry};
 ghost use Rattle.lexis.specs.Lexemes.{sign};
-ghost use Rattle.syntax.specs.Reading.{Gives, signs_from, more_at};
+ghost use Rattle.syntax.specs.Reading.{Gives, signs_from};
 ghost use Rattle.syntax.specs.TypeReading.{enumerated_at};
 ghost use Rattle.syntax.specs.ValueReading.{begins_number, plain_value, number_value_at, value_at, default_at, ending_at, is_item_number, numbered_at, item_number_at, item_at};
 
+use crate::listing::{Part, parts_at};
 use crate::reading::{end_at, first_at, identifier_at, is_symbol, is_word, signed_at, symbol_at};
-use crate::refusing::{Wanted, refuse, refuse_part};
+use crate::refusing::{Wanted, refuse};
 use crate::stop::{Cause, Stop};
 use crate::terminal::Terminal;
 use crate::tree::{DefaultValue, Expr, Item, Presence, SignedNumber};
 use lexis::{Lexeme, Symbol, Word};
 use names::Name;
 use std::alloc::Global;
-
-/// The most parts of one list.
-pub const MAX_PARTS: u32 = 256;
 
 /// What stands behind the type of a component.
 #[tactic(auto, unfolding(crate::specs::ValueReading::ending_at))]
@@ -106,37 +105,29 @@ pub fn enumerated_at(
     ensures { Gives (λ r. (form r.0, signs_from r.1 terminals.now)) result (enumerated_at (signs_from at terminals.now)) }
 {
     let next = symbol_at(terminals, at, Symbol::OpenBrace)?;
-    let (items, next) = items_at(alloc, terminals, next)?;
+    let (items, next) = parts_at(alloc, terminals, next)?;
     Ok((Expr::Enumerated(items), next))
 }
 
-/// Items, to the brace that closes their list.
-fn items_at(alloc: Global, terminals: &[Terminal], at: usize) -> Result<(Vec<Item>, usize), Stop>
-    ensures { Gives (λ r. (map entry r.0.items, signs_from r.1 terminals.now)) result (more_at item_at 256 (signs_from at terminals.now)) }
-{
-    let mut found = Vec::new(alloc);
-    let mut next = at;
-    for _count in 0..MAX_PARTS {
-        let (item, is_last, behind) = item_at(alloc, terminals, next)?;
-        found.push(item)?;
-        next = behind;
-        if is_last {
-            return Ok((found, next));
-        }
-    }
-    Err(refuse_part(terminals, next))
-}
+impl Part for Item {
+    ghost Form = { Entry };
 
-/// An item, and whether it is the last of its list.
-#[tactic(auto, unfolding(crate::specs::ValueReading::item_at))]
-fn item_at(alloc: Global, terminals: &[Terminal], at: usize) -> Result<(Item, bool, usize), Stop>
-    ensures { Gives (λ r. ((entry r.0, r.1), signs_from r.2 terminals.now)) result (item_at (signs_from at terminals.now)) }
-{
-    let (name, next) = identifier_at(terminals, at)?;
-    let (number, next) = item_number_at(terminals, next)?;
-    let (is_last, next) = end_at(terminals, next)?;
-    let name = Name::new(alloc, name)?;
-    Ok((Item { name, number }, is_last, next))
+    ghost view = { entry };
+
+    ghost read = { item_at };
+
+    #[tactic(auto, unfolding(crate::specs::ValueReading::item_at))]
+    fn part_at(
+        alloc: Global,
+        terminals: &[Terminal],
+        at: usize,
+    ) -> Result<(Item, bool, usize), Stop> {
+        let (name, next) = identifier_at(terminals, at)?;
+        let (number, next) = item_number_at(terminals, next)?;
+        let (is_last, next) = end_at(terminals, next)?;
+        let name = Name::new(alloc, name)?;
+        Ok((Item { name, number }, is_last, next))
+    }
 }
 
 #[tactic(auto, unfolding(crate::specs::ValueReading::item_number_at))]
