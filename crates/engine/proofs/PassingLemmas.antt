@@ -8,12 +8,13 @@ use Rattle.octets.specs.Front.{HasFront}
 use Rattle.octets.specs.Rule.{Rule, ber, IsCanonical}
 use Rattle.octets.proofs.FrontLemmas.{HasFront-from_parts, front_of_more}
 use Rattle.types.specs.declared.refusal.Refusal.{Refusal}
-use Rattle.types.specs.declared.refusal.Refusal.TheVariants.{Truncated, NotCanonical, StreamTooLong, OutputTooLong, SinkFault, NoMemory}
+use Rattle.types.specs.declared.refusal.Refusal.TheVariants.{Truncated, NotCanonical, StreamTooLong, OutputTooLong, SourceFault, SinkFault, NoMemory}
 use Rattle.types.specs.Encoding.{Meaning, IsAccepted, IsSomeAccepted}
 use Rattle.types.specs.Refusal.{refusal_number, IsOfOctets, IsFinal}
 use Rattle.types.specs.Shape.{Shape, Val}
 use Rattle.devices.specs.Parts.{IsWholeCount}
-use Rattle.engine.specs.Stream.{IsCut, Refuses}
+use Rattle.engine.specs.Refusal.{IsOfConverting, IsOfGathering}
+use Rattle.engine.specs.Stream.{IsCut, Refuses, source_failures}
 use Rattle.engine.specs.Passing.{Gathers, Writes, StopsAnyway}
 use Rattle.engine.proofs.StreamLemmas.{zip_append, zip_take, zip_length, length_of_map, length_of_take, stream_append, written_append, sum_cons, take_within, take_past}
 
@@ -247,3 +248,12 @@ writes_cut rule shape Stands octets rest batch lengths at k g w within =
       };
       stops = sink_failed rule shape Stands c.value c.front c.more c.behind c.part c.behind_is c.read c.cut;
     }
+
+-- what gathering refuses with, a call that writes encodings does, and it is no fault of the source
+pub gathering_converts : (rule : Rule) (refusal : Refusal) → IsOfGathering rule refusal → IsOfConverting rule refusal
+gathering_converts rule NotCanonical h = h
+gathering_converts rule refusal h = tt
+
+pub gathering_leaves_source : (rule : Rule) (refusal : Refusal) → IsOfGathering rule refusal → source_failures refusal ≡ 0
+gathering_leaves_source rule SourceFault h = absurd h
+gathering_leaves_source rule refusal h = refl

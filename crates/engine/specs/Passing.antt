@@ -1,13 +1,17 @@
 -- A stream passed on piece by piece: what stands between two reads, and behind each piece. `StandsAt` is what is
 -- said of a reader and the octets that it took since it was fresh.
-use Rattle.std.specs.Prelude.{◌≡◌, ◌+◌, ℕ, List, [], ◌∷◌, ◌++◌, length, map, Option}
+use Rattle.std.specs.Prelude.{◌≡◌, ◌≤◌, ◌+◌, ℕ, List, [], ◌∷◌, ◌++◌, length, map, Option}
 use Rattle.std.specs.Io.KnownBytes.{Appends, Consumes}
 use Rattle.std.specs.List.{AllZip, concat}
 use Rattle.octets.specs.Rule.{Rule}
 use Rattle.types.specs.declared.refusal.Refusal.{Refusal}
+use Rattle.types.specs.declared.refusal.Refusal.TheVariants.{OutputTooLong}
 use Rattle.types.specs.Encoding.{Meaning, IsAccepted}
+use Rattle.types.specs.Refusal.{IsOfWriting}
 use Rattle.types.specs.Shape.{Shape, Val}
-use Rattle.engine.specs.Stream.{BeginsWith, BeginsWritten, Refuses, RefusesToWrite}
+use Rattle.engine.specs.Feeding.{IsUnfinished}
+use Rattle.engine.specs.Refusal.{IsOfConverting}
+use Rattle.engine.specs.Stream.{BeginsWith, BeginsWritten, Refuses, RefusesToWrite, source_failures}
 
 -- the octets are encodings of values and then a rest; the batch is what stands for each of these values, and the
 -- lengths are those of its parts
@@ -27,6 +31,12 @@ pub record IsAdded (Stands : List ℕ → Type 0) (octets octets_new lengths len
   pub stands : Stands part
   pub octets_are : octets_new ≡ octets ++ part
   pub lengths_are : lengths_new ≡ lengths ++ length part ∷ []
+
+-- nothing is added for the value, for a refusal
+pub record IsNotAdded (Stands : List ℕ → Type 0) (CanBeTooLong : Type 0) (refusal : Refusal) : Type 0 where
+  pub too_long : refusal ≡ OutputTooLong → (octets : List ℕ) → ¬ Stands octets
+  pub long : refusal ≡ OutputTooLong → CanBeTooLong
+  pub numbers : IsOfWriting refusal
 
 -- the refusal is right, whatever came before the rest and whatever follows it
 pub record StopsAnyway (rule : Rule) (shape : Shape) (Stands : Meaning) (refusal : Refusal) (rest part : List ℕ) : Type 0 where
@@ -73,6 +83,18 @@ pub record StopsPassing (rule : Rule) (shape : Shape) (Stands : Meaning) (before
   pub takes : Appends taken_old taken_new written
   pub writes : Writes rule shape Stands count octets rest written part
   pub stops : StopsAnyway rule shape Stands refusal rest part
+
+-- so it was, behind whatever octets the reader stood at before, by `StandsOld`
+pub record HasPassed (StandsOld StandsNew : List ℕ → Type 0) (rule : Rule) (shape : Shape) (Stands : Meaning) (before now : ℕ) (piece : List ℕ) (taken_old taken_new : Option (List ℕ)) : Type 0 where
+  pub passed : (old : List ℕ) → IsUnfinished StandsOld rule shape old → PassesOn (IsUnfinished StandsNew rule shape) rule shape Stands before now (old ++ piece) taken_old taken_new
+  pub few : now ≤ before + length piece
+
+-- or it was not
+pub record HasNotPassed (StandsOld : List ℕ → Type 0) (rule : Rule) (shape : Shape) (Stands : Meaning) (CanBeTooLong : Type 0) (before done : ℕ) (refusal : Refusal) (piece : List ℕ) (taken_old taken_new : Option (List ℕ)) : Type 0 where
+  pub stopped : (old : List ℕ) → IsUnfinished StandsOld rule shape old → StopsPassing rule shape Stands before done refusal (old ++ piece) taken_old taken_new
+  pub source : source_failures refusal ≡ 0
+  pub long : refusal ≡ OutputTooLong → CanBeTooLong
+  pub numbers : IsOfConverting rule refusal
 
 -- between two reads: what was given is encodings of the values done and what the reader stands at
 pub record StandsAfter (StandsAt : List ℕ → Type 0) (rule : Rule) (shape : Shape) (Stands : Meaning) (done total : ℕ) (left_old left_new taken_old taken_new : Option (List ℕ)) : Type 0 where

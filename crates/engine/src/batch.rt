@@ -2,13 +2,12 @@
 
 ghost use Rattle.std.specs.Prelude.{◌≡◌, ◌≤◌, ℕ, List, [], ◌∷◌, ◌++◌, length, IsTrue, OnOk, OnErr, IfErr, IfSome};
 ghost use Rattle.types.specs.Conforms.{Conforms};
-ghost use Rattle.types.specs.Refusal.{IsOfWriting};
 ghost use Rattle.types.specs.Encoding.{IsAccepted};
 ghost use Rattle.types.specs.Shape.{Val};
 ghost use Rattle.types.specs.View.{value_view};
 ghost use Rattle.octets.specs.Front.{Appends};
 ghost use Rattle.engine.specs.Feeding.{IsUnfinished};
-ghost use Rattle.engine.specs.Passing.{IsAdded, HasGathered, StopsGathering};
+ghost use Rattle.engine.specs.Passing.{IsAdded, IsNotAdded, HasGathered, StopsGathering};
 ghost use Rattle.engine.specs.Refusal.{IsOfGathering};
 
 use crate::feeding::Feed;
@@ -52,11 +51,8 @@ impl Batch {
             self.old.octets.items self.new.octets.items self.old.lengths.items self.new.lengths.items) }
         ensures octets { OnErr result (self.new.octets.items ≡ self.old.octets.items) }
         ensures lengths { OnErr result (self.new.lengths.items ≡ self.old.lengths.items) }
-        ensures too_long { result ≡ Err Refusal.OutputTooLong →
-            (octets : List ℕ) → ¬ P.stands writer.now (value_view value.now) octets }
         ensures copies { self.new.copies ≡ self.old.copies }
-        ensures long { result ≡ Err Refusal.OutputTooLong → P.can_be_too_long }
-        ensures numbers { IfErr result IsOfWriting }
+        ensures refused { IfErr result (IsNotAdded (P.stands writer.now (value_view value.now)) P.can_be_too_long) }
     {
         let before = self.octets.len();
         match put(writer, value, encoding, &mut self.octets) {
@@ -139,10 +135,7 @@ fn put<P: Put>(
     ensures appended { OnOk result
         (Appends (P.stands writer.now (value_view value.now)) out.old.items out.new.items) }
     ensures unchanged { OnErr result (out.new.items ≡ out.old.items) }
-    ensures too_long { result ≡ Err Refusal.OutputTooLong →
-        (octets : List ℕ) → ¬ P.stands writer.now (value_view value.now) octets }
-    ensures long { result ≡ Err Refusal.OutputTooLong → P.can_be_too_long }
-    ensures numbers { IfErr result IsOfWriting }
+    ensures refused { IfErr result (IsNotAdded (P.stands writer.now (value_view value.now)) P.can_be_too_long) }
 {
     let Some(octets) = encoding else {
         return writer.put(value, out);

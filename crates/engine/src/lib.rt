@@ -23,4 +23,4 @@ pub use rule::Rule;
 pub use stopped::Stopped;
 pub use streams::{check, convert, list};
 pub use strict::Canonical;
-pub use transcoding::transcode;
+pub use transcoding::{read_by, transcode};

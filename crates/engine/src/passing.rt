@@ -5,7 +5,7 @@ ghost use Rattle.types.specs.Encoding.{IsAccepted};
 ghost use Rattle.types.specs.Shape.{Val};
 ghost use Rattle.engine.specs.Feeding.{IsUnfinished};
 ghost use Rattle.engine.specs.Given.{HasGiven};
-ghost use Rattle.engine.specs.Passing.{Writes, PassesOn, StopsPassing};
+ghost use Rattle.engine.specs.Passing.{Writes, HasPassed, HasNotPassed};
 ghost use Rattle.engine.specs.Refusal.{IsOfConverting};
 ghost use Rattle.engine.specs.Stream.{most_streamed, IsStopped, OfStream, source_failures, sink_failures};
 
@@ -36,21 +36,14 @@ fn pass<F: Feed, P: Put, K: Sink>(
         IsAccepted (F.rule reader.old) (P.shape writer.now) v octets → P.stands writer.now v octets }
     ensures copies { batch.new.copies ≡ batch.old.copies }
     ensures rule_stays { OnOk result (F.rule reader.new ≡ F.rule reader.old) }
-    ensures passed { IfOk result (λ now. (old : List ℕ) →
-        IsUnfinished (F.stands_at (P.shape writer.now) reader.old) (F.rule reader.old) (P.shape writer.now) old →
-        PassesOn (IsUnfinished (F.stands_at (P.shape writer.now) reader.new) (F.rule reader.old) (P.shape writer.now))
-        (F.rule reader.old) (P.shape writer.now) (P.stands writer.now) done now
-        (old ++ piece.now) (K.taken sink.old) (K.taken sink.new)) }
-    ensures stopped { IfErr result (λ stopped. (old : List ℕ) →
-        IsUnfinished (F.stands_at (P.shape writer.now) reader.old) (F.rule reader.old) (P.shape writer.now) old →
-        StopsPassing (F.rule reader.old) (P.shape writer.now) (P.stands writer.now) done stopped.done stopped.refusal
-        (old ++ piece.now) (K.taken sink.old) (K.taken sink.new)) }
-    ensures few { IfOk result (λ now. now ≤ done + length piece.now) }
+    ensures passed { IfOk result (λ now. HasPassed (F.stands_at (P.shape writer.now) reader.old)
+        (F.stands_at (P.shape writer.now) reader.new) (F.rule reader.old) (P.shape writer.now) (P.stands writer.now)
+        done now piece.now (K.taken sink.old) (K.taken sink.new)) }
+    ensures stopped { IfErr result (λ stopped. HasNotPassed (F.stands_at (P.shape writer.now) reader.old)
+        (F.rule reader.old) (P.shape writer.now) (P.stands writer.now) P.can_be_too_long
+        done stopped.done stopped.refusal piece.now (K.taken sink.old) (K.taken sink.new)) }
     ensures sink { MatchResult result (λ _. K.failures sink.new ≡ 0)
         (λ stopped. K.failures sink.new ≡ sink_failures stopped.refusal) }
-    ensures source { IfErr result (λ stopped. source_failures stopped.refusal ≡ 0) }
-    ensures long { IfErr result (λ stopped. stopped.refusal ≡ Refusal.OutputTooLong → P.can_be_too_long) }
-    ensures numbers { IfErr result (λ stopped. IsOfConverting (F.rule reader.old) stopped.refusal) }
 {
     let gathered = batch.gather(reader, writer, piece);
     let lengths = batch.lengths.as_slice();

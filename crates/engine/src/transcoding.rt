@@ -48,8 +48,8 @@ pub fn transcode(
     Ok(out)
 }
 
-// Reads a value by the rule `from`, and how many octets its encoding has.
-fn read_by(
+/// Reads the value at the front of `octets` by the rule `from`, and returns with it how many octets it has.
+pub fn read_by(
     alloc: Global,
     ty: &WellTyped,
     from: Rule,

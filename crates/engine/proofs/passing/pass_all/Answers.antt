@@ -56,17 +56,17 @@ loop-piece-preserved g c =
     record {
       copies = c.in-Ok-pass.ensures.copies ∙ c.loop-piece.invariant.copies;
       same_rule = c.in-Ok-pass.ensures.rule_stays ∙ c.loop-piece.invariant.same_rule;
-      stands = goes_on _ _ _ _ _ _ _ _ _ _ _ _ _ _ _ c.octets-octets.result.now c.loop-piece.invariant.stands gives refl (rw c.loop-piece.invariant.same_rule at c.in-Ok-pass.ensures.passed);
+      stands = goes_on _ _ _ _ _ _ _ _ _ _ _ _ _ _ _ c.octets-octets.result.now c.loop-piece.invariant.stands gives refl (rw c.loop-piece.invariant.same_rule at c.in-Ok-pass.ensures.passed.passed);
       source = c.in-Ok.ensures.count;
       sink = c.in-Ok-pass.ensures.sink;
-      few = omega (arith, c.in-Ok-pass.ensures.few, c.loop-piece.invariant.few);
+      few = omega (arith, c.in-Ok-pass.ensures.passed.few, c.loop-piece.invariant.few);
       within = omega (arith, c.if-octets-total.false, c.loop-piece.invariant.within);
     }
 
 pub returns-in-Err-pass-clause-stopped : goal.returns-in-Err-pass-clause-stopped
 returns-in-Err-pass-clause-stopped g c =
     let gives = subst (Consumes (g.S.Source.left c.loop-piece.source) (g.S.Source.left c.read_from.new.source)) (sym c.octets-octets.ensures) c.in-Ok.ensures.given in
-    stops _ _ _ _ _ _ _ _ _ _ _ _ _ _ c.octets-octets.result.now c.loop-piece.invariant.stands gives (rw c.loop-piece.invariant.same_rule at c.in-Err-pass.ensures.stopped)
+    stops _ _ _ _ _ _ _ _ _ _ _ _ _ _ c.octets-octets.result.now c.loop-piece.invariant.stands gives (rw c.loop-piece.invariant.same_rule at c.in-Err-pass.ensures.stopped.stopped)
 
 pub pass-requires-clause-stands : goal.pass-requires-clause-stands
 pass-requires-clause-stands g c =
@@ -74,7 +74,7 @@ pass-requires-clause-stands g c =
     (s.rest, rw (sym c.loop-piece.invariant.same_rule) at s.stands)
 
 pub returns-in-Err-pass-clause-numbers : goal.returns-in-Err-pass-clause-numbers
-returns-in-Err-pass-clause-numbers g c = rw c.loop-piece.invariant.same_rule at c.in-Err-pass.ensures.numbers
+returns-in-Err-pass-clause-numbers g c = rw c.loop-piece.invariant.same_rule at c.in-Err-pass.ensures.stopped.numbers
 
 pub pass-requires-clause-copied : goal.pass-requires-clause-copied
 pass-requires-clause-copied g c = λ copies v octets accepted.

@@ -1,4 +1,4 @@
-use Rattle.std.proofs.Common.{rules, ◌≡◌, ◌++◌, [], length, take, drop, refl, sym, subst, ap, ◌∙◌, Err, arith, length-drop}
+use Rattle.std.proofs.Common.{rules, ◌≡◌, ◌++◌, [], length, take, drop, refl, sym, subst, ap, ◌∙◌, arith, length-drop}
 use Rattle.std.proofs.lemmas.List.{length_push}
 use Rattle.types.specs.View.{value_view}
 use Rattle.types.proofs.EncodedLemmas.{encoded_conforms}
@@ -76,8 +76,8 @@ returns-in-Err-add-clause-refused g c = λ old unfinished.
     let i = c.loop-rest.invariant.gathers old unfinished in
     let f = fed shape i.0 i.1.stands in
     add_refused rule shape Stands c.in-Err-add.refusal (value_view c.in-Some.value) _ _ _ _ _ (i.0 ++ left) (i.0 ++ take used left) (drop used left)
-    c.in-Err-add.ensures.octets c.in-Err-add.ensures.lengths (cut_piece i.0 left (drop used left) used refl) f.0.accepted c.in-Err-add.ensures.numbers
-    (λ too_long. c.in-Err-add.ensures.too_long (ap Err too_long)) i.2
+    c.in-Err-add.ensures.octets c.in-Err-add.ensures.lengths (cut_piece i.0 left (drop used left) used refl) f.0.accepted c.in-Err-add.ensures.refused.numbers
+    c.in-Err-add.ensures.refused.too_long i.2
 
 pub returns-in-Err-clause-refused : goal.returns-in-Err-clause-refused
 returns-in-Err-clause-refused g c = λ old unfinished.
