@@ -175,3 +175,9 @@ ends_within StandsAt rule shape refusal read now left left_new b end finished =
             stream_limit = λ x. absurd (other Truncated StreamTooLong (λ n. omega (arith, n)) x);
           }));
     }
+
+-- the source ended, and nothing of it was begun
+pub ended_before : (left left_new : Option (List ℕ)) (begun : List ℕ) → begun ≡ [] → Consumes left left_new begun → IsAtEnd left_new → IsAtEnd left
+ended_before None left_new begun none taken end = tt
+ended_before (Some rest) None begun none taken end = absurd taken
+ended_before (Some rest) (Some more) begun none taken end = taken ∙ ap (λ x. x ++ more) none ∙ end

@@ -32,9 +32,7 @@ impl<S: Source> Reading<'_, S> {
     fn fill(&mut self) -> Result<bool, Refusal>
         requires source { S.failures self.old.source ≡ 0 }
         requires within { IsWithin self.old.at self.old.piece self.old.read }
-        ensures ty { self.new.ty ≡ self.old.ty }
-        ensures reader { self.new.reader ≡ self.old.reader }
-        ensures read { self.new.read ≡ self.old.read }
+        ensures stays { self.new ≡ record self.old { source = self.new.source; piece = self.new.piece; at = self.new.at } }
         ensures kept { Consumes (unread self.old.at self.old.piece (S.left self.old.source))
             (unread self.new.at self.new.piece (S.left self.new.source)) [] }
         ensures within { OnOk result (IsWithin self.new.at self.new.piece self.new.read) }
@@ -59,22 +57,6 @@ impl<S: Source> Reading<'_, S> {
             return Err(Refusal::StreamTooLong);
         }
         Ok(count > 0)
-    }
-
-    // So many more octets were read.
-    fn pass(&mut self, count: usize)
-        requires within { IsWithin self.old.at self.old.piece self.old.read }
-        requires there { self.old.at + count ≤ length self.old.piece }
-        ensures ty { self.new.ty ≡ self.old.ty }
-        ensures reader { self.new.reader ≡ self.old.reader }
-        ensures source { self.new.source ≡ self.old.source }
-        ensures piece { self.new.piece ≡ self.old.piece }
-        ensures at { self.new.at ≡ self.old.at + count }
-        ensures read { self.new.read ≡ self.old.read + count }
-        ensures within { IsWithin self.new.at self.new.piece self.new.read }
-    {
-        self.at += count;
-        self.read += count as u64;
     }
 
     /// The next value, if the source does not end before it. Asks for a reader of the type that is fresh, and a source
@@ -115,9 +97,13 @@ impl<S: Source> Reading<'_, S> {
             let mut slot = None;
             match self.reader.feed(rest, &mut slot) {
                 Ok(used) => match slot {
-                    None => self.pass(count),
+                    None => {
+                        self.at += count;
+                        self.read += count as u64;
+                    }
                     Some(value) => {
-                        self.pass(used);
+                        self.at += used;
+                        self.read += used as u64;
                         return Ok(Some(value));
                     }
                 },
