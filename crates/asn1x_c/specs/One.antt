@@ -4,11 +4,16 @@ use Rattle.octets.specs.Front.{HasFront}
 use Rattle.octets.specs.Rule.{Rule}
 use Rattle.types.specs.declared.refusal.Refusal.{Refusal}
 use Rattle.types.specs.declared.refusal.Refusal.TheVariants.{OutputTooLong}
+use Rattle.types.specs.declared.ty.Ty.{Ty}
+use Rattle.types.specs.declared.value.Value.{Value}
 use Rattle.types.specs.Encoding.{Meaning, IsAccepted}
 use Rattle.types.specs.Refusal.{refusal_number}
 use Rattle.types.specs.Shape.{Shape, Val}
+use Rattle.types.specs.View.{ty_view, value_view}
 use Rattle.texts.specs.Shown.{IsShown}
+use Rattle.engine.specs.Canonical.{Canonical}
 use Rattle.engine.specs.Refusal.{IsOfTranscoding}
+use Rattle.engine.specs.Rule.{canonical_rule_of}
 use Rattle.engine.specs.Stream.{IsLine}
 use Rattle.asn1x_c.specs.Done.{HasNoFirst, IsPut, StoppedBy}
 use Rattle.asn1x_c.specs.Numbers.{wrong_argument}
@@ -34,6 +39,18 @@ pub record RefusesFirst (Stands : Meaning) (rule : Rule) (shape : Shape) (octets
   -- and 17
   pub numbers : IsOfTranscoding rule refusal
 
+-- a line of text stands for it
+abbrev pub IsFirstLine : Rule → Shape → List ℕ → ℕ → List ℕ → Type 0
+IsFirstLine rule shape = IsFirstWritten (IsLine (IsShown shape)) rule shape
+
+-- or no line does, for a refusal
+abbrev pub RefusesFirstLine : Rule → Shape → List ℕ → Refusal → Type 0
+RefusesFirstLine rule shape = RefusesFirst (IsLine (IsShown shape)) rule shape
+
+-- the encoding of a value by a rule
+abbrev pub IsEncoding : Canonical → Ty → Value → List ℕ → Type 0
+IsEncoding to ty value = IsAccepted (canonical_rule_of to) (ty_view ty) (value_view value)
+
 -- what stands for the first value was written, or nothing
 pub record HasWrittenFirst (Stands : Meaning) (rule : Rule) (shape : Shape) (octets old new : List ℕ) (one : One) : Type 0 where
   pub written : List ℕ
@@ -41,7 +58,7 @@ pub record HasWrittenFirst (Stands : Meaning) (rule : Rule) (shape : Shape) (oct
   pub done : one.refusal ≡ 0 → IsFirstWritten Stands rule shape octets one.used written
   pub refused : one.refusal ≢ 0 → (one.used ≡ 0) × (written ≡ []) × StoppedBy one.refusal (RefusesFirst Stands rule shape octets)
 
--- its encoding by the rule `to`
+-- the encoding by the rule `to` was
 abbrev pub HasConvertedFirst : Rule → Rule → Shape → List ℕ → List ℕ → List ℕ → One → Type 0
 HasConvertedFirst from to shape = HasWrittenFirst (IsAccepted to shape) from shape
 

@@ -9,11 +9,11 @@ ghost use Rattle.types.specs.View.{ty_view, value_view};
 ghost use Rattle.texts.specs.Shown.{IsShown};
 ghost use Rattle.engine.specs.Rule.{rule_of, canonical_rule_of};
 ghost use Rattle.engine.specs.Stream.{IsLine};
-ghost use Rattle.asn1x_c.specs.One.{HasConvertedFirst, HasShownFirst, IsFirstWritten, RefusesFirst};
+ghost use Rattle.asn1x_c.specs.One.{HasConvertedFirst, HasShownFirst, IsEncoding, IsFirstLine, IsFirstWritten, RefusesFirst, RefusesFirstLine};
 
-use crate::doing::read_by;
 use crate::done::One;
 use convert::{Canon, Canonical, Cer, Der, Refusal, Rule, Value, WellTyped, show};
+use engine::read_by;
 use std::alloc::Global;
 
 // Converts the first value of the octets into a buffer.
@@ -69,10 +69,8 @@ fn print_first(
     from: Rule,
     octets: &[u8],
 ) -> Result<(Vec<u8>, usize), Refusal>
-    ensures value { IfOk result (λ p. IsFirstWritten (IsLine (IsShown (ty_view ty.now)))
-        (rule_of from) (ty_view ty.now) octets.now p.1 p.0.items) }
-    ensures refused { IfErr result (RefusesFirst (IsLine (IsShown (ty_view ty.now)))
-        (rule_of from) (ty_view ty.now) octets.now) }
+    ensures value { IfOk result (λ p. IsFirstLine (rule_of from) (ty_view ty.now) octets.now p.1 p.0.items) }
+    ensures refused { IfErr result (RefusesFirstLine (rule_of from) (ty_view ty.now) octets.now) }
 {
     let (value, used) = read_by(alloc, ty, from, octets)?;
     let line = line_of(alloc, ty, &value)?;
@@ -88,10 +86,8 @@ fn put_by(
     out: &mut Vec<u8>,
 ) -> Result<(), Refusal>
     requires { Conforms (ty_view ty.now) (value_view value.now) }
-    ensures appended { OnOk result (Appends
-        (IsAccepted (canonical_rule_of to) (ty_view ty.now) (value_view value.now)) out.old.items out.new.items) }
-    ensures too_long { result ≡ Err Refusal.OutputTooLong →
-        (b : List ℕ) → ¬ IsAccepted (canonical_rule_of to) (ty_view ty.now) (value_view value.now) b }
+    ensures appended { OnOk result (Appends (IsEncoding to ty.now value.now) out.old.items out.new.items) }
+    ensures too_long { result ≡ Err Refusal.OutputTooLong → (b : List ℕ) → ¬ IsEncoding to ty.now value.now b }
     ensures numbers { IfErr result IsOfWriting }
 {
     match to {
