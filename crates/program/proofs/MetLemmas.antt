@@ -1,14 +1,13 @@
 -- The subcommand that words name which `clap` does not refuse.
-use Rattle.std.proofs.Common.{◌≡◌, ◌≢◌, ℕ, List, [], ◌∷◌, Bool, true, false, Option, Some, None, ap, refl, sym, subst, ◌∙◌, codes, ◌||◌}
-use Rattle.std.specs.Prelude.{if◌then◌else◌, not, is_some, option_map, ◌&&◌, find}
+use Rattle.std.proofs.Common.{◌≡◌, List, [], Bool, true, false, Option, Some, None, refl, sym, subst, ◌∙◌, codes, ◌||◌}
+use Rattle.std.specs.Prelude.{if◌then◌else◌, not, is_some, option_map, ◌&&◌}
 use Rattle.std.specs.Option.{option_map_or}
 use Rattle.std.specs.Str.{bytes_eq}
 use Rattle.std.proofs.lemmas.Slice.Eq.{bytes_eq-Decides}
 use Rattle.clap.specs.declared.builder.value_parser.ValueParser.{ValueParser}
 use Rattle.clap.specs.Faults.{entered_fault, fault_of, level_fault}
-use Rattle.clap.specs.Kinds.{Kinds}
-use Rattle.clap.specs.Simple.{App, Shape, argument_words, built, built_leaf, entered, help_shape, inherited, is_simple, label_of, names_of, rows_at, subcommand_of}
-use Rattle.clap.specs.Walk.{Row, Text, Walk, answers_to, nothing_held, stop_after, walk, walk_from}
+use Rattle.clap.specs.Simple.{App, Shape, argument_words, built, built_leaf, entered, help_shape, names_of, rows_at, subcommand_of}
+use Rattle.clap.specs.Walk.{Row, Text, answers_to, nothing_held, stop_after, walk_from}
 use Rattle.program.specs.declared.command_line.Verb.{Verb}
 use Rattle.program.specs.declared.command_line.Verb.TheVariants.{Show, Check, Convert}
 use Rattle.program.specs.CommandLine.{word_of_verb}

@@ -1,22 +1,20 @@
 -- The program's subcommands on words that `clap` does not refuse: each has its entries.
-use Rattle.std.proofs.Common.{◌≡◌, ℕ, List, [], ◌∷◌, Bool, true, false, Option, Some, None, ap, refl, sym, subst, ◌∙◌, codes, arith, inl, inr, length, slice_index}
-use Rattle.std.specs.Prelude.{fold, if◌then◌else◌, not, is_some, map, ◌&&◌, ◌||◌, ◌⊎◌}
+use Rattle.std.proofs.Common.{◌≡◌, ℕ, List, [], ◌∷◌, Bool, true, false, Some, ap, refl, sym, subst, ◌∙◌, codes, arith, inl, inr, length, slice_index}
+use Rattle.std.specs.Prelude.{fold, if◌then◌else◌, not, map, ◌||◌, ◌⊎◌}
 use Rattle.std.specs.List.{AllByRecursion, list_any}
 use Rattle.std.specs.Str.{bytes_eq}
-use Rattle.std.specs.Borrow.{Bor}
 use Rattle.std.proofs.lemmas.Slice.Eq.{bytes_eq-Decides}
 use Rattle.clap.proofs.WalkLemmas.{list_any-map}
 use Rattle.clap.specs.declared.builder.value_parser.ValueParser.{ValueParser}
 use Rattle.clap.specs.declared.builder.value_parser.ValueParser.TheVariants.{Names}
-use Rattle.clap.specs.Facts.{parser_of_value, unwrap_or_range}
-use Rattle.clap.specs.Faults.{level_fault, repeat_fault, use_fault}
-use Rattle.clap.specs.Kinds.{Kinds, range_kinds, value_kinds, values_kinds}
+use Rattle.clap.specs.Faults.{level_fault, repeat_fault}
+use Rattle.clap.specs.Kinds.{range_kinds, value_kinds}
 use Rattle.clap.specs.Values.{refused_kind}
 use Rattle.clap.specs.ValueTests.{accepts}
-use Rattle.clap.specs.Simple.{App, Shape, built_leaf, help_rule, inherited, marked_built, new_app, on_top, with_index, with_leaf_noted, with_rule, filled}
+use Rattle.clap.specs.Simple.{Shape, built_leaf, help_rule, inherited, marked_built, new_app, on_top, with_index, with_leaf_noted, with_rule, filled}
 use Rattle.clap.specs.Takes.{is_given}
-use Rattle.clap.specs.Walk.{Row, Rule, Text, first_of, finished, nothing_held, has_row, reading_by, settled, used, walk, with_default}
-use Rattle.program.specs.Program.{IsNames, canonical_names, from_option, hex_option, needed, own_app, program_app, rule_names, rules_option, to_option, with_input}
+use Rattle.clap.specs.Walk.{Row, Text, first_of, finished, nothing_held, has_row, reading_by, settled, walk, with_default}
+use Rattle.program.specs.Program.{IsNames, canonical_names, from_option, hex_option, needed, program_app, rule_names, rules_option, to_option, with_input}
 use Rattle.program.specs.CommandLine.{word_of_canonical, word_of_rule}
 use Rattle.engine.specs.declared.rule.Rule.{Rule as ReadRule}
 use Rattle.engine.specs.declared.rule.Rule.TheVariants.{Ber, Cer as ReadCer, Der as ReadDer}
@@ -25,7 +23,7 @@ use Rattle.engine.specs.Canonical.TheVariants.{Cer, Der}
 use Rattle.program.specs.declared.command_line.Verb.{Verb}
 use Rattle.program.specs.declared.command_line.Verb.TheVariants.{Convert}
 use Rattle.program.proofs.WalkedLemmas.{Keeps, none_of}
-use Rattle.program.proofs.RowLemmas.{AreFilled, FitDefaults, HasFirst, default_row, first_of_row, given_row, rows_stay, used_filled}
+use Rattle.program.proofs.RowLemmas.{AreFilled, FitDefaults, default_row, first_of_row, given_row, rows_stay, used_filled}
 use Rattle.program.proofs.LevelLemmas.{checked, rows_filled}
 
 -- the word is one of the rules to read by, of those to write by

@@ -1,5 +1,5 @@
 -- Where the line that tells how many values there were, or the end of a text, is not written.
-use Rattle.std.proofs.Common.{◌≡◌, ℕ, List, [], Option, Some, None, append-nil, refl, sym}
+use Rattle.std.proofs.Common.{ℕ, List, [], Option, Some, None, append-nil, refl, sym}
 use Rattle.std.specs.Prelude.{IfSome}
 use Rattle.octets.specs.Rule.{Rule}
 use Rattle.types.specs.declared.refusal.Refusal.{Refusal}

@@ -1,5 +1,5 @@
 -- The rows of a walk that `clap` does not refuse: what each use keeps, the walk keeps.
-use Rattle.std.proofs.Common.{refl, ◌≡◌, ℕ, zero, suc, List, [], ◌∷◌, Bool, true, false, Option, Some, None, codes, length, drop, encode_utf8}
+use Rattle.std.proofs.Common.{refl, ◌≡◌, ℕ, zero, suc, List, [], ◌∷◌, Bool, true, false, Option, Some, None, length, drop, encode_utf8}
 use Rattle.std.specs.Prelude.{find, fold, if◌then◌else◌, is_some, slice_get, ◌&&◌, IfSome}
 use Rattle.std.specs.Option.{option_map_or}
 use Rattle.std.specs.List.{AllByRecursion}

@@ -1,5 +1,5 @@
 -- What a command line takes of the program's words.
-use Rattle.std.proofs.Common.{◌≡◌, ℕ, List, [], Bool, true, Option, None, Some, Result, Ok, Err, IfOk, ap, ap₂, refl, subst, sym, ◌∙◌, codes, inl, inr}
+use Rattle.std.proofs.Common.{◌≡◌, ℕ, List, [], true, Option, None, Some, Result, Ok, Err, IfOk, ap, ap₂, refl, subst, sym, ◌∙◌, codes, inl, inr}
 use Rattle.std.specs.Prelude.{IsSome, is_some, option_map, unwrap_or}
 use Rattle.clap.specs.Words.{App, HasKind, HasMatchesOf, Row, fault_of, first_value, found_of, has_subcommand, kind_of, rows_of, subcommand_name_of, subcommand_rows_of}
 use Rattle.clap.specs.declared.error.Error.{Error}

@@ -1,5 +1,5 @@
 -- What the program does with a stream of values.
-use Rattle.std.specs.Prelude.{◌≡◌, ◌≢◌, ◌++◌, ◌∷◌, ℕ, Bool, true, false, List, [], Option, Some, IfSome, codes, decimal}
+use Rattle.std.specs.Prelude.{◌≡◌, ◌≢◌, ◌++◌, ◌∷◌, ℕ, Bool, true, false, List, [], Option, IfSome, Result, IfOk, IfErr, ⊤, codes, decimal}
 use Rattle.octets.specs.Rule.{Rule}
 use Rattle.types.specs.declared.refusal.Refusal.{Refusal}
 use Rattle.types.specs.declared.refusal.Refusal.TheVariants.{SinkFault}
@@ -11,6 +11,7 @@ use Rattle.engine.specs.Stream.{IsChecked, IsCheckStopped, IsConverted, IsLine, 
 use Rattle.engine.specs.Canonical.{Canonical}
 use Rattle.program.specs.declared.fault.Fault.{Fault}
 use Rattle.program.specs.declared.fault.Fault.TheVariants.{Refused}
+use Rattle.program.specs.Fault.{IsFaultOfInput}
 use Rattle.program.specs.declared.tasks.Task.{Task}
 use Rattle.program.specs.declared.tasks.Task.TheVariants.{Show, Check, Convert}
 
@@ -48,3 +49,9 @@ IsTaskStopped (Convert to) true from shape done refusal left old new = IfSome le
 abbrev pub IsTaskFault : Task → Bool → Rule → Shape → Option (List ℕ) → Option (List ℕ) → Option (List ℕ) → Fault → Type 0
 IsTaskFault task hex from shape left old new (Refused refusal done) = IsTaskStopped task hex from shape done refusal left old new
 IsTaskFault task hex from shape left old new _ = ⊥
+
+-- what it came to with the values of a source, where what is written goes behind what was
+pub record HasPerformed (task : Task) (hex : Bool) (from : Rule) (shape : Shape) (left old new : Option (List ℕ)) (result : Result ⊤ Fault) : Type 0 where
+  pub done : IfOk result (λ _. IsDone task hex from shape left old new)
+  pub stopped : IfErr result (IsTaskFault task hex from shape left old new)
+  pub status : IfErr result IsFaultOfInput

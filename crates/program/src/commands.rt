@@ -101,13 +101,13 @@ fn with_input<'a>(
     requires { (out-Command command).has_globals ≡ false }
     ensures { IfOk result (TakesInput (app_of command.entry)) }
 {
-    let module = word(alloc, "MODULE").help(
+    let module = Arg::new(alloc, "MODULE").required(true).help(
         "The file of an ASN.1 module, - for standard input, or @builtin",
     );
-    let name = word(alloc, "TYPE").help(
+    let name = Arg::new(alloc, "TYPE").required(true).help(
         "The name of a type in it; of @builtin BOOLEAN, INTEGER, NULL or 'OCTET STRING'",
     );
-    let input = word(alloc, "INPUT").help(
+    let input = Arg::new(alloc, "INPUT").required(true).help(
         "The file of the values, one behind another, or - for standard input",
     );
     let from = rules_arg(alloc, "from", RULES.as_slice())
@@ -122,14 +122,6 @@ fn with_input<'a>(
     let command = command.arg(input)?;
     let command = command.arg(from)?;
     command.arg(hex)
-}
-
-// A word that must be there.
-fn word<'a>(alloc: Global, id: &'a str) -> Arg<'a>
-    ensures rule { rule_of result ≡ needed id.entry.now }
-    ensures local { result.global ≡ false }
-{
-    Arg::new(alloc, id).required(true)
 }
 
 // An option whose value is one of these names of rules.

@@ -5,7 +5,7 @@ ghost use Rattle.std.specs.Io.KnownBytes.{Appends};
 ghost use Rattle.types.specs.View.{ty_view};
 ghost use Rattle.engine.specs.Rule.{rule_of};
 ghost use Rattle.program.specs.Fault.{fault_status, IsFaultOfInput};
-ghost use Rattle.program.specs.Task.{IsDone, IsTaskFault, count_line};
+ghost use Rattle.program.specs.Task.{IsDone, IsTaskFault, HasPerformed, count_line};
 
 use crate::Line;
 use crate::fault::Fault;
@@ -63,9 +63,7 @@ fn print_texts<'a, S: Source, W: Write>(
     out: &mut W,
 ) -> Result<(), Fault<'a>>
     requires { S.failures source.old ≡ 0 }
-    ensures done { IfOk result (λ _. IsDone Task.Show true (rule_of from) (ty_view ty.now) (S.left source.old) (W.contents out.old) (W.contents out.new)) }
-    ensures stopped { IfErr result (IsTaskFault Task.Show true (rule_of from) (ty_view ty.now) (S.left source.old) (W.contents out.old) (W.contents out.new)) }
-    ensures status { IfErr result IsFaultOfInput }
+    ensures { HasPerformed Task.Show true (rule_of from) (ty_view ty.now) (S.left source.old) (W.contents out.old) (W.contents out.new) result }
 {
     let mut sink = Output::new(out);
     let result = list(alloc, ty, from, source, &mut sink);
@@ -102,9 +100,7 @@ fn convert_octets<'a, S: Source, W: Write>(
     out: &mut W,
 ) -> Result<(), Fault<'a>>
     requires { S.failures source.old ≡ 0 }
-    ensures done { IfOk result (λ _. IsDone (Task.Convert to) false (rule_of from) (ty_view ty.now) (S.left source.old) (W.contents out.old) (W.contents out.new)) }
-    ensures stopped { IfErr result (IsTaskFault (Task.Convert to) false (rule_of from) (ty_view ty.now) (S.left source.old) (W.contents out.old) (W.contents out.new)) }
-    ensures status { IfErr result IsFaultOfInput }
+    ensures { HasPerformed (Task.Convert to) false (rule_of from) (ty_view ty.now) (S.left source.old) (W.contents out.old) (W.contents out.new) result }
 {
     let mut sink = Output::new(out);
     let result = convert(alloc, ty, from, to, source, &mut sink);
@@ -125,9 +121,7 @@ fn convert_to_text<'a, S: Source, W: Write>(
     out: &mut W,
 ) -> Result<(), Fault<'a>>
     requires { S.failures source.old ≡ 0 }
-    ensures done { IfOk result (λ _. IsDone (Task.Convert to) true (rule_of from) (ty_view ty.now) (S.left source.old) (W.contents out.old) (W.contents out.new)) }
-    ensures stopped { IfErr result (IsTaskFault (Task.Convert to) true (rule_of from) (ty_view ty.now) (S.left source.old) (W.contents out.old) (W.contents out.new)) }
-    ensures status { IfErr result IsFaultOfInput }
+    ensures { HasPerformed (Task.Convert to) true (rule_of from) (ty_view ty.now) (S.left source.old) (W.contents out.old) (W.contents out.new) result }
 {
     let mut sink = HexSink::new(out);
     let result = convert(alloc, ty, from, to, source, &mut sink);

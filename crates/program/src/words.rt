@@ -36,21 +36,13 @@ fn line_of(alloc: Global, verb: Verb, matches: &ArgMatches<'_>) -> Result<Line, 
 {
     Ok(Line {
         verb,
-        module: String::from_str(alloc, word(matches, "MODULE"))?,
-        name: String::from_str(alloc, word(matches, "TYPE"))?,
-        input: String::from_str(alloc, word(matches, "INPUT"))?,
-        from: rule_of(word(matches, "from")),
+        module: String::from_str(alloc, matches.get_str("MODULE").unwrap())?,
+        name: String::from_str(alloc, matches.get_str("TYPE").unwrap())?,
+        input: String::from_str(alloc, matches.get_str("INPUT").unwrap())?,
+        from: rule_of(matches.get_str("from").unwrap()),
         to: to_of(verb, matches),
         hex: matches.get_flag("hex"),
     })
-}
-
-// The word that an argument has.
-fn word<'a>(matches: &ArgMatches<'a>, name: &str) -> &'a str
-    requires { IsSome (first_value (found_of matches.now) name.now) }
-    ensures { first_value (found_of matches.now) name.now ≡ Some result.now }
-{
-    matches.get_str(name).unwrap()
 }
 
 // The rule to write by, where the values are to be converted.
@@ -61,7 +53,7 @@ fn to_of(verb: Verb, matches: &ArgMatches<'_>) -> Option<Canonical>
 {
     match verb {
         Verb::Show | Verb::Check => None,
-        Verb::Convert => Some(canonical_of(word(matches, "to"))),
+        Verb::Convert => Some(canonical_of(matches.get_str("to").unwrap())),
     }
 }
 

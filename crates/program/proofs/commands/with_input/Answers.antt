@@ -1,21 +1,24 @@
-use Rattle.std.proofs.Common.{rules, ◌≡◌, ◌∙◌, ◌||◌, ap, ap₂, codes, false}
+use Rattle.std.proofs.Common.{rules, ◌≡◌, ◌∙◌, ◌||◌, ap, ap₂, codes, Bool, true, false}
 use Rattle.std.proofs.lemmas.Result.{IfOk-weaker}
+use Rattle.clap.specs.Walk.{Rule}
 use Rattle.clap.specs.Words.{app_of, rule_of, with_rule}
 use Rattle.clap.specs.declared.builder.arg.Arg.{Arg}
 use Rattle.clap.specs.declared.builder.value_parser.ValueParser.TheVariants.{Names}
-use Rattle.program.specs.Program.{from_option, hex_option, needed, with_input}
+use Rattle.program.specs.Program.{from_option, hex_option, needed}
 use Rattle.program.proofs.commands.with_input.Goals as goal
 
 pub returns : goal.returns
 returns c =
-    let module_is : rule_of c.help-module.result ≡ needed (codes "MODULE") = ap rule_of c.help-module.ensures ∙ c.word.ensures.rule in
-    let name_is : rule_of c.help-name.result ≡ needed (codes "TYPE") = ap rule_of c.help-name.ensures ∙ c.word-2.ensures.rule in
-    let input_is : rule_of c.help-input.result ≡ needed (codes "INPUT") = ap rule_of c.help-input.ensures ∙ c.word-3.ensures.rule in
+    let must_be : Rule → Rule = λ r. record r { required = true } in
+    let is_global : Arg → Bool = λ a. a.global in
+    let module_is : rule_of c.help-module.result ≡ needed (codes "MODULE") = ap rule_of c.help-module.ensures ∙ ap rule_of c.required.ensures ∙ ap must_be c.new.ensures.rule in
+    let name_is : rule_of c.help-name.result ≡ needed (codes "TYPE") = ap rule_of c.help-name.ensures ∙ ap rule_of c.required-2.ensures ∙ ap must_be c.new-2.ensures.rule in
+    let input_is : rule_of c.help-input.result ≡ needed (codes "INPUT") = ap rule_of c.help-input.ensures ∙ ap rule_of c.required-3.ensures ∙ ap must_be c.new-3.ensures.rule in
     let from_is : rule_of c.default_value-from.result ≡ from_option (Names c.as_slice.result) = search rules in
     let hex_is : rule_of c.help-hex.result ≡ hex_option = search rules in
-    let no_module : c.help-module.result.global ≡ false = ap (λ (a : Arg). a.global) c.help-module.ensures ∙ c.word.ensures.local in
-    let no_name : c.help-name.result.global ≡ false = ap (λ (a : Arg). a.global) c.help-name.ensures ∙ c.word-2.ensures.local in
-    let no_input : c.help-input.result.global ≡ false = ap (λ (a : Arg). a.global) c.help-input.ensures ∙ c.word-3.ensures.local in
+    let no_module : c.help-module.result.global ≡ false = ap is_global c.help-module.ensures ∙ ap is_global c.required.ensures ∙ c.new.ensures.optional.1 in
+    let no_name : c.help-name.result.global ≡ false = ap is_global c.help-name.ensures ∙ ap is_global c.required-2.ensures ∙ c.new-2.ensures.optional.1 in
+    let no_input : c.help-input.result.global ≡ false = ap is_global c.help-input.ensures ∙ ap is_global c.required-3.ensures ∙ c.new-3.ensures.optional.1 in
     let no_from : c.default_value-from.result.global ≡ false = search rules in
     let no_hex : c.help-hex.result.global ≡ false = search rules in
     let one = c.in_ok-command.ensures.shape no_module ∙ ap (with_rule (app_of c.args.command)) module_is in

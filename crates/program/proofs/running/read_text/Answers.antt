@@ -1,4 +1,3 @@
-use Rattle.std.proofs.Common.{◌≡◌}
 use Rattle.convert.proofs.ModuleFileLemmas.{read_up_to}
 use Rattle.program.proofs.running.read_text.Goals as goal
 

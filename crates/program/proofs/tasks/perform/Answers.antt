@@ -1,4 +1,3 @@
-use Rattle.std.proofs.Common.{◌≡◌}
 use Rattle.std.proofs.lemmas.Result.{IfErr-weaker}
 use Rattle.types.specs.View.{ty_view}
 use Rattle.engine.specs.Rule.{rule_of}

@@ -1,9 +1,9 @@
 use Rattle.std.proofs.Common.{◌≡◌, Some, refl}
 use Rattle.std.proofs.lemmas.Result.{err_from_is_err_and}
-use Rattle.clap.specs.Words.{app_of, found_of, kind_of, rows_of, subcommand_name_of, subcommand_rows_of}
+use Rattle.clap.specs.Words.{app_of, found_of, kind_of, rows_of, subcommand_name_of}
 use Rattle.program.specs.CommandLine.{texts_of}
 use Rattle.program.proofs.ProgramLemmas.{program_free}
-use Rattle.program.proofs.WordLemmas.{IsMetBy, line_of, met, met_by, refused_by, some_met, words_of}
+use Rattle.program.proofs.WordLemmas.{line_of, met, met_by, refused_by, some_met, words_of}
 use Rattle.program.proofs.words.line.Goals as goal
 
 pub returns-in_err-matches-clause-refused : goal.returns-in_err-matches-clause-refused
