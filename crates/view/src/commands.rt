@@ -8,6 +8,11 @@ static RULES: [&str; 3] = ["ber", "cer", "der"];
 
 /// The program's own command, with those of what it can do.
 pub fn program<'a>(alloc: Global) -> Result<Command<'a>, AllocError> {
+    with_other_commands(alloc, with_shows(alloc, named(alloc))?)
+}
+
+// What is said of the program itself.
+fn named<'a>(alloc: Global) -> Command<'a> {
     Command::new(alloc, "asn1x-view")
         .version("1.0.0")
         .about(
@@ -15,9 +20,19 @@ pub fn program<'a>(alloc: Global) -> Result<Command<'a>, AllocError> {
         )
         .after_help("Example: asn1x-view octets calls.asn Call calls.ber --from der")
         .subcommand_required(true)
+}
+
+// With the commands that show values and types.
+fn with_shows<'a>(alloc: Global, command: Command<'a>) -> Result<Command<'a>, AllocError> {
+    command
         .subcommand(octets_command(alloc)?)?
         .subcommand(json_command(alloc)?)?
-        .subcommand(types_command(alloc)?)?
+        .subcommand(types_command(alloc)?)
+}
+
+// With the commands that are about faults, and that which cuts a stream.
+fn with_other_commands<'a>(alloc: Global, command: Command<'a>) -> Result<Command<'a>, AllocError> {
+    command
         .subcommand(module_command(alloc)?)?
         .subcommand(refusal_command(alloc)?)?
         .subcommand(cut_command(alloc)?)

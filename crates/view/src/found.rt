@@ -5,7 +5,7 @@ use octets::NoMemory;
 use std::alloc::Global;
 use std::string::String;
 use types::{Refusal, WellTyped};
-use walking::{Stop, Walk};
+use walking::Walk;
 
 /// Where and why octets are refused.
 #[derive(Debug, Drop)]
@@ -55,7 +55,7 @@ pub fn find(
                 }
             }
             Ok(false) => return Ok(None),
-            Err(stop) => return of_stop(alloc, &walk, &stop),
+            Err(_) => return of_stop(alloc, &walk),
         }
     }
     Ok(None)
@@ -77,7 +77,10 @@ fn of_note(alloc: Global, walk: &Walk<'_>, style: &Style<'_>) -> Result<Option<F
 }
 
 // The place where a walk stops.
-fn of_stop(alloc: Global, walk: &Walk<'_>, stop: &Stop<'_>) -> Result<Option<Found>, NoMemory> {
+fn of_stop(alloc: Global, walk: &Walk<'_>) -> Result<Option<Found>, NoMemory> {
+    let Some(stop) = walk.stop() else {
+        return Ok(None);
+    };
     let mut path = String::new(alloc);
     walk.put_path(walk.depth(), stop.part.as_ref(), &mut path)?;
     let reason = stop.reason;

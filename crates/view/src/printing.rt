@@ -6,7 +6,7 @@ use octets::NoMemory;
 use std::alloc::Global;
 use std::string::String;
 use types::Ty;
-use walking::{Line, NOTES, Notes, Walk, What, name_of, put_contents, put_string};
+use walking::{Line, NOTES, Notes, Walk, What, put_contents, put_string, spaced_name_of};
 
 // The most octets of a value that are shown, unless all are asked for.
 const MOST_SHOWN: usize = 32;
@@ -73,7 +73,8 @@ fn put_place(
     columns.put_tag(line.part.tag, out)
 }
 
-// Appends the path, or the name of the type where that is empty, and the words that name the part's type.
+// Appends the path, or the name of the type where that is empty, and the words that name the part's type, with spaces
+// behind them where a value follows.
 fn put_name(
     walk: &Walk<'_>,
     line: &Line<'_>,
@@ -86,8 +87,11 @@ fn put_name(
         out.push_str(style.name)?;
         out.push_str(" ::=")?;
     }
-    out.push(' ')?;
-    out.push_str(name_of(line.part.node))?;
+    let name = spaced_name_of(line.part.node);
+    out.push_str(match line.what {
+        What::Leaf => name,
+        What::Parts | What::Segment | What::End => name.trim_end(),
+    })?;
     Ok(())
 }
 
@@ -100,12 +104,14 @@ fn put_notes(notes: Notes, rule: Canonical, out: &mut String) -> Result<(), NoMe
         Canonical::Cer => "  (not CER: ",
         Canonical::Der => "  (not DER: ",
     };
-    for note in NOTES.iter() {
-        if notes.has(*note) {
-            out.push_str(lead)?;
-            out.push_str(note.words())?;
-            out.push(')')?;
-        }
+    let mut left = notes;
+    for _ in NOTES {
+        let Some(note) = left.take_first() else {
+            return Ok(());
+        };
+        out.push_str(lead)?;
+        out.push_str(note.words())?;
+        out.push(')')?;
     }
     Ok(())
 }
@@ -124,7 +130,6 @@ fn put_value(
         out.push_str(" segment  ")?;
         put_string(node, shown, out)?;
     } else {
-        out.push_str("  ")?;
         put_contents(alloc, node, shown, out)?;
     }
     if omitted > 0 {

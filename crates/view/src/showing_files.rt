@@ -13,7 +13,7 @@ use crate::{FileSystem, Form, Reading};
 use engine::{Canonical, Rule};
 use program::PrintedPath;
 use std::alloc::Global;
-use std::io::Write;
+use std::io::{Read, Write};
 use std::string::String;
 use types::{Refusal, WellTyped};
 use walking::Walk;
@@ -63,17 +63,7 @@ impl<D: FileSystem> Showing<'_, D> {
         };
         self.print_name(path, out)?;
         let mut values = Values::new(self.alloc, self.reading.from, self.ty);
-        let mut lines = self.lines(out);
-        let hex = self.reading.hex;
-        let read = read_values(self.alloc, &mut input, hex, &mut values, &mut lines);
-        if let Form::Octets(wanted) = self.form {
-            if matches!(read, Err(Fault::Refused(_))) {
-                lines.print_octets(wanted, values.begun(), values.at(), false)?;
-            }
-        }
-        if lines.out.flush().is_err() {
-            return Err(Fault::Output);
-        }
+        let read = self.print_values(&mut input, &mut values, out);
         match read {
             Err(Fault::Refused(refusal)) => {
                 self.print_refused(path, &values, refusal, err)?;
@@ -82,6 +72,24 @@ impl<D: FileSystem> Showing<'_, D> {
             Ok(()) if self.lacks_value(values.done()) => Err(Fault::NoValue),
             other => other,
         }
+    }
+
+    // Prints the values of an input, and of one that is refused the lines up to the fault.
+    fn print_values<R: Read, W: Write>(
+        &self,
+        input: &mut R,
+        values: &mut Values<'_>,
+        out: &mut W,
+    ) -> Result<(), Fault> {
+        let mut lines = self.lines(out);
+        let read = read_values(self.alloc, input, self.reading.hex, values, &mut lines);
+        if let Form::Octets(wanted) = self.form {
+            if matches!(read, Err(Fault::Refused(_))) {
+                lines.print_octets(wanted, values.begun(), values.at(), false)?;
+            }
+        }
+        lines.flush()?;
+        read
     }
 
     // Whether a value is asked for behind the last of so many.

@@ -1,4 +1,4 @@
-//! What is printed of each value.
+//! What is printed of each value. Lines are gathered, and written many at a time.
 
 use crate::found::put_lines;
 use crate::json_text::{Layout, put_json};
@@ -12,6 +12,9 @@ use std::string::String;
 use types::{Value, WellTyped};
 use walking::Walk;
 
+// From so many octets on, what is gathered is written.
+const FULL: usize = 32_768;
+
 /// Prints values.
 #[derive(Drop)]
 pub struct ValueLines<'a, W> {
@@ -24,7 +27,7 @@ pub struct ValueLines<'a, W> {
     pub done: u64,
     /// The walk over each value.
     pub walk: Walk<'a>,
-    /// The room of the lines before.
+    /// What is not written yet.
     pub text: String,
 }
 
@@ -41,48 +44,61 @@ impl<W: Write> ValueLines<'_, W> {
         if wanted.only_refused || wanted.value.is_some_and(|value| value != number) {
             return Ok(());
         }
-        let mut text = self.emptied();
-        let style = self.style;
+        let before = self.text.len();
         self.walk.begin(is_taken);
-        let put = put_lines(self.alloc, &mut self.walk, octets, at, &style, &mut text);
-        let lines = match put {
-            Ok(()) => Ok(text),
-            Err(refused) => Err(refused),
-        };
-        self.write(lines)
+        let put = put_lines(
+            self.alloc,
+            &mut self.walk,
+            octets,
+            at,
+            &self.style,
+            &mut self.text,
+        );
+        self.gathered(before, put)
     }
 
     // Prints a value as JSON.
     fn print_json(&mut self, indented: bool, value: &Value) -> Result<(), Unwanted> {
-        let mut text = self.emptied();
+        let before = self.text.len();
         let level = 0;
         let layout = Layout { indented, level };
-        let put = put_json(self.alloc, self.ty.as_type(), value, layout, &mut text);
-        let lines = match put {
-            Ok(()) => match text.push('\n') {
-                Ok(()) => Ok(text),
-                Err(_) => Err(NoMemory),
-            },
-            Err(refused) => Err(refused),
-        };
-        self.write(lines)
+        let put = put_json_line(self.alloc, self.ty, value, layout, &mut self.text);
+        self.gathered(before, put)
     }
 
-    // An empty text, in the room of the lines before.
-    fn emptied(&mut self) -> String {
-        let mut text = std::mem::replace(&mut self.text, String::new(self.alloc));
-        text.clear();
-        text
-    }
-
-    // Writes lines, and keeps their room.
-    fn write(&mut self, lines: Result<String, NoMemory>) -> Result<(), Unwanted> {
-        let Ok(text) = lines else {
+    // Writes what is gathered, if it is much. Of a value for which memory ran out, behind so many octets, nothing is
+    // written.
+    fn gathered(&mut self, before: usize, put: Result<(), NoMemory>) -> Result<(), Unwanted> {
+        if put.is_err() {
+            self.write(before)?;
             return Err(Unwanted::NoMemory);
-        };
-        let written = self.out.write_all(text.as_bytes());
+        }
+        let count = self.text.len();
+        if count < FULL {
+            return Ok(());
+        }
+        self.write(count)
+    }
+
+    // Writes so many octets of what is gathered, and keeps none.
+    fn write(&mut self, count: usize) -> Result<(), Unwanted> {
+        let mut text = std::mem::replace(&mut self.text, String::new(self.alloc));
+        let written = self
+            .out
+            .write_all(text.as_bytes().get(..count).unwrap_or(&[]));
+        text.clear();
         self.text = text;
         match written {
+            Ok(()) => Ok(()),
+            Err(_) => Err(Unwanted::Output),
+        }
+    }
+
+    /// Writes all that was printed.
+    pub fn flush(&mut self) -> Result<(), Unwanted> {
+        let count = self.text.len();
+        self.write(count)?;
+        match self.out.flush() {
             Ok(()) => Ok(()),
             Err(_) => Err(Unwanted::Output),
         }
@@ -98,4 +114,17 @@ impl<W: Write> Visit for ValueLines<'_, W> {
         self.done = self.done.saturating_add(1);
         printed
     }
+}
+
+// Appends a value as JSON, and a line feed.
+fn put_json_line(
+    alloc: Global,
+    ty: &WellTyped,
+    value: &Value,
+    layout: Layout,
+    out: &mut String,
+) -> Result<(), NoMemory> {
+    put_json(alloc, ty.as_type(), value, layout, out)?;
+    out.push('\n')?;
+    Ok(())
 }

@@ -1,7 +1,7 @@
 //! Which part an identifier begins.
 
 use crate::open::{Due, Held};
-use crate::{Part, Reason, Step, Stop, Walk};
+use crate::{Part, Reason, Step, Stop, Stopped, Walk};
 use encoding_parts::{Kind, begins, is_node, node_of, not_due, segment_tag};
 use octets::Tag;
 use types::{Refusal, Value};
@@ -12,7 +12,7 @@ impl<'a> Walk<'a> {
         &mut self,
         tag: Tag,
         constructed: bool,
-    ) -> Result<Option<&'a Value>, Stop<'a>> {
+    ) -> Result<Option<&'a Value>, Stopped> {
         let at = self.taken;
         let is_bits_end = self.joined.unused != 0;
         let Some(top) = self.open.last_mut() else {
@@ -21,7 +21,7 @@ impl<'a> Walk<'a> {
         if let Held::Segments(kind) = &top.held {
             let kind = *kind;
             if let Some((refusal, words)) = segment_refused(kind, tag, constructed, is_bits_end) {
-                return Err(Stop::outside(refusal, at, Reason::Words(words)));
+                return Err(self.halt(Stop::outside(refusal, at, Reason::Words(words))));
             }
             self.line.part = segment_of(&top.part, tag);
             return Ok(None);
@@ -30,17 +30,18 @@ impl<'a> Walk<'a> {
             Ok(due) => self.tell_part(due, tag),
             Err(refusal) => {
                 let reason = why_not_due(refusal, tag, top.missing());
-                Err(Stop::outside(refusal, at, reason))
+                Err(self.halt(Stop::outside(refusal, at, reason)))
             }
         }
     }
 
     // Tells the value itself, if it begins with the tag.
-    fn due_outside(&mut self, tag: Tag) -> Result<Option<&'a Value>, Stop<'a>> {
+    fn due_outside(&mut self, tag: Tag) -> Result<Option<&'a Value>, Stopped> {
         if !begins(self.ty, tag) {
             let refusal = not_due(tag);
             let reason = why_not_due(refusal, tag, None);
-            return Err(Stop::outside(refusal, self.taken, reason));
+            let at = self.taken;
+            return Err(self.halt(Stop::outside(refusal, at, reason)));
         }
         let due = Due {
             step: Step::Whole,
@@ -51,7 +52,7 @@ impl<'a> Walk<'a> {
     }
 
     // Tells the part that is due, which begins with the tag, and returns its default.
-    fn tell_part(&mut self, due: Due<'a>, tag: Tag) -> Result<Option<&'a Value>, Stop<'a>> {
+    fn tell_part(&mut self, due: Due<'a>, tag: Tag) -> Result<Option<&'a Value>, Stopped> {
         let Due { step, ty, default } = due;
         let node = if is_node(ty) {
             Some(ty)
@@ -59,7 +60,8 @@ impl<'a> Walk<'a> {
             node_of(ty, tag)
         };
         let Some(node) = node else {
-            return Err(Stop::outside(Refusal::Identifier, self.taken, Reason::NotDue(tag)));
+            let at = self.taken;
+            return Err(self.halt(Stop::outside(Refusal::Identifier, at, Reason::NotDue(tag))));
         };
         self.line.part = Part {
             step,

@@ -27,6 +27,6 @@ pub use note::{NOTES, Note, Notes};
 pub use part::{Part, Step};
 pub use reason::Reason;
 pub use showing::{put_contents, put_string};
-pub use stop::Stop;
-pub use type_names::{PrintedTag, name_of};
+pub use stop::{Stop, Stopped};
+pub use type_names::{PrintedTag, name_of, spaced_name_of};
 pub use walk::Walk;

@@ -48,7 +48,7 @@ pub const NOTES: [Note; 12] = [
 /// What is not canonical at an identifier: any of the notes.
 #[derive(Clone, Copy, Debug, PartialEq, Eq)]
 pub struct Notes {
-    // a bit for each note
+    // a bit for each note, the least for the first of NOTES
     bits: u16,
 }
 
@@ -68,14 +68,16 @@ impl Notes {
         self.bits == 0
     }
 
-    /// Whether the note is one of these.
-    pub fn has(self, note: Note) -> bool {
-        self.bits & note.bit() != 0
-    }
-
     /// The first of these.
     pub fn first(self) -> Option<Note> {
-        NOTES.iter().copied().find(|note| self.has(*note))
+        NOTES.get(self.bits.trailing_zeros() as usize).copied()
+    }
+
+    /// Takes the first of these away.
+    pub fn take_first(&mut self) -> Option<Note> {
+        let note = self.first()?;
+        self.bits &= !note.bit();
+        Some(note)
     }
 }
 

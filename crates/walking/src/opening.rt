@@ -1,7 +1,7 @@
 //! Length octets, and whether a part may have them.
 
 use crate::walk::behind;
-use crate::{Reason, Stop, Walk};
+use crate::{Reason, Stop, Stopped, Walk};
 use berslice::MAX_NESTED;
 use encoding_parts::{Extent, can_have_length, contents_refusal, kind_of, read_extent};
 use octets::{Length, read_length};
@@ -30,15 +30,13 @@ impl Opening {
 impl<'a> Walk<'a> {
     // Reads the length octets of the part that is told, behind so many identifier octets.
     pub(crate) fn opening(
-        &self,
+        &mut self,
         constructed: bool,
         identifier: usize,
         rest: &[u8],
-    ) -> Result<Opening, Stop<'a>> {
+    ) -> Result<Opening, Stopped> {
         if !self.is_taken {
-            if let Some((refusal, reason)) = self.form_refused(constructed) {
-                return Err(Stop::of(self.line.part, refusal, self.taken, reason));
-            }
+            self.judge_form(constructed)?;
         }
         let before = self.taken.saturating_add(identifier);
         let lengths = behind(rest, identifier);
@@ -50,7 +48,10 @@ impl<'a> Walk<'a> {
         ) {
             Ok(Extent::Definite { octets, used }) => (used, Some(octets)),
             Ok(Extent::Indefinite { used }) => (used, None),
-            Err(refusal) => return Err(self.length_refused(refusal, before, lengths)),
+            Err(refusal) => {
+                let stop = self.why_no_length(refusal, before, lengths);
+                return Err(self.halt(stop));
+            }
         };
         let opening = Opening {
             constructed,
@@ -59,13 +60,25 @@ impl<'a> Walk<'a> {
             contents,
         };
         if !self.is_taken {
-            self.count_refused(&opening, rest)?;
+            self.judge_count(&opening, rest)?;
         }
         Ok(opening)
     }
 
+    // Refuses a form that the part cannot have.
+    #[inline(never)]
+    fn judge_form(&mut self, constructed: bool) -> Result<(), Stopped> {
+        match self.why_not_so_formed(constructed) {
+            Some((refusal, reason)) => {
+                let stop = Stop::of(self.line.part, refusal, self.taken, reason);
+                Err(self.halt(stop))
+            }
+            None => Ok(()),
+        }
+    }
+
     // Why an encoding of this form is refused.
-    fn form_refused(&self, constructed: bool) -> Option<(Refusal, Reason<'a>)> {
+    fn why_not_so_formed(&self, constructed: bool) -> Option<(Refusal, Reason<'a>)> {
         let node = self.line.part.node;
         let can_be = match (constructed, kind_of(node)) {
             (true, Some(_)) => true,
@@ -85,7 +98,8 @@ impl<'a> Walk<'a> {
     }
 
     // Why length octets are refused.
-    fn length_refused(&self, refusal: Refusal, at: usize, lengths: &[u8]) -> Stop<'a> {
+    #[inline(never)]
+    fn why_no_length(&self, refusal: Refusal, at: usize, lengths: &[u8]) -> Stop<'a> {
         let part = self.line.part;
         if refusal == Refusal::TooLong && !self.is_inside_definite() && !self.is_in_string() {
             if let Length::Definite { octets, .. } = read_length(lengths) {
@@ -109,8 +123,9 @@ impl<'a> Walk<'a> {
     }
 
     // Refuses a primitive encoding whose type cannot have as many contents octets, or that the input cuts.
-    fn count_refused(&self, opening: &Opening, rest: &[u8]) -> Result<(), Stop<'a>> {
-        let part = &self.line.part;
+    #[inline(never)]
+    fn judge_count(&mut self, opening: &Opening, rest: &[u8]) -> Result<(), Stopped> {
+        let part = self.line.part;
         let Some(count) = opening.contents else {
             return Ok(());
         };
@@ -119,22 +134,14 @@ impl<'a> Walk<'a> {
         }
         let at = self.taken.saturating_add(opening.identifier);
         if !self.is_in_string() && !can_have_length(part.node, count) {
-            return Err(Stop::of(
-                *part,
-                contents_refusal(part.node),
-                at,
-                Reason::Count(part.node, count),
-            ));
+            let reason = Reason::Count(part.node, count);
+            return Err(self.halt(Stop::of(part, contents_refusal(part.node), at, reason)));
         }
         let there = rest.len().saturating_sub(opening.head());
         if count > there {
             let at = self.taken.saturating_add(rest.len());
-            return Err(Stop::of(
-                *part,
-                Refusal::Truncated,
-                at,
-                Reason::Missing(count - there),
-            ));
+            let reason = Reason::Missing(count - there);
+            return Err(self.halt(Stop::of(part, Refusal::Truncated, at, reason)));
         }
         Ok(())
     }

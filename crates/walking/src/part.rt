@@ -33,13 +33,17 @@ pub struct Part<'a> {
 impl Part<'_> {
     /// Appends the part's name: `.name` of a component, `[0]` of an item, and `.name` of each alternative that is
     /// chosen.
+    #[inline(always)]
     pub fn put_name(&self, out: &mut String) -> Result<(), NoMemory> {
         match self.step {
             Step::Whole => {}
             Step::Component(name) => put_dotted(name, out)?,
             Step::Item(number) => put_number(number, out)?,
         }
-        put_alternatives(self.ty, self.tag, out)
+        match self.ty {
+            Ty::Choice(_) => put_alternatives(self.ty, self.tag, out),
+            _ => Ok(()),
+        }
     }
 }
 

@@ -17,6 +17,10 @@ pub struct Stop<'a> {
     pub reason: Reason<'a>,
 }
 
+/// A walk goes no further: `Walk::stop` says why. A mark without contents, so that a line costs no copy of a `Stop`.
+#[derive(Clone, Copy, Debug)]
+pub struct Stopped;
+
 impl<'a> Stop<'a> {
     /// A fault before a part is known.
     pub fn outside(refusal: Refusal, at: usize, reason: Reason<'a>) -> Stop<'a> {

@@ -4,7 +4,7 @@ use crate::judging::{is_spelt_out, value_of, why_no_value};
 use crate::open::{Held, Open};
 use crate::opening::Opening;
 use crate::walk::behind;
-use crate::{Note, Notes, Reason, Stop, Walk, What};
+use crate::{Note, Notes, Reason, Stop, Stopped, Walk, What};
 use encoding_parts::{Frame, Kind, kind_of};
 use octets::NoMemory;
 use primitives::read_bits;
@@ -17,16 +17,16 @@ impl<'a> Walk<'a> {
         default: Option<&'a Value>,
         opening: &Opening,
         octets: &[u8],
-    ) -> Result<(), Stop<'a>> {
+    ) -> Result<(), Stopped> {
         let at = self.taken;
         let notes = self.form_notes(self.line.part.node, opening);
         self.tell(opening, What::Parts, notes, octets);
         let opened = self.opened(default, opening);
         let Ok(Some(opened)) = opened else {
-            return Err(Stop::no_memory(at));
+            return Err(self.halt(Stop::no_memory(at)));
         };
         if self.open.push(opened).is_err() {
-            return Err(Stop::no_memory(at));
+            return Err(self.halt(Stop::no_memory(at)));
         }
         self.taken = at.saturating_add(opening.head());
         Ok(())
@@ -71,7 +71,7 @@ impl<'a> Walk<'a> {
         opening: &Opening,
         octets: &[u8],
         rest: &[u8],
-    ) -> Result<(), Stop<'a>> {
+    ) -> Result<(), Stopped> {
         let start = opening.head();
         let stop = start.saturating_add(opening.contents.unwrap_or(0));
         let contents = rest.get(start..stop).unwrap_or(&[]);
@@ -92,30 +92,32 @@ impl<'a> Walk<'a> {
     }
 
     // The value of the contents octets of the part that is told, whose head has so many octets.
-    fn value(&self, head: usize, contents: &[u8]) -> Result<Value, Stop<'a>> {
+    #[inline(never)]
+    fn value(&mut self, head: usize, contents: &[u8]) -> Result<Value, Stopped> {
         let part = self.line.part;
         match value_of(self.alloc, part.node, contents) {
             Ok(value) => Ok(value),
             Err((refusal, place, reason)) => {
                 let at = self.taken.saturating_add(head).saturating_add(place);
-                Err(Stop::of(part, refusal, at, reason))
+                Err(self.halt(Stop::of(part, refusal, at, reason)))
             }
         }
     }
 
     // Takes a primitive segment.
+    #[inline(never)]
     fn segment(
         &mut self,
         opening: &Opening,
         contents: &[u8],
         octets: &[u8],
-    ) -> Result<(), Stop<'a>> {
+    ) -> Result<(), Stopped> {
         let start = self.taken.saturating_add(opening.head());
         let later = behind(octets, start.saturating_add(contents.len()));
         let part = self.line.part;
         let notes = self.segment_notes(part.node, opening, contents, later);
         if let Err((refusal, reason)) = self.join(contents) {
-            return Err(Stop::of(part, refusal, start, reason));
+            return Err(self.halt(Stop::of(part, refusal, start, reason)));
         }
         if let Some(top) = self.open.last_mut() {
             top.count = top.count.saturating_add(1);

@@ -4,7 +4,7 @@ ghost use Rattle.std.specs.Prelude.{◌≤◌};
 
 use crate::judging::{is_string, why_no_value};
 use crate::open::{Held, Open};
-use crate::{Line, Notes, Part, Reason, Step, Stop, What};
+use crate::{Line, Notes, Part, Reason, Step, Stop, Stopped, What};
 use berslice::MAX_NESTED;
 use encoding_parts::{Joined, OUTSIDE, contents_refusal, read_end, read_head_tag};
 use octets::{MAX_ENCODING, NoMemory, Tag};
@@ -29,6 +29,8 @@ pub struct Walk<'a> {
     pub(crate) is_taken: bool,
     pub(crate) is_over: bool,
     pub(crate) line: Line<'a>,
+    // why the walk goes no further, once it does not
+    pub(crate) stop: Option<Stop<'a>>,
 }
 
 impl<'a> Walk<'a> {
@@ -54,6 +56,7 @@ impl<'a> Walk<'a> {
                 what: What::End,
                 notes: Notes::none(),
             },
+            stop: None,
         }
     }
 
@@ -65,11 +68,17 @@ impl<'a> Walk<'a> {
         self.joined.unused = 0;
         self.is_taken = is_taken;
         self.is_over = false;
+        self.stop = None;
     }
 
     /// What stands at the identifier to which `next_line` has gone.
     pub fn line(&self) -> &Line<'a> {
         &self.line
+    }
+
+    /// Why the walk goes no further, if `next_line` has said that it does not.
+    pub fn stop(&self) -> Option<&Stop<'a>> {
+        self.stop.as_ref()
     }
 
     /// How many octets have been walked over.
@@ -101,7 +110,7 @@ impl<'a> Walk<'a> {
 
     /// Goes to the next identifier, or the end of an indefinite form, of which `line` tells then. False behind the end
     /// of the value. The octets are those from the front of the value on, the same at each call.
-    pub fn next_line(&mut self, octets: &[u8]) -> Result<bool, Stop<'a>> {
+    pub fn next_line(&mut self, octets: &[u8]) -> Result<bool, Stopped> {
         self.close_definite()?;
         if self.is_over {
             return Ok(false);
@@ -116,27 +125,47 @@ impl<'a> Walk<'a> {
         };
         match ended {
             Some(used) => self.end(used)?,
-            None => match self.part(octets, rest) {
-                Ok(()) => {}
-                Err(stop) => return Err(stop.inside(self.is_inside_definite())),
-            },
+            None => {
+                if self.part(octets, rest).is_err() {
+                    return Err(self.halt_inside());
+                }
+            }
         }
         Ok(true)
     }
 
-    // Why the end of an indefinite form is none.
-    fn no_end(&self, refusal: Refusal, rest: &[u8]) -> Stop<'a> {
+    // Goes no further, for this reason.
+    #[inline(never)]
+    pub(crate) fn halt(&mut self, stop: Stop<'a>) -> Stopped {
+        self.stop = Some(stop);
+        Stopped
+    }
+
+    // Goes no further, for the reason that is known, as it is inside the open encodings.
+    #[inline(never)]
+    fn halt_inside(&mut self) -> Stopped {
+        let inside_definite = self.is_inside_definite();
+        self.stop = match self.stop {
+            Some(stop) => Some(stop.inside(inside_definite)),
+            None => None,
+        };
+        Stopped
+    }
+
+    // Goes no further, since the end of an indefinite form is none.
+    #[inline(never)]
+    fn no_end(&mut self, refusal: Refusal, rest: &[u8]) -> Stopped {
         let at = self.taken.saturating_add(rest.len().min(1));
         let words = match refusal {
             Refusal::Truncated => "the input ends before the end-of-contents octets",
             _ =>
                 "00 begins end-of-contents octets, and these are not 00 00, or not where they may end",
         };
-        Stop::outside(refusal, at, Reason::Words(words))
+        self.halt(Stop::outside(refusal, at, Reason::Words(words)))
     }
 
     // Closes the encodings of the definite form that end here.
-    fn close_definite(&mut self) -> Result<(), Stop<'a>> {
+    fn close_definite(&mut self) -> Result<(), Stopped> {
         for _ in 0..MAX_NESTED {
             let Some(top) = self.open.last() else {
                 return Ok(());
@@ -150,7 +179,7 @@ impl<'a> Walk<'a> {
     }
 
     // Takes the end-of-contents octets of the innermost open encoding.
-    fn end(&mut self, used: usize) -> Result<(), Stop<'a>> {
+    fn end(&mut self, used: usize) -> Result<(), Stopped> {
         let Some(top) = self.open.last() else {
             return Ok(());
         };
@@ -169,7 +198,7 @@ impl<'a> Walk<'a> {
     }
 
     // Closes the innermost open encoding.
-    fn close(&mut self) -> Result<(), Stop<'a>> {
+    fn close(&mut self) -> Result<(), Stopped> {
         let at = self.taken;
         let Some(open) = self.open.pop() else {
             return Ok(());
@@ -184,13 +213,14 @@ impl<'a> Walk<'a> {
             return Ok(());
         }
         match why_not_closed(&open) {
-            Some((refusal, reason)) => Err(Stop::of(open.part, refusal, at, reason)),
+            Some((refusal, reason)) => Err(self.halt(Stop::of(open.part, refusal, at, reason))),
             None => Ok(()),
         }
     }
 
     // Judges a string whose segments have come, once the outermost of them ends.
-    fn close_string(&mut self, part: Part<'a>) -> Result<(), Stop<'a>> {
+    #[inline(never)]
+    fn close_string(&mut self, part: Part<'a>) -> Result<(), Stopped> {
         if self.is_in_string() {
             return Ok(());
         }
@@ -200,7 +230,8 @@ impl<'a> Walk<'a> {
             return Ok(());
         }
         let (_, reason) = why_no_value(part.node, octets.as_slice());
-        Err(Stop::of(part, contents_refusal(part.node), self.taken, reason))
+        let at = self.taken;
+        Err(self.halt(Stop::of(part, contents_refusal(part.node), at, reason)))
     }
 
     // Whether the innermost open encoding is a string's.
@@ -227,7 +258,7 @@ impl<'a> Walk<'a> {
     }
 
     // Takes the part whose identifier stands in front of the rest of the octets.
-    fn part(&mut self, octets: &[u8], rest: &[u8]) -> Result<(), Stop<'a>> {
+    fn part(&mut self, octets: &[u8], rest: &[u8]) -> Result<(), Stopped> {
         let (tag, constructed, identifier) = match read_head_tag(
             self.end_inside(),
             self.taken,
@@ -245,14 +276,17 @@ impl<'a> Walk<'a> {
         }
     }
 
-    fn no_identifier(&self, refusal: Refusal) -> Stop<'a> {
+    // Goes no further, since no identifier stands here.
+    #[inline(never)]
+    fn no_identifier(&mut self, refusal: Refusal) -> Stopped {
         let words = match refusal {
             Refusal::Truncated => "the input ends where an identifier must stand",
             Refusal::TooLong => "more than 1,048,576 octets (the limit is asn1x's own)",
             _ =>
                 "malformed identifier octets, or a tag number above 268,435,455 (the limit is asn1x's own)",
         };
-        Stop::outside(refusal, self.taken, Reason::Words(words))
+        let at = self.taken;
+        self.halt(Stop::outside(refusal, at, Reason::Words(words)))
     }
 }
 
