@@ -107,6 +107,12 @@ def exports_of(crate):
     return {name.strip() for many, one in listed for name in (many or one).split(",")}
 
 
+def hidden_traits_of(crate):
+    """The traits of a crate that it does not pass on."""
+    texts = [path.read_text() for path in (TOP / "crates" / crate / "src").glob("**/*.rt")]
+    return {name for text in texts for name in re.findall(r"^(?:pub )?trait (\w+)", text, re.M)} - exports_of(crate)
+
+
 def items_of(text):
     """The functions, traits and impls of a source file, each as its lines."""
     item = []
@@ -130,7 +136,7 @@ def heads_of(item, indent):
             yield line
 
 
-def clauses_of(item, exports):
+def clauses_of(item, exports, hidden_traits):
     """The lines of an item in which its public clauses stand."""
     if item[0].startswith('pub extern "C" fn'):
         return list(heads_of(item, ""))
@@ -138,7 +144,8 @@ def clauses_of(item, exports):
     subject = re.match(r"(?:pub trait|impl(?:<[^>]*>)?) (?:.* for )?(\w+)", item[0])
     if function:
         return list(heads_of(item, "")) if function.group(1) in exports else []
-    if not subject or subject.group(1) not in exports:
+    trait = re.match(r"impl(?:<[^>]*>)? (\w+).* for ", item[0])
+    if not subject or subject.group(1) not in exports or trait and trait.group(1) in hidden_traits:
         return []
     kept, public = [], True
     for line in heads_of(item, "    "):
@@ -156,8 +163,9 @@ def roots_in(definitions):
         if crate in PARTS or not (TOP / "crates" / crate / "src" / "lib.rt").is_file():
             continue
         text = path.read_text()
+        exports, hidden_traits = exports_of(crate), hidden_traits_of(crate)
         for item in items_of(text):
-            roots |= definitions.cites("\n".join(clauses_of(item, exports_of(crate))), text)
+            roots |= definitions.cites("\n".join(clauses_of(item, exports, hidden_traits)), text)
     return roots
 
 

@@ -3,10 +3,10 @@
 
     bench/figures.py [--all]
 
-Of functions: the lines of the body between its braces, and those of the head above it (signature and clauses). Told
-are bodies of more than 40 lines, files of more than 350, and private functions whose head has more lines than their
-body, each list with its number; with --all, all of these, else the first ten. Tests' crates are left out, since their
-bodies are tables. Of the others a body that is a table is counted, not told: one `match` of a name or a field, without
+Of functions: the lines of the body between its braces, and those of the clauses above it. Told are bodies of more than
+40 lines, files of more than 350, and private functions that have more lines of clauses than of code, each list with its
+number; with --all, all of these, else the first ten. The signature is not counted, nor a contract of one line. Tests'
+crates are left out, since their bodies are tables. Of the others a body that is a table is counted, not told: one `match` of a name or a field, without
 guards and with nothing around it, each arm of which is a text, a number, a character or a truth as it stands. The
 status is 1 where a body or a file is longer than that.
 """
@@ -20,6 +20,7 @@ MOST_BODY, MOST_FILE, SHOWN = 40, 350, 10
 HEAD = re.compile(r"(\s*)(pub(?:\([a-z]+\))? )?(?:const )?fn (\w+)")
 LITERAL = r"""(?:b?"(?:[^"\\]|\\.)*"|b?'(?:[^'\\]|\\.)+'|-?\d\w*(?:\.\d\w*)?|true|false)"""
 ARM = rf"(?:(?!=>| if )[^\"{{}}])+ => (?:{LITERAL},|{{ {LITERAL} }},?)"
+CLAUSE = re.compile(r"\s*(requires|ensures|decreases)\b")
 TABLE = re.compile(rf"match [\w.*&]+ {{(?: {ARM})+ }}")
 
 
@@ -29,7 +30,7 @@ def opens(line, indent, is_first):
 
 
 def functions_of(lines):
-    """Name, whether it is public, how many lines the head has, and the lines of the body of each function of a file."""
+    """Name, whether it is public, how many lines of clauses, and the lines of the body of each function of a file."""
     for first, line in enumerate(lines):
         head = HEAD.match(line)
         if not head:
@@ -43,7 +44,8 @@ def functions_of(lines):
             continue
         closing = next((n for n in range(opening + 1, len(lines)) if lines[n].rstrip() == indent + "}"), None)
         if closing is not None:
-            yield name, bool(public), max(opening - first, 1), lines[opening + 1:closing]
+            clause = next((n for n in range(first, opening) if CLAUSE.match(lines[n])), opening)
+            yield name, bool(public), opening - clause, lines[opening + 1:closing]
 
 
 def is_table(body):
@@ -60,7 +62,7 @@ def told(what, rows, all_of_them):
 
 def main():
     all_of_them = "--all" in sys.argv[1:]
-    bodies, files, heads, functions, tables = [], [], [], 0, 0
+    bodies, files, contracts, functions, tables = [], [], [], 0, 0
     for path in sorted((TOP / "crates").glob("*/src/**/*.rt")):
         crate = path.relative_to(TOP / "crates").parts[0]
         if crate.endswith("trials") or crate == "vectors":
@@ -69,18 +71,18 @@ def main():
         lines = path.read_text().splitlines()
         if len(lines) > MOST_FILE:
             files.append((len(lines), where))
-        for name, public, head, body in functions_of(lines):
+        for name, public, clauses, body in functions_of(lines):
             functions += 1
             if len(body) > MOST_BODY and is_table(body):
                 tables += 1
             elif len(body) > MOST_BODY:
                 bodies.append((len(body), f"{where}: {name}"))
-            if not public and head > len(body):
-                heads.append((head - len(body), f"{where}: {name}"))
+            if not public and clauses > max(len(body), 1):
+                contracts.append((clauses - len(body), f"{where}: {name}"))
     print(f"functions: {functions}")
     told(f"bodies of more than {MOST_BODY} lines, tables aside (left out: {tables})", bodies, all_of_them)
     told(f"files of more than {MOST_FILE} lines", files, all_of_them)
-    told("private functions whose head is longer than the body, and by how many lines", heads, all_of_them)
+    told("private functions with more lines of clauses than of code, and by how many", contracts, all_of_them)
     return 1 if bodies or files else 0
 
 
