@@ -49,6 +49,8 @@ pub fn transcode(
 }
 
 /// Reads the value at the front of `octets` by the rule `from`, and returns with it how many octets it has.
+///
+/// Refused as `read`, `read_cer` and `read_der` refuse. Takes memory as they do.
 pub fn read_by(
     alloc: Global,
     ty: &WellTyped,
