@@ -1,15 +1,14 @@
 -- Lemmas on parts that are written one after another, from the first to the last.
-use Rattle.std.proofs.Common.{◌≡◌, ◌∙◌, ◌<◌, ℕ, suc, List, [], ◌∷◌, ◌++◌, Option, Some, None, length, drop, get_or, refl, sym, ap, subst, subst₂, append_assoc, append-nil}
+use Rattle.std.proofs.Common.{◌≡◌, ◌∙◌, ◌<◌, ℕ, suc, List, [], ◌∷◌, ◌++◌, Option, Some, None, length, drop, get_or, refl, sym, ap, subst, append_assoc, append-nil}
 use Rattle.octets.specs.Front.{Appends}
 use Rattle.octets.specs.Rule.{Rule, IsCanonical}
 use Rattle.types.specs.declared.ty.Field.{Field}
 use Rattle.types.specs.declared.value.Value.{Value}
 use Rattle.types.specs.Conforms.{SlotsConform}
 use Rattle.types.specs.Encoding.{IsEncoding}
-use Rattle.types.specs.Shape.{Val, Slots, absent, present, Shape, Components, component}
+use Rattle.types.specs.Shape.{Slots, absent, present, Components, component}
 use Rattle.types.specs.View.{value_view, ty_view, field_view, components_view, slots_view}
 use Rattle.canon.specs.Node.{AreComponents}
-use Rattle.canon.proofs.AlikeLemmas.{HoldAlike}
 use Rattle.canon.proofs.NodeSizeLemmas.{absent_stands}
 use Rattle.canon.proofs.StepLemmas.{drop_all, element, type_of_field, IsPresent, absent_at, components_from, slots_from_present, slots_from_absent}
 
@@ -63,7 +62,3 @@ module _ (rule : Rule) (fields : List Field) (slots : List (Option Value)) where
       let none : AreComponents rule (components_view (drop n fields)) (slots_view (drop n slots)) [] = subst (λ (fs : List Field). AreComponents rule (components_view fs) (slots_view (drop n slots)) []) (sym none_there)
       (subst (λ (ss : List (Option Value)). AreComponents rule (components_view []) (slots_view ss) []) (sym none_left) record { encodings = []; each = tt; joined = refl }) in
       (h.0, h.1, subst (AreComponents rule (components_view fields) (slots_view slots)) (append-nil h.0) (h.2 [] none))
-
--- of a type and a value that are known
-pub encoded_as : (rule : Rule) (P : List ℕ → Type 0) (shape other : Shape) (v w : Val) → shape ≡ other → v ≡ w → HoldAlike P (IsEncoding rule other w) → HoldAlike P (IsEncoding rule shape v)
-encoded_as rule P shape other v w is same h = subst₂ (λ (s : Shape) (u : Val). HoldAlike P (IsEncoding rule s u)) (sym is) (sym same) h

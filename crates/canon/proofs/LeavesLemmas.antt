@@ -1,8 +1,6 @@
 -- Lemmas on lists of values without parts.
 use Rattle.std.specs.List.{AllByRecursion, AllZip}
-use Rattle.std.proofs.Common.{◌≡◌, ◌∙◌, ◌+◌, ◌<◌, ℕ, zero, suc, List, [], ◌∷◌, ◌++◌, length, take, drop, get_or, map, sym, ap, subst, arith, append_assoc}
-use Rattle.std.specs.Prelude.{reverse}
-use Rattle.std.proofs.lemmas.List.{reverse-reverse}
+use Rattle.std.proofs.Common.{◌≡◌, ◌∙◌, ◌+◌, ◌<◌, ℕ, zero, suc, List, [], ◌∷◌, ◌++◌, length, take, get_or, map, sym, ap, subst, arith, append_assoc}
 use Rattle.octets.specs.declared.tag.Tag.{Tag}
 use Rattle.octets.specs.Front.{Appends}
 use Rattle.octets.specs.Rule.{Rule, IsCanonical}
@@ -13,11 +11,10 @@ use Rattle.types.specs.Conforms.{Conforms}
 use Rattle.types.specs.Encoding.{Meaning, IsEncoding}
 use Rattle.canon.specs.Leaf.{IsLeaf, IsLeafEncoding, IsLeafOf}
 use Rattle.canon.specs.Node.{AreItems}
-use Rattle.canon.specs.Turned.{Turned}
 use Rattle.canon.proofs.AlikeLemmas.{HoldAlike}
 use Rattle.canon.proofs.LeafLemmas.{leaf_alike, leaf_conforms}
 use Rattle.canon.proofs.OrderedLemmas.{taken, zip_push}
-use Rattle.canon.proofs.PartLemmas.{concat_push, turned_end}
+use Rattle.canon.proofs.PartLemmas.{concat_push}
 
 pub leaf_at : (xs : List Value) (i : ℕ) (x : Value) → i < length xs → x ≡ get_or xs i x → AllByRecursion IsLeaf (map value_view xs) → IsLeaf (value_view x)
 leaf_at [] i x l at h = absurd (omega arith)
@@ -59,7 +56,3 @@ item_behind IsItem xs i x old mid new l at h a = (
     joined = ap (λ s. s ++ a.0) h.2.joined ∙ sym (concat_push h.2.encodings a.0);
   },
 )
-
--- all of it, turned round
-pub turned_whole : (P : List ℕ → Type 0) (old mid new : List ℕ) (start : ℕ) → start ≡ length old → Appends P old mid → new ≡ take start mid ++ reverse (drop start mid) → Appends (Turned P) old new
-turned_whole P old mid new start at h turn = (reverse h.0, turned_end old h.0 mid new start at h.1 turn, subst P (sym (reverse-reverse h.0)) h.2)

@@ -15,7 +15,6 @@ pub mod StepLemmas
 pub mod WritableLemmas
 pub mod TagOrderLemmas
 pub mod TyLemmas
-pub mod TurnLemmas
 pub mod PutLemmas
 pub mod OpeningLemmas
 pub mod WritesLemmas

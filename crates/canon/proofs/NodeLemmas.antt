@@ -12,7 +12,7 @@ use Rattle.types.specs.Form.{IsConstructed}
 use Rattle.types.specs.Encoding.{IsEncoding, AreSlotEncodings, IsAlternativeEncoding, standing}
 use Rattle.types.proofs.ListLemmas.{all_append}
 use Rattle.types.proofs.ViewLemmas.{alternative_is}
-use Rattle.canon.specs.Node.{AreGood, HasGoodNodes, HaveGoodNodes, IsAround, AreItems, AreItemsInOrder, AreComponents, AreComponentsByTag}
+use Rattle.canon.specs.Node.{AreGood, HasGoodNodes, HaveGoodNodes, IsAround, ArePartsOf, AreItems, AreItemsInOrder, AreComponents, AreComponentsByTag}
 use Rattle.canon.proofs.AlikeLemmas.{HoldAlike}
 
 pub sequence_alike : (rule : Rule) (tag : Tag) (components : Components) (slots : Slots) → HoldAlike (IsAround (AreComponents rule components slots) rule tag) (IsEncoding rule (Shape.sequence tag components) (Val.fields slots))
@@ -104,6 +104,37 @@ explicit_alike rule tag type v = record {
   to = λ b h. record { inner = h.contents; encodes = h.inside; whole = h.whole };
   from = λ b h. record { contents = h.inner; inside = h.encodes; whole = h.whole };
 }
+
+-- a type whose encodings are constructed, and its tag
+abbrev pub IsFramed : Tag → Shape → Type 0
+IsFramed tag shape = ((components : Components) × (shape ≡ Shape.sequence tag components)) ⊎ (((components : Components) × (shape ≡ Shape.set tag components)) ⊎ (((type : Shape) × (shape ≡ Shape.sequence_of tag type)) ⊎ (((type : Shape) × (shape ≡ Shape.set_of tag type)) ⊎ ((type : Shape) × (shape ≡ Shape.explicit tag type)))))
+
+abbrev Surrounds : Rule → Tag → Shape → Val → Type 0
+Surrounds rule tag shape v = Conforms shape v → (b : List ℕ) → IsAround (ArePartsOf rule shape v) rule tag b → IsEncoding rule shape v b
+
+sequence_around : (rule : Rule) (tag : Tag) (components : Components) (v : Val) → Surrounds rule tag (Shape.sequence tag components) v
+sequence_around rule tag components (Val.fields slots) c b h = (sequence_alike rule tag components slots).to b h
+sequence_around rule tag components v c b h = elim c [ ]
+
+set_around : (rule : Rule) (tag : Tag) (components : Components) (v : Val) → IsCanonical rule → Surrounds rule tag (Shape.set tag components) v
+set_around rule tag components (Val.fields slots) canonical c b h = (set_alike rule tag components slots canonical).to b h
+set_around rule tag components v canonical c b h = elim c [ ]
+
+sequence_of_around : (rule : Rule) (tag : Tag) (type : Shape) (v : Val) → Surrounds rule tag (Shape.sequence_of tag type) v
+sequence_of_around rule tag type (Val.items items) c b h = (sequence_of_alike rule tag type items).to b h
+sequence_of_around rule tag type v c b h = elim c [ ]
+
+set_of_around : (rule : Rule) (tag : Tag) (type : Shape) (v : Val) → IsCanonical rule → Surrounds rule tag (Shape.set_of tag type) v
+set_of_around rule tag type (Val.items items) canonical c b h = (set_of_alike rule tag type items canonical).to b h
+set_of_around rule tag type v canonical c b h = elim c [ ]
+
+-- the contents octets within an identifier and a length, or an identifier, 80 and end-of-contents octets
+pub parts_around : (rule : Rule) (tag : Tag) (shape : Shape) (v : Val) → IsCanonical rule → IsFramed tag shape → Surrounds rule tag shape v
+parts_around rule tag shape v canonical (inl is) = subst (λ s. Surrounds rule tag s v) (sym is.1) (sequence_around rule tag is.0 v)
+parts_around rule tag shape v canonical (inr (inl is)) = subst (λ s. Surrounds rule tag s v) (sym is.1) (set_around rule tag is.0 v canonical)
+parts_around rule tag shape v canonical (inr (inr (inl is))) = subst (λ s. Surrounds rule tag s v) (sym is.1) (sequence_of_around rule tag is.0 v)
+parts_around rule tag shape v canonical (inr (inr (inr (inl is)))) = subst (λ s. Surrounds rule tag s v) (sym is.1) (set_of_around rule tag is.0 v canonical)
+parts_around rule tag shape v canonical (inr (inr (inr (inr is)))) = subst (λ s. Surrounds rule tag s v) (sym is.1) (λ c b h. (explicit_alike rule tag is.0 v).to b h)
 
 -- the alternative that is chosen
 pub record IsChosen (alternatives : List Alternative) (which : ℕ) (v : Val) : Type 0 where

@@ -1,17 +1,24 @@
 -- Lemmas on the tag by which an encoding is ordered.
-use Rattle.std.proofs.Common.{◌≡◌, ◌⊎◌, inl, inr, ◌≤◌, ℕ, List, subst}
+use Rattle.std.proofs.Common.{◌≡◌, ◌⊎◌, inl, inr, ◌≤◌, ℕ, List, [], ◌∷◌, Contains, refl, sym, subst}
 use Rattle.octets.specs.declared.identifier.Head.{Head}
 use Rattle.octets.specs.declared.identifier.Head.TheVariants.{More, Bad}
 use Rattle.octets.specs.declared.tag.Tag.{Tag}
 use Rattle.octets.specs.Identifier.{AnswersIdentifier, IsSomeIdentifier}
 use Rattle.octets.specs.Rule.{der}
+use Rattle.octets.specs.Tag.{ComesBefore}
 use Rattle.octets.proofs.FrontLemmas.{HasFront-from_parts}
 use Rattle.types.specs.Shape.{Val, Shape}
-use Rattle.types.specs.Order.{BeginsWith}
+use Rattle.types.specs.FirstTags.{first_tags}
+use Rattle.types.specs.Order.{BeginsWith, IsLeast, IsOrderTag}
 use Rattle.types.specs.Encoding.{IsEncoding}
 use Rattle.types.proofs.BeginningLemmas.{encoding_begins}
 use Rattle.types.proofs.FirstTagLemmas.{tag_within}
+use Rattle.types.proofs.ListLemmas.{not_in_nil, contains_first, contains_cases}
+use Rattle.types.proofs.OrderLemmas.{ComesBefore-irrefl}
 use Rattle.canon.specs.Node.{HasGoodNodes}
+use Rattle.canon.specs.Rule.{rule_of}
+use Rattle.canon.specs.declared.rule.CanonicalRule.{CanonicalRule}
+use Rattle.canon.specs.declared.rule.CanonicalRule.TheVariants.{Cer, Der}
 
 -- no identifier stands at the front
 pub no_identifier : (octets : List ℕ) (h : Head) → (h ≡ More) ⊎ (h ≡ Bad) → AnswersIdentifier octets h → (t : Tag) → t.number ≤ 268_435_455 → BeginsWith t octets → ⊥
@@ -26,3 +33,20 @@ pub order_tag_at_front : (shape : Shape) (v : Val) (octets : List ℕ) (tag : Ta
 order_tag_at_front shape v octets tag good told h =
     let begins = encoding_begins der shape v octets h in
     told begins.0 (tag_within shape begins.0 good.within begins.1) begins.2
+
+-- a type with a tag of its own
+pub own_order_tag : (rule : CanonicalRule) (shape : Shape) (v : Val) (octets : List ℕ) (tag : Tag) → first_tags shape ≡ tag ∷ [] → IsEncoding (rule_of rule) shape v octets → IsOrderTag (rule_of rule) shape octets tag
+own_order_tag Cer shape v octets tag one h =
+    subst (λ tags. IsLeast tags tag) (sym one) (
+      contains_first tag tag [] refl,
+      λ other c before. elim (contains_cases tag other [] c) [
+        | inl same ↦ ComesBefore-irrefl tag (subst (λ t. ComesBefore t tag) (sym same) before)
+        | inr later ↦ absurd (not_in_nil other later)
+      ],
+    )
+own_order_tag Der shape v octets tag one h =
+    let begins = encoding_begins der shape v octets h in
+    elim (contains_cases tag begins.0 [] (subst (λ tags. Contains tags begins.0) one begins.1)) [
+      | inl same ↦ subst (λ t. BeginsWith t octets) (sym same) begins.2
+      | inr later ↦ absurd (not_in_nil begins.0 later)
+    ]

@@ -28,8 +28,8 @@ use Rattle.canon.specs.Part.{IsPut}
 use Rattle.canon.specs.Span.{part_of}
 use Rattle.canon.proofs.AcceptedLemmas.{good_nodes}
 use Rattle.canon.proofs.NodeLemmas.{IsRecordOf}
+use Rattle.canon.proofs.PartLemmas.{part_put}
 use Rattle.canon.proofs.StepLemmas.{drop_all, element, components_from, slots_from_present, slots_from_absent, type_of_field}
-use Rattle.canon.proofs.TagPutLemmas.{part_put}
 use Rattle.canon.proofs.TyLemmas.{record_view}
 
 pub sound : (shape : Shape) → IsWellFormed shape → IsSound shape

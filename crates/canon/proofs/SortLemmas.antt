@@ -1,27 +1,27 @@
 -- Lemmas on lists in order: those that a sort made, and that each list has one in order.
-use Rattle.std.proofs.Common.{◌≡◌, ◌⊎◌, inl, inr, ◌<◌, ℕ, zero, suc, Bool, false, List, [], ◌∷◌, ◌++◌, length, get_or, map, refl, sym, ap, subst, arith, All, AllPairs, Contains, IsPermutation}
-use Rattle.std.specs.Prelude.{reverse}
+use Rattle.std.proofs.Common.{◌≡◌, ◌⊎◌, inl, inr, ◌+◌, ◌<◌, ℕ, zero, suc, Bool, true, false, List, [], ◌∷◌, length, get_or, map, refl, sym, ap, subst, arith, All, AllPairs, Contains, IsPermutation}
+use Rattle.std.specs.Prelude.{not, MatchBool, slice_index_or}
+use Rattle.std.specs.List.{AllAdjacentBelow, IsAllAdjacentAnswer}
 use Rattle.std.specs.Ordering.{nat_cmp, is_lt, ordering_then, MatchOrdering}
 use Rattle.std.specs.declared.cmp.Ordering.{Ordering}
 use Rattle.std.specs.declared.cmp.Ordering.TheVariants.{Less, Equal, Greater}
 use Rattle.std.specs.Cmp.{ranked, IsStrictWeakOrder}
 use Rattle.std.specs.Cmp.Lexicographic.{slice_cmp, nat_list_cmp_total}
 use Rattle.std.specs.List.Sorted.{IsSortedBy}
-use Rattle.std.specs.Fn.{Called, ComparesAs}
+use Rattle.std.specs.Fn.{Called, ComparesAs, ComputesOnPairs}
 use Rattle.std.proofs.lemmas.Fn.{always_returns_same}
-use Rattle.std.proofs.lemmas.List.{reverse-append}
 use Rattle.std.proofs.lemmas.List.Elements.{All-nil, All-cons}
 use Rattle.std.proofs.lemmas.List.Kept.{AllPairs-cons}
-use Rattle.std.proofs.lemmas.List.Sorted.{ranks_by, IsStrictWeakOrder-flip, sorted_far, IsPermutation-refl, IsPermutation-sym, IsPermutation-trans, IsPermutation-cons, IsPermutation-middle, IsPermutation-reverse, IsPermutation-to_front, Contains-permutation}
+use Rattle.std.proofs.lemmas.List.Sorted.{ranks_by, sorted_far, IsPermutation-refl, IsPermutation-sym, IsPermutation-trans, IsPermutation-cons, IsPermutation-middle, Contains-permutation}
 use denote.Ref.{Bor}
 use denote.Param.Members.{Mut}
 use Rattle.octets.specs.declared.tag.Tag.{Tag}
 use Rattle.octets.specs.Tag.{ComesBefore}
 use Rattle.octets.proofs.TagLemmas.{tag_order, tag_order-means, tag_order-total, tag_order-is, tags_are_ordered}
 use Rattle.types.specs.Order.{IsPaddedAtMost, Ascends}
-use Rattle.types.proofs.ListLemmas.{AllPairs-nil, not_in_nil, contains_first, contains_later, contains_cases}
+use Rattle.types.proofs.ListLemmas.{AllPairs-nil, not_in_nil, contains_cases}
 use Rattle.types.proofs.SortedLemmas.{AllPairs-first, AllPairs-rest, AllPairs-from_first}
-use Rattle.canon.specs.Span.{DescendsByTag}
+use Rattle.canon.specs.Span.{RisesByTag}
 
 -- a list that is not greater is at most the other as padded octets
 le_step : (x y : ℕ) (xs ys : List ℕ) (o r : Ordering) → o ≡ nat_cmp y x → MatchOrdering o (y < x) (y ≡ x) (x < y) → is_lt (ordering_then o r) ≡ false → (is_lt r ≡ false → IsPaddedAtMost xs ys) → IsPaddedAtMost (x ∷ xs) (y ∷ ys)
@@ -45,69 +45,53 @@ module _ {X Y : Type 0} (f : X → Y) where
   pairs_at R (x ∷ xs) h =
       AllPairs-cons R (f x) (map f xs) (all_at (R (f x)) xs (λ j d l. h zero (suc j) d (omega arith) (omega arith))) (pairs_at R xs (λ i j d p q. h (suc i) (suc j) d (omega arith) (omega arith)))
 
-pairs_push : {X : Type 0} (R : X → X → Type 0) (xs : List X) (x : X) → AllPairs R xs → ((y : X) → Contains xs y → R y x) → AllPairs R (xs ++ x ∷ [])
-pairs_push R [] x h last = AllPairs-from_first R x [] (λ b c. absurd (not_in_nil b c)) (AllPairs-nil R)
-pairs_push R (y ∷ xs) x h last =
-    AllPairs-from_first R y (xs ++ x ∷ []) (λ b c. pushed b (Contains-permutation (xs ++ x ∷ []) (x ∷ xs) b (IsPermutation-to_front xs x) c))
-    (pairs_push R xs x (AllPairs-rest R y xs h) (λ z c. last z (contains_later y z xs c)))
-  where
-    pushed : (b : _) → Contains (x ∷ xs) b → R y b
-    pushed b c = elim (contains_cases x b xs c) [ inl same ↦ subst (R y) same (last y (contains_first y y xs refl)) | inr later ↦ AllPairs-first R y b xs h later ]
+is_false : (b : Bool) → true ≡ not b → b ≡ false
+is_false true h = h
+is_false false h = refl
 
--- pairs of a list that is turned round
-pub pairs_turned : {X : Type 0} (R : X → X → Type 0) (xs : List X) → AllPairs (λ a b. R b a) xs → AllPairs R (reverse xs)
-pairs_turned R [] h = AllPairs-nil R
-pairs_turned R (x ∷ xs) h =
-    subst (AllPairs R) (sym (reverse-append (x ∷ []) xs))
-    (pairs_push R (reverse xs) x (pairs_turned R xs (AllPairs-rest (λ a b. R b a) x xs h))
-    (λ y c. AllPairs-first (λ a b. R b a) x y xs h (Contains-permutation (reverse xs) xs y (IsPermutation-sym xs (reverse xs) (IsPermutation-reverse xs)) c)))
+at_true : (P Q : Type 0) (r : Bool) → r ≡ true → MatchBool r P Q → P
+at_true P Q true is h = h
+at_true P Q false is h = cc
 
-module _ {X : Type 0} (f : X → List ℕ) where
-  -- the test by which a sort puts the greatest first
-  abbrev falls : X → X → Bool
-  falls a b = is_lt (slice_cmp nat_cmp (f b) (f a))
-
-  falls_order : IsStrictWeakOrder falls
-  falls_order = IsStrictWeakOrder-flip (λ a b. is_lt (slice_cmp nat_cmp (f a) (f b))) (ranks_by nat_list_cmp_total f)
-
-  ascends_from_falls : (xs : List X) → IsSortedBy falls xs → Ascends (reverse (map f xs))
-  ascends_from_falls xs h =
-      pairs_turned IsPaddedAtMost (map f xs)
-      (pairs_at f (λ a b. IsPaddedAtMost b a) xs (λ i j d p q. le_from_cmp (f (get_or xs j d)) (f (get_or xs i d)) (sorted_far falls falls_order xs h i j d (omega arith) q)))
-
--- what `sort_unstable_by` ensures, where each call compares what f gives of the two, the second first
-pub ascends_from_sort_back : {X F : Type 0} {g : Mut F (Bor X × (Bor X × Unit {0})) Ordering} {s : F} (f : X → List ℕ) (xs : List X)
-    → ((lt : X → X → Bool) → IsStrictWeakOrder lt → ComparesAs g lt s → IsSortedBy lt xs)
-    → ((a : Bor X × (Bor X × Unit {0})) (r : Ordering) (s' : F) → Called g s a r s' → (r ≡ slice_cmp nat_cmp (f a.1.0.now) (f a.0.now)) × (s' ≡ s)) → Ascends (reverse (map f xs))
-ascends_from_sort_back {g = g} {s = s} f xs up h =
-    ascends_from_falls f xs (up (falls f) (falls_order f) (always_returns_same g (λ a r. is_lt r ≡ falls f a.0.now a.1.0.now) s (λ a r s' k. (ap is_lt (h a r s' k).0, (h a r s' k).1))))
-
--- the same, where the order of what f gives is that of some octets
-pub ascends_from_sort_by : {X F : Type 0} {g : Mut F (Bor X × (Bor X × Unit {0})) Ordering} {s : F} (f octets : X → List ℕ) (Good : X → Type 0) (xs : List X)
-    → ((a b : X) → Good a → Good b → IsPaddedAtMost (f b) (f a) → IsPaddedAtMost (octets b) (octets a)) → All Good xs → ((lt : X → X → Bool) → IsStrictWeakOrder lt → ComparesAs g lt s → IsSortedBy lt xs)
-    → ((a : Bor X × (Bor X × Unit {0})) (r : Ordering) (s' : F) → Called g s a r s' → (r ≡ slice_cmp nat_cmp (f a.1.0.now) (f a.0.now)) × (s' ≡ s)) → Ascends (reverse (map octets xs))
-ascends_from_sort_by {g = g} {s = s} f octets Good xs decides good up h =
-    let sorted = up (falls f) (falls_order f) (always_returns_same g (λ a r. is_lt r ≡ falls f a.0.now a.1.0.now) s (λ a r s' k. (ap is_lt (h a r s' k).0, (h a r s' k).1))) in
-    pairs_turned IsPaddedAtMost (map octets xs)
-    (pairs_at octets (λ a b. IsPaddedAtMost b a) xs (λ i j d p q.
-    decides (get_or xs i d) (get_or xs j d) (good i d (omega arith)) (good j d q)
-    (le_from_cmp (f (get_or xs j d)) (f (get_or xs i d)) (sorted_far (falls f) (falls_order f) xs sorted i j d (omega arith) q))))
+-- what `is_sorted_by` ensures at true, where each call tells that the second is not less than the first
+pub sorted_from_adjacent : {X F : Type 0} {g : Mut F (Bor X × (Bor X × Unit {0})) Bool} {s : F} (lt : X → X → Bool) (xs : List X) (r : Bool)
+    → ((e : X → X → Bool) → ComputesOnPairs g e s → IsAllAdjacentAnswer (λ x y b. b ≡ e x y) xs r)
+    → ((a : Bor X × (Bor X × Unit {0})) (b : Bool) (s' : F) → Called g s a b s' → (b ≡ not (lt a.1.0.now a.0.now)) × (s' ≡ s)) → r ≡ true → IsSortedBy lt xs
+sorted_from_adjacent {g = g} {s = s} lt xs r told h is =
+    let answer = told (λ x y. not (lt y x)) (always_returns_same g (λ a b. b ≡ not (lt a.1.0.now a.0.now)) s h) in
+    let each : AllAdjacentBelow (λ x y. true ≡ not (lt y x)) xs (length xs) = at_true _ _ r is answer in
+    λ k d low below. is_false (lt (slice_index_or xs (k + 1) d) (slice_index_or xs k d)) (each k d below)
 
 module _ {X : Type 0} (f : X → List ℕ) where
   -- the test by which a sort puts the least first
-  abbrev rises : X → X → Bool
+  abbrev pub rises : X → X → Bool
   rises a b = is_lt (slice_cmp nat_cmp (f a) (f b))
 
   rises_order : IsStrictWeakOrder rises
   rises_order = ranks_by nat_list_cmp_total f
 
+  pub ascends_from_rises : (xs : List X) → IsSortedBy rises xs → Ascends (map f xs)
+  ascends_from_rises xs h = pairs_at f IsPaddedAtMost xs (λ i j d p q. le_from_cmp (f (get_or xs i d)) (f (get_or xs j d)) (sorted_far rises rises_order xs h i j d (omega arith) q))
+
+  sorted_by_calls : {F : Type 0} {g : Mut F (Bor X × (Bor X × Unit {0})) Ordering} {s : F} (xs : List X)
+      → ((lt : X → X → Bool) → IsStrictWeakOrder lt → ComparesAs g lt s → IsSortedBy lt xs)
+      → ((a : Bor X × (Bor X × Unit {0})) (r : Ordering) (s' : F) → Called g s a r s' → (r ≡ slice_cmp nat_cmp (f a.0.now) (f a.1.0.now)) × (s' ≡ s)) → IsSortedBy rises xs
+  sorted_by_calls {g = g} {s = s} xs up h = up rises rises_order (always_returns_same g (λ a r. is_lt r ≡ rises a.0.now a.1.0.now) s (λ a r s' k. (ap is_lt (h a r s' k).0, (h a r s' k).1)))
+
   -- what `sort_unstable_by` ensures, where each call compares what f gives of the two
   pub ascends_from_sort : {F : Type 0} {g : Mut F (Bor X × (Bor X × Unit {0})) Ordering} {s : F} (xs : List X)
       → ((lt : X → X → Bool) → IsStrictWeakOrder lt → ComparesAs g lt s → IsSortedBy lt xs)
       → ((a : Bor X × (Bor X × Unit {0})) (r : Ordering) (s' : F) → Called g s a r s' → (r ≡ slice_cmp nat_cmp (f a.0.now) (f a.1.0.now)) × (s' ≡ s)) → Ascends (map f xs)
-  ascends_from_sort {g = g} {s = s} xs up h =
-      let sorted = up rises rises_order (always_returns_same g (λ a r. is_lt r ≡ rises a.0.now a.1.0.now) s (λ a r s' k. (ap is_lt (h a r s' k).0, (h a r s' k).1))) in
-      pairs_at f IsPaddedAtMost xs (λ i j d p q. le_from_cmp (f (get_or xs i d)) (f (get_or xs j d)) (sorted_far rises rises_order xs sorted i j d (omega arith) q))
+  ascends_from_sort xs up h = ascends_from_rises xs (sorted_by_calls xs up h)
+
+  -- the same, where the order of what f gives is that of some octets
+  pub ascends_from_sort_by : {F : Type 0} {g : Mut F (Bor X × (Bor X × Unit {0})) Ordering} {s : F} (octets : X → List ℕ) (Good : X → Type 0) (xs : List X)
+      → ((a b : X) → Good a → Good b → IsPaddedAtMost (f a) (f b) → IsPaddedAtMost (octets a) (octets b)) → All Good xs → ((lt : X → X → Bool) → IsStrictWeakOrder lt → ComparesAs g lt s → IsSortedBy lt xs)
+      → ((a : Bor X × (Bor X × Unit {0})) (r : Ordering) (s' : F) → Called g s a r s' → (r ≡ slice_cmp nat_cmp (f a.0.now) (f a.1.0.now)) × (s' ≡ s)) → Ascends (map octets xs)
+  ascends_from_sort_by octets Good xs decides good up h =
+      pairs_at octets IsPaddedAtMost xs (λ i j d p q.
+      decides (get_or xs i d) (get_or xs j d) (good i d (omega arith)) (good j d q)
+      (le_from_cmp (f (get_or xs i d)) (f (get_or xs j d)) (sorted_far rises rises_order xs (sorted_by_calls xs up h) i j d (omega arith) q)))
 
 not_before : (a b : Tag) (o : Ordering) → MatchOrdering o (ComesBefore a b) (a ≡ b) (ComesBefore b a) → is_lt o ≡ false → ComesBefore a b → ⊥
 not_before a b Less h test before = cc
@@ -115,23 +99,26 @@ not_before a b Equal h test before = tags_are_ordered.not_itself b (subst (λ t.
 not_before a b Greater h test before = tags_are_ordered.not_itself a (tags_are_ordered.chain a b a before h)
 
 module _ {X : Type 0} (tag : X → Tag) where
-  abbrev falls_by_tag : X → X → Bool
-  falls_by_tag x y = is_lt (tag_order (tag y) (tag x))
+  abbrev pub rises_by_tag : X → X → Bool
+  rises_by_tag x y = is_lt (tag_order (tag x) (tag y))
 
-  falls_by_tag_order : IsStrictWeakOrder falls_by_tag
-  falls_by_tag_order = IsStrictWeakOrder-flip (λ x y. is_lt (tag_order (tag x) (tag y))) (ranks_by tag_order-total tag)
+  rises_by_tag_order : IsStrictWeakOrder rises_by_tag
+  rises_by_tag_order = ranks_by tag_order-total tag
 
-  -- the same, where it compares tags
-  pub descends_from_sort_back : {F : Type 0} {g : Mut F (Bor X × (Bor X × Unit {0})) Ordering} {s : F} (xs : List X)
+  pub rises_from_sorted : (xs : List X) → IsSortedBy rises_by_tag xs → RisesByTag (map tag xs)
+  rises_from_sorted xs h =
+      pairs_at tag (λ a b. ComesBefore b a → ⊥) xs (λ i j d p q.
+      not_before (tag (get_or xs j d)) (tag (get_or xs i d)) (tag_order (tag (get_or xs j d)) (tag (get_or xs i d))) (tag_order-means (tag (get_or xs j d)) (tag (get_or xs i d)))
+      (sorted_far rises_by_tag rises_by_tag_order xs h i j d (omega arith) q))
+
+  -- what `sort_unstable_by` ensures, where it compares tags
+  pub rises_from_sort : {F : Type 0} {g : Mut F (Bor X × (Bor X × Unit {0})) Ordering} {s : F} (xs : List X)
       → ((lt : X → X → Bool) → IsStrictWeakOrder lt → ComparesAs g lt s → IsSortedBy lt xs)
-      → ((a : Bor X × (Bor X × Unit {0})) (r : Ordering) (s' : F) → Called g s a r s' → MatchOrdering r (ComesBefore (tag a.1.0.now) (tag a.0.now)) (tag a.1.0.now ≡ tag a.0.now) (ComesBefore (tag a.0.now) (tag a.1.0.now)) × (s' ≡ s))
-      → DescendsByTag (map tag xs)
-  descends_from_sort_back {g = g} {s = s} xs up h =
-      let sorted = up falls_by_tag falls_by_tag_order
-      (always_returns_same g (λ a r. is_lt r ≡ falls_by_tag a.0.now a.1.0.now) s (λ a r s' k. let both = h a r s' k in (ap is_lt (tag_order-is (tag a.1.0.now) (tag a.0.now) r both.0), both.1))) in
-      pairs_at tag (λ a b. ComesBefore a b → ⊥) xs (λ i j d p q.
-      not_before (tag (get_or xs i d)) (tag (get_or xs j d)) (tag_order (tag (get_or xs i d)) (tag (get_or xs j d))) (tag_order-means (tag (get_or xs i d)) (tag (get_or xs j d)))
-      (sorted_far falls_by_tag falls_by_tag_order xs sorted i j d (omega arith) q))
+      → ((a : Bor X × (Bor X × Unit {0})) (r : Ordering) (s' : F) → Called g s a r s' → MatchOrdering r (ComesBefore (tag a.0.now) (tag a.1.0.now)) (tag a.0.now ≡ tag a.1.0.now) (ComesBefore (tag a.1.0.now) (tag a.0.now)) × (s' ≡ s))
+      → RisesByTag (map tag xs)
+  rises_from_sort {g = g} {s = s} xs up h =
+      rises_from_sorted xs (up rises_by_tag rises_by_tag_order
+      (always_returns_same g (λ a r. is_lt r ≡ rises_by_tag a.0.now a.1.0.now) s (λ a r s' k. let both = h a r s' k in (ap is_lt (tag_order-is (tag a.0.now) (tag a.1.0.now) r both.0), both.1))))
 
 -- by an order of all elements, each list can be put in order
 module _ {X : Type 0} (R : X → X → Type 0) (total : (a b : X) → R a b ⊎ R b a) (chain : (a b c : X) → R a b → R b c → R a c) where

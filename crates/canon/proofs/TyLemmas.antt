@@ -2,22 +2,19 @@
 use Rattle.std.proofs.Common.{◌≡◌, ◌⊎◌, inl, inr, ◌≤◌, ℕ, Vec, Box, Global, map, sym, ap, ◌∙◌, subst}
 use Rattle.octets.specs.declared.tag.Tag.{Tag}
 use Rattle.octets.specs.Rule.{Rule, IsCanonical}
-use Rattle.strings.specs.declared.text.TextKind.{TextKind}
-use Rattle.strings.specs.declared.time.TimeKind.{TimeKind}
 use Rattle.types.specs.declared.ty.Field.{Field}
 use Rattle.types.specs.declared.ty.Item.{Item}
-use Rattle.types.specs.declared.ty.NamedBit.{NamedBit}
 use Rattle.types.specs.declared.ty.Ty.{Ty}
 use Rattle.types.specs.declared.ty.Ty as node
-use Rattle.types.specs.Shape.{SimpleType, StringType, Val, listed, Shape, Components}
-use Rattle.types.specs.View.{item_view, named_bit_view, ty_view, components_view}
+use Rattle.types.specs.Shape.{SimpleType, Val, listed, Shape, Components}
+use Rattle.types.specs.View.{item_view, ty_view, components_view}
 use Rattle.types.specs.Encoding.{IsEncoding}
-use Rattle.types.proofs.ViewLemmas.{ty-Boolean, ty-Integer, ty-Enumerated, ty-Null, ty-Oid, ty-RelativeOid, ty-Bits, ty-NamedBits, ty-Octets, ty-Text, ty-Time, ty-Sequence, ty-Set, ty-SequenceOf, ty-SetOf}
+use Rattle.types.proofs.ViewLemmas.{ty-Boolean, ty-Integer, ty-Enumerated, ty-Null, ty-Oid, ty-RelativeOid, ty-Sequence, ty-Set, ty-SequenceOf, ty-SetOf, ty-Explicit}
 use Rattle.canon.specs.Node.{HasGoodNodes, AreItems, AreComponents}
 use Rattle.canon.specs.Leaf.{IsLeafOf, IsSimpleOf}
 use Rattle.canon.specs.Size.{HasSize}
 use Rattle.canon.proofs.AlikeLemmas.{size_alike}
-use Rattle.canon.proofs.NodeLemmas.{IsListOf, IsRecordOf, HasItems, HasSlots, sequence_alike, set_alike, sequence_of_alike, set_of_alike}
+use Rattle.canon.proofs.NodeLemmas.{IsListOf, IsRecordOf, IsFramed, HasItems, HasSlots, sequence_alike, set_alike, sequence_of_alike, set_of_alike}
 use Rattle.canon.proofs.NodeSizeLemmas.{SizesConstructed, around_size, ordered_items_size}
 use Rattle.canon.proofs.TagOrderLemmas.{by_tag_size}
 
@@ -29,21 +26,13 @@ pub record_view : (ty : Ty) (tag : Tag) (fields : Vec Field Global) → (ty ≡ 
 record_view ty tag fields (inl is) = inl (ap ty_view is ∙ ty-Sequence tag fields)
 record_view ty tag fields (inr is) = inr (ap ty_view is ∙ ty-Set tag fields)
 
-pub leaf_view : (ty : Ty) (tag : Tag)
-    → (ty ≡ node.Boolean tag) ⊎ ((ty ≡ node.Integer tag) ⊎ (((items : Vec Item Global) × (ty ≡ node.Enumerated tag items)) ⊎ ((ty ≡ node.Null tag) ⊎ ((ty ≡ node.Oid tag) ⊎ ((ty ≡ node.RelativeOid tag)
-    ⊎ ((ty ≡ node.Bits tag) ⊎ (((bits : Vec NamedBit Global) × (ty ≡ node.NamedBits tag bits)) ⊎ ((ty ≡ node.Octets tag) ⊎ (((kind : TextKind) × (ty ≡ node.Text tag kind)) ⊎ ((kind : TimeKind) × (ty ≡ node.Time tag kind)))))))))))
-    → IsLeafOf tag (ty_view ty)
-leaf_view ty tag (inl is) = inl (SimpleType.boolean, ap ty_view is ∙ ty-Boolean tag)
-leaf_view ty tag (inr (inl is)) = inl (SimpleType.integer, ap ty_view is ∙ ty-Integer tag)
-leaf_view ty tag (inr (inr (inl h))) = inl (SimpleType.enumerated (map item_view h.0.items), ap ty_view h.1 ∙ ty-Enumerated tag h.0)
-leaf_view ty tag (inr (inr (inr (inl is)))) = inl (SimpleType.null, ap ty_view is ∙ ty-Null tag)
-leaf_view ty tag (inr (inr (inr (inr (inl is))))) = inl (SimpleType.oid, ap ty_view is ∙ ty-Oid tag)
-leaf_view ty tag (inr (inr (inr (inr (inr (inl is)))))) = inl (SimpleType.relative_oid, ap ty_view is ∙ ty-RelativeOid tag)
-leaf_view ty tag (inr (inr (inr (inr (inr (inr (inl is))))))) = inr (StringType.bit_string, ap ty_view is ∙ ty-Bits tag)
-leaf_view ty tag (inr (inr (inr (inr (inr (inr (inr (inl h)))))))) = inr (StringType.named_bits (map named_bit_view h.0.items), ap ty_view h.1 ∙ ty-NamedBits tag h.0)
-leaf_view ty tag (inr (inr (inr (inr (inr (inr (inr (inr (inl is))))))))) = inr (StringType.octet_string, ap ty_view is ∙ ty-Octets tag)
-leaf_view ty tag (inr (inr (inr (inr (inr (inr (inr (inr (inr (inl h)))))))))) = inr (StringType.text h.0, ap ty_view h.1 ∙ ty-Text tag h.0)
-leaf_view ty tag (inr (inr (inr (inr (inr (inr (inr (inr (inr (inr h)))))))))) = inr (StringType.time h.0, ap ty_view h.1 ∙ ty-Time tag h.0)
+pub framed_view : (ty : Ty) (tag : Tag) → ((fields : Vec Field Global) × (ty ≡ node.Sequence tag fields)) ⊎ (((fields : Vec Field Global) × (ty ≡ node.Set tag fields)) ⊎ (((inner : Box Ty Global) × (ty ≡ node.SequenceOf tag inner))
+    ⊎ (((inner : Box Ty Global) × (ty ≡ node.SetOf tag inner)) ⊎ ((inner : Box Ty Global) × (ty ≡ node.Explicit tag inner))))) → IsFramed tag (ty_view ty)
+framed_view ty tag (inl h) = inl (components_view h.0.items, ap ty_view h.1 ∙ ty-Sequence tag h.0)
+framed_view ty tag (inr (inl h)) = inr (inl (components_view h.0.items, ap ty_view h.1 ∙ ty-Set tag h.0))
+framed_view ty tag (inr (inr (inl h))) = inr (inr (inl (ty_view h.0.value, ap ty_view h.1 ∙ ty-SequenceOf tag h.0)))
+framed_view ty tag (inr (inr (inr (inl h)))) = inr (inr (inr (inl (ty_view h.0.value, ap ty_view h.1 ∙ ty-SetOf tag h.0))))
+framed_view ty tag (inr (inr (inr (inr h)))) = inr (inr (inr (inr (ty_view h.0.value, ap ty_view h.1 ∙ ty-Explicit tag h.0))))
 
 pub simple_view : (ty : Ty) (tag : Tag)
     → (ty ≡ node.Boolean tag) ⊎ ((ty ≡ node.Integer tag) ⊎ (((items : Vec Item Global) × (ty ≡ node.Enumerated tag items)) ⊎ ((ty ≡ node.Null tag) ⊎ ((ty ≡ node.Oid tag) ⊎ (ty ≡ node.RelativeOid tag)))))

@@ -1,12 +1,13 @@
 -- Lemmas on what writers leave.
-use Rattle.std.proofs.Common.{◌≡◌, ◌++◌, ℕ, List, Ok, Err, OnOk, OnErr, IsErrAnd}
+use Rattle.std.proofs.Common.{◌≡◌, ◌++◌, ℕ, List, Ok, Err, OnOk, OnErr, IsErrAnd, sym, subst₂}
 use Rattle.std.specs.declared.result.Result.{Result}
 use Rattle.octets.specs.declared.no_memory.NoMemory.{NoMemory}
 use Rattle.octets.specs.declared.tag.Tag.{Tag}
 use Rattle.octets.specs.Front.{Appends}
 use Rattle.octets.specs.Rule.{Rule}
 use Rattle.types.specs.Form.{IsConstructed}
-use Rattle.canon.specs.Node.{IsAround}
+use Rattle.types.specs.Shape.{Shape, Val}
+use Rattle.canon.specs.Node.{IsAround, ArePartsOf}
 use Rattle.canon.specs.Opening.{IsOpening}
 use Rattle.canon.specs.Part.{Keeps}
 use Rattle.canon.specs.Writes.{Writes}
@@ -30,3 +31,7 @@ written_around r rule tag P Q place old one two new h a f closed left = record {
   appended = around_closed r rule tag P Q place old one two new h a f closed;
   kept = kept r (Keeps two new) (Keeps old new) (keeps_chain old two new (keeps_chain old one two (opened_kept tag old one place h) (a.0, a.1, tt))) left;
 }
+
+-- contents octets, of a type and a value that are known
+pub put_as : {shape known : Shape} {v w : Val} {r : Result (Unit {0}) NoMemory} {old new : List ℕ} (rule : Rule) → shape ≡ known → v ≡ w → Writes (ArePartsOf rule known w) r old new → Writes (ArePartsOf rule shape v) r old new
+put_as {r = r} {old = old} {new = new} rule is same h = subst₂ (λ (s : Shape) (u : Val). Writes (ArePartsOf rule s u) r old new) (sym is) (sym same) h

@@ -1,6 +1,5 @@
 pub mod Rule
 pub mod Size
-pub mod Turned
 pub mod Segments
 pub mod Leaf
 pub mod Node

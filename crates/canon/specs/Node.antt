@@ -1,14 +1,14 @@
 -- The parts of a constructed encoding.
-use Rattle.std.specs.Prelude.{◌≡◌, ℕ, List, Option, IsPermutation}
+use Rattle.std.specs.Prelude.{◌≡◌, ℕ, List, [], Option, IsPermutation}
 use Rattle.std.specs.List.{AllByRecursion, AllZip, concat}
 use Rattle.octets.specs.declared.tag.Tag.{Tag}
 use Rattle.octets.specs.Rule.{Rule}
-use Rattle.types.specs.Shape.{Val, Slots, Shape, Components}
+use Rattle.types.specs.Shape.{Val, Slots, listed, Shape, Components}
 use Rattle.types.specs.FirstTags.{HasDistinctTags}
 use Rattle.types.specs.WellFormed.{nodes_of, nodes_of_components, IsNodeWithin}
 use Rattle.types.specs.Form.{IsConstructed}
 use Rattle.types.specs.Order.{Ascends, AscendsByTag}
-use Rattle.types.specs.Encoding.{Meaning, AreSlotEncodings, standing}
+use Rattle.types.specs.Encoding.{Meaning, IsEncoding, AreSlotEncodings, standing}
 
 -- what a writer needs of types: tags and lists within their limits, and tags that differ
 pub record AreGood (nodes : List Shape) : Type 0 where
@@ -56,3 +56,12 @@ pub record AreComponentsByTag (rule : Rule) (components : Components) (slots : S
   pub permutes : IsPermutation (standing encodings) order
   pub ascends : AscendsByTag rule components order
   pub joined : octets ≡ concat order
+
+-- the contents octets of a constructed encoding; nothing of a value that has none
+abbrev pub ArePartsOf : Rule → Shape → Val → List ℕ → Type 0
+ArePartsOf rule (Shape.sequence tag components) (Val.fields slots) = AreComponents rule components slots
+ArePartsOf rule (Shape.set tag components) (Val.fields slots) = AreComponentsByTag rule components slots
+ArePartsOf rule (Shape.sequence_of tag type) (Val.items items) = AreItems (IsEncoding rule type) (listed items)
+ArePartsOf rule (Shape.set_of tag type) (Val.items items) = AreItemsInOrder (IsEncoding rule type) (listed items)
+ArePartsOf rule (Shape.explicit tag type) v = IsEncoding rule type v
+ArePartsOf rule _ _ = λ octets. octets ≡ []

@@ -1,10 +1,13 @@
 -- Parts that were laid one after another in a buffer.
-use Rattle.std.specs.Prelude.{◌≡◌, ◌+◌, ⊤, ℕ, List, [], ◌∷◌, ◌++◌, length, reverse}
+use Rattle.std.specs.Prelude.{◌≡◌, ◌≤◌, ◌+◌, ⊤, ℕ, List, [], ◌∷◌, ◌++◌, length, take, map, IsPermutation}
 use Rattle.std.specs.List.{AllZip, concat}
 use Rattle.octets.specs.Front.{Appends}
 use Rattle.types.specs.Shape.{Val}
 use Rattle.types.specs.Encoding.{Meaning}
+use Rattle.types.specs.Order.{Ascends}
+use Rattle.canon.specs.Span.{part_of, RisesByTag}
 use Rattle.canon.specs.declared.spans.Span.{Span}
+use Rattle.canon.specs.declared.spans.Tagged.{Tagged}
 
 -- octets of some kind were appended, where the span says
 pub record IsPut (IsOne : List ℕ → Type 0) (old new : List ℕ) (span : Span) : Type 0 where
@@ -21,13 +24,32 @@ Cuts from [] (p ∷ ps) = ⊥
 Cuts from (s ∷ ss) [] = ⊥
 Cuts from (s ∷ ss) (p ∷ ps) = (s.start ≡ from) × (s.end ≡ from + length p) × Cuts (from + length p) ss ps
 
--- encodings of items stand in a buffer, that of the last item first
+-- encodings of items stand in a buffer
 pub record AreLaid (IsItem : Meaning) (values : List Val) (spans : List Span) (old new : List ℕ) : Type 0 where
   pub encodings : List (List ℕ)
   pub each : AllZip IsItem values encodings
-  pub cuts : Cuts (length old) spans (reverse encodings)
-  pub is : new ≡ old ++ concat (reverse encodings)
+  pub cuts : Cuts (length old) spans encodings
+  pub is : new ≡ old ++ concat encodings
 
 -- what stood in a buffer still stands at its front
 abbrev pub Keeps : List ℕ → List ℕ → Type 0
 Keeps old new = Appends (λ _. ⊤) old new
+
+-- the spans mean all that stands in a buffer from there on
+pub record IsCutInto (from : ℕ) (spans : List Span) (buffer : List ℕ) : Type 0 where
+  pub within : from ≤ length buffer
+  pub whole : buffer ≡ take from buffer ++ concat (map (part_of buffer) spans)
+
+-- the parts that they mean stand there in ascending order
+pub record IsArranged (from : ℕ) (spans : List Span) (old new : List ℕ) : Type 0 where
+  pub order : List Span
+  pub permutes : IsPermutation spans order
+  pub ascends : Ascends (map (part_of old) order)
+  pub is : new ≡ take from old ++ concat (map (part_of old) order)
+
+-- the same by their tags
+pub record IsArrangedByTag (from : ℕ) (parts : List Tagged) (old new : List ℕ) : Type 0 where
+  pub order : List Tagged
+  pub permutes : IsPermutation parts order
+  pub rises : RisesByTag (map (λ part. part.tag) order)
+  pub is : new ≡ take from old ++ concat (map (part_of old) (map (λ part. part.span) order))

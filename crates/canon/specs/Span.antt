@@ -1,5 +1,5 @@
 -- Parts of a buffer: what spans mean, and how parts are put in order.
-use Rattle.std.specs.Prelude.{ℕ, zero, suc, ◌+◌, ◌-◌, ◌*◌, ◌^◌, List, [], ◌∷◌, take, drop, reverse}
+use Rattle.std.specs.Prelude.{ℕ, zero, suc, ◌+◌, ◌-◌, ◌*◌, ◌^◌, List, [], ◌∷◌, take, drop}
 use Rattle.std.specs.List.{AllPairs}
 use Rattle.octets.specs.declared.tag.Tag.{Tag}
 use Rattle.octets.specs.Tag.{ComesBefore}
@@ -8,13 +8,9 @@ use Rattle.canon.specs.declared.spans.Span.{Span}
 abbrev pub part_of : List ℕ → Span → List ℕ
 part_of buffer span = take (span.end - span.start) (drop span.start buffer)
 
--- the same, read from its end
-abbrev pub turned_part : List ℕ → Span → List ℕ
-turned_part buffer span = reverse (part_of buffer span)
-
--- no tag comes before a later one
-abbrev pub DescendsByTag : List Tag → Type 0
-DescendsByTag tags = AllPairs (λ a b. ¬ ComesBefore a b) tags
+-- no tag comes before an earlier one
+abbrev pub RisesByTag : List Tag → Type 0
+RisesByTag tags = AllPairs (λ a b. ¬ ComesBefore b a) tags
 
 -- the number that so many first octets spell, the most significant first, with zeros for those that are not there
 abbrev pub key_of : ℕ → List ℕ → ℕ

@@ -11,11 +11,9 @@ ghost use Rattle.canon.specs.Leaf.{IsPrimitiveHead};
 ghost use Rattle.canon.specs.Opening.{IsOpening, IsBroughtForward, IsLengthPut};
 ghost use Rattle.canon.specs.Part.{Keeps};
 ghost use Rattle.canon.specs.Rule.{rule_of};
-ghost use Rattle.canon.specs.Turned.{Turned, end_octets};
 ghost use Rattle.canon.specs.Writes.{Writes};
 
 use crate::rule::CanonicalRule;
-use crate::spans::turn;
 use octets::{Class, NoMemory, Tag, put_identifier, put_shortest_length};
 
 // Appends what stands before so many contents octets of a primitive encoding: mostly two octets.
@@ -80,15 +78,12 @@ fn leading_octet(tag: Tag) -> u8
     class + tag.number as u8
 }
 
-// Appends what follows the contents octets of a constructed encoding, which reads the same turned round.
-pub(crate) fn put_end(rule: CanonicalRule, out: &mut Vec<u8>) -> Result<(), NoMemory>
-    ensures appended { OnOk result (out.new.items ≡ out.old.items ++ end_octets (rule_of rule)) }
+// Appends end-of-contents octets (X.690 8.1.5).
+pub(crate) fn put_end(out: &mut Vec<u8>) -> Result<(), NoMemory>
+    ensures appended { OnOk result (out.new.items ≡ out.old.items ++ 0 ∷ 0 ∷ []) }
     ensures unchanged { OnErr result (out.new.items ≡ out.old.items) }
 {
-    match rule {
-        CanonicalRule::Cer => Ok(out.extend_from_slice(&[0x00, 0x00])?),
-        CanonicalRule::Der => Ok(()),
-    }
+    Ok(out.extend_from_slice(&[0x00, 0x00])?)
 }
 
 // Appends the identifier octets of a constructed encoding and the octet 80, and returns where the latter
@@ -131,7 +126,7 @@ pub(crate) fn put_closing(
     ensures kept { OnErr result (Keeps out.old.items out.new.items) }
 {
     match rule {
-        CanonicalRule::Cer => put_end(rule, out),
+        CanonicalRule::Cer => put_end(out),
         CanonicalRule::Der => put_length(place, out),
     }
 }
@@ -182,45 +177,4 @@ fn last_to_front(few: usize, octets: &mut [u8])
     for done in 0..few {
         octets.rotate_right(1);
     }
-}
-
-// Appends what stands before so many contents octets of a constructed encoding.
-pub(crate) fn put_front(
-    rule: CanonicalRule,
-    tag: Tag,
-    contents: usize,
-    out: &mut Vec<u8>,
-) -> Result<(), NoMemory>
-    requires { tag.number ≤ MAX_TAG_NUMBER }
-    ensures appended { OnOk result ((inside : List ℕ) → (rule ≡ Der → length inside ≡ contents) → Appends
-        (λ front. IsConstructed (rule_of rule) tag inside (front ++ (inside ++ end_octets (rule_of rule))))
-        out.old.items out.new.items) }
-    ensures kept { OnErr result (Keeps out.old.items out.new.items) }
-{
-    put_identifier(out, tag, true)?;
-    match rule {
-        CanonicalRule::Cer => out.push(0x80)?,
-        CanonicalRule::Der => put_shortest_length(out, contents)?,
-    }
-    Ok(())
-}
-
-// Appends what stands before the contents octets, turned round, where the encoding began at `start`.
-pub(crate) fn put_head(
-    rule: CanonicalRule,
-    tag: Tag,
-    start: usize,
-    out: &mut Vec<u8>,
-) -> Result<(), NoMemory>
-    requires tag { tag.number ≤ MAX_TAG_NUMBER }
-    requires start { start ≤ length out.old.items }
-    ensures appended { OnOk result ((old contents : List ℕ) → length old ≡ start →
-        out.old.items ≡ old ++ end_octets (rule_of rule) ++ reverse contents →
-        Appends (Turned (IsConstructed (rule_of rule) tag contents)) old out.new.items) }
-    ensures kept { OnErr result (Keeps out.old.items out.new.items) }
-{
-    let end = out.len();
-    put_front(rule, tag, end - start, out)?;
-    turn(out, end);
-    Ok(())
 }

@@ -6,7 +6,6 @@ ghost use Rattle.types.specs.View.{value_view};
 ghost use Rattle.canon.specs.Leaf.{IsLeaf, IsLeafEncoding, IsSimple, IsSimplyEncoded};
 ghost use Rattle.canon.specs.Rule.{rule_of};
 ghost use Rattle.canon.specs.Size.{AreShort, HasSize};
-ghost use Rattle.canon.specs.Turned.{Turned};
 ghost use Rattle.canon.specs.Writes.{Writes};
 
 use crate::contents::{put_contents, size_of_contents, size_of_integer};
@@ -14,7 +13,6 @@ use crate::heads::put_primitive_head;
 use crate::rule::CanonicalRule;
 use crate::segments::{put_octets, put_string, size_of_string};
 use crate::sizes::size_of_definite;
-use crate::spans::turn;
 use octets::{Class, NoMemory, Tag};
 use primitives::{put_boolean, put_integer};
 use types::Value;
@@ -51,27 +49,9 @@ pub(crate) fn size_of_leaf(rule: CanonicalRule, tag: Tag, value: &Value) -> usiz
     }
 }
 
-// Appends the encoding of a value under `tag`, turned round.
-pub(crate) fn put_leaf(
-    rule: CanonicalRule,
-    tag: Tag,
-    value: &Value,
-    out: &mut Vec<u8>,
-) -> Result<(), NoMemory>
-    requires tag { tag.number ≤ MAX_TAG_NUMBER }
-    requires leaf { IsLeaf (value_view value.now) }
-    ensures { Writes (Turned (IsLeafEncoding (rule_of rule) tag (value_view value.now)))
-        result out.old.items out.new.items }
-{
-    let start = out.len();
-    put_forwards(rule, tag, value, out)?;
-    turn(out, start);
-    Ok(())
-}
-
 // Appends the encoding of a value under `tag`.
 #[inline(always)]
-pub(crate) fn put_forwards(
+pub(crate) fn put_leaf(
     rule: CanonicalRule,
     tag: Tag,
     value: &Value,

@@ -1,19 +1,16 @@
 //! Writers of the canonical encodings: CER and DER (X.690 clauses 9 to 11).
 //!
 //! Each gives a value one encoding, written from the first octet to the last: DER's length of a
-//! constructed encoding is put in its place once the contents octets stand. A SET or SET OF is written from
-//! the last octet to the first, its parts sorted, and then turned round where it stands. Where an encoding
-//! is too long or memory runs out its octets are counted, without memory, so that the latter never hides
-//! the former.
+//! constructed encoding is put in its place once the contents octets stand, and the parts of a SET or SET
+//! OF are put in order once they stand. Where an encoding is too long or memory runs out its octets are
+//! counted, without memory, so that the latter never hides the former.
 #![tactic(auto)]
 
-mod backward;
 mod canon;
 mod cer;
 mod contents;
 mod copying;
 mod der;
-mod forward;
 mod heads;
 mod laws;
 mod leaf;
@@ -28,6 +25,7 @@ mod size_of;
 mod sizes;
 mod spans;
 mod tags;
+mod writing;
 
 pub use canon::Canon;
 pub use cer::Cer;

@@ -11,11 +11,11 @@ ghost use Rattle.types.specs.View.{ty_view, value_view, components_view, slots_v
 ghost use Rattle.canon.specs.Ordered.{IsOrdered, IsOrderedFrom, AreOrderedFrom, AreItemsOrderedFrom, IsSound, AreSound};
 ghost use Rattle.canon.specs.Span.{part_of};
 
-use crate::backward::put_span;
 use crate::copying::copy_leaf;
 use crate::parts::{chosen_in, items_in, slots_in};
 use crate::rule::CanonicalRule;
 use crate::spans::{Span, part};
+use crate::writing::put_span;
 use octets::NoMemory;
 use std::alloc::Global;
 use std::cmp::Ordering;
@@ -54,17 +54,6 @@ fn order_value(alloc: Global, ty: &Ty, value: &Value) -> Result<Value, NoMemory>
     ensures { IfOk result (λ ordered. IsOrderedFrom (ty_view ty.now) (value_view value.now) (value_view ordered)) }
 {
     match ty {
-        Ty::Boolean(_)
-        | Ty::Integer(_)
-        | Ty::Enumerated(_, _)
-        | Ty::Null(_)
-        | Ty::Oid(_)
-        | Ty::RelativeOid(_)
-        | Ty::Bits(_)
-        | Ty::NamedBits(_, _)
-        | Ty::Octets(_)
-        | Ty::Text(_, _)
-        | Ty::Time(_, _) => copy_leaf(alloc, value),
         Ty::Sequence(_, fields) | Ty::Set(_, fields) => {
             Ok(Value::Fields(order_slots(alloc, fields, slots_in(value))?))
         }
@@ -78,6 +67,7 @@ fn order_value(alloc: Global, ty: &Ty, value: &Value) -> Result<Value, NoMemory>
             Ok(Value::Chosen(which, Box::new(alloc, ordered)?))
         }
         Ty::Explicit(_, inner) => order_value(alloc, inner, value),
+        _ => copy_leaf(alloc, value),
     }
 }
 

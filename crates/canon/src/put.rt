@@ -11,10 +11,10 @@ ghost use Rattle.canon.specs.Leaf.{IsSimple, IsSimpleOf, IsSimplyEncoded};
 ghost use Rattle.canon.specs.Rule.{rule_of};
 ghost use Rattle.canon.specs.Size.{AreShort};
 
-use crate::forward::put_forward;
 use crate::leaf::put_simple;
 use crate::rule::CanonicalRule;
 use crate::size_of::size_of;
+use crate::writing::put_value;
 use octets::{MAX_ENCODING, NoMemory, Tag};
 use std::alloc::Global;
 use types::{Refusal, Ty, Value, WellTyped};
@@ -41,7 +41,7 @@ pub(crate) fn put_within(
         return put_short(rule, tag, value, out);
     }
     let before = out.len();
-    let put = put_forward(alloc, rule, shape, value, out);
+    let put = put_value(alloc, rule, shape, value, out);
     if put.is_ok() && out.len() - before <= MAX_ENCODING {
         return Ok(());
     }

@@ -5,8 +5,8 @@ ghost use Rattle.types.specs.Conforms.{Conforms};
 ghost use Rattle.types.specs.Same.{IsSame};
 ghost use Rattle.types.specs.View.{ty_view, value_view};
 
-use crate::backward::put_backward;
 use crate::rule::CanonicalRule;
+use crate::writing::put_value;
 use octets::NoMemory;
 use std::alloc::Global;
 use types::{Value, WellTyped};
@@ -22,8 +22,8 @@ pub fn same(alloc: Global, ty: &WellTyped, value: &Value, other: &Value) -> Resu
 {
     let shape = ty.as_type();
     let mut first = Vec::new(alloc);
-    put_backward(alloc, CanonicalRule::Der, shape, value, &mut first)?;
+    put_value(alloc, CanonicalRule::Der, shape, value, &mut first)?;
     let mut second = Vec::new(alloc);
-    put_backward(alloc, CanonicalRule::Der, shape, other, &mut second)?;
+    put_value(alloc, CanonicalRule::Der, shape, other, &mut second)?;
     Ok(first == second)
 }

@@ -11,6 +11,7 @@ ghost use Rattle.canon.specs.Size.{HasSize};
 ghost use Rattle.canon.specs.Writes.{IsWritable, AreWritable, AreWritableSlots};
 
 use crate::leaf::size_of_leaf;
+use crate::leaves::leaf_tag;
 use crate::parts::{chosen_in, items_in, slots_in};
 use crate::rule::CanonicalRule;
 use crate::sizes::size_of_constructed;
@@ -24,18 +25,10 @@ pub(crate) fn size_of(rule: CanonicalRule, ty: &Ty, value: &Value) -> usize
     ensures at_most { result ≤ MAX_ENCODING + 1 }
     ensures size { HasSize (IsEncoding (rule_of rule) (ty_view ty.now) (value_view value.now)) result }
 {
+    if let Some(tag) = leaf_tag(ty) {
+        return size_of_leaf(rule, tag, value);
+    }
     match ty {
-        Ty::Boolean(tag)
-        | Ty::Integer(tag)
-        | Ty::Enumerated(tag, _)
-        | Ty::Null(tag)
-        | Ty::Oid(tag)
-        | Ty::RelativeOid(tag)
-        | Ty::Bits(tag)
-        | Ty::NamedBits(tag, _)
-        | Ty::Octets(tag)
-        | Ty::Text(tag, _)
-        | Ty::Time(tag, _) => size_of_leaf(rule, *tag, value),
         Ty::Sequence(tag, fields) | Ty::Set(tag, fields) => {
             let contents = size_of_components(rule, fields, slots_in(value));
             size_of_constructed(rule, *tag, contents)
@@ -54,6 +47,7 @@ pub(crate) fn size_of(rule: CanonicalRule, ty: &Ty, value: &Value) -> usize
             let contents = size_of(rule, inner, value);
             size_of_constructed(rule, *tag, contents)
         }
+        _ => unreachable!(),
     }
 }
 

@@ -1,12 +1,12 @@
 //! Parts of one buffer, put in order.
 
-ghost use Rattle.std.specs.Prelude.{◌≡◌, ◌≤◌, ◌++◌, length, take, drop, map, reverse, All, IfOk, OnOk, OnErr, IsPermutation};
+ghost use Rattle.std.specs.Prelude.{◌≡◌, ◌≤◌, ◌++◌, length, take, drop, map, not, All, IsTrue, IfOk, OnOk, OnErr, IsPermutation};
 ghost use Rattle.std.specs.List.{concat};
-ghost use Rattle.std.specs.Ordering.{nat_cmp};
+ghost use Rattle.std.specs.Ordering.{nat_cmp, is_lt};
 ghost use Rattle.std.specs.Cmp.Lexicographic.{slice_cmp};
 ghost use Rattle.types.specs.Order.{Ascends};
-ghost use Rattle.canon.specs.Part.{Keeps};
-ghost use Rattle.canon.specs.Span.{part_of, turned_part, key_of, DescendsByTag};
+ghost use Rattle.canon.specs.Part.{IsArranged, IsArrangedByTag, IsCutInto, Keeps};
+ghost use Rattle.canon.specs.Span.{part_of, key_of, RisesByTag};
 ghost use Rattle.canon.specs.Keyed.{with_key, HasKey, compared};
 
 use octets::{NoMemory, Tag};
@@ -40,14 +40,6 @@ pub(crate) struct Keyed {
     pub span: Span,
 }
 
-// Turns round what stands from `start` on.
-pub(crate) fn turn(out: &mut Vec<u8>, start: usize)
-    requires { start ≤ length out.old.items }
-    ensures { out.new.items ≡ take start out.old.items ++ reverse (drop start out.old.items) }
-{
-    out[start..].reverse();
-}
-
 // The octets of a span, as far as the buffer has them.
 pub(crate) fn part(buffer: &[u8], span: Span) -> &[u8]
     ensures { result.now ≡ part_of buffer.now span }
@@ -57,10 +49,40 @@ pub(crate) fn part(buffer: &[u8], span: Span) -> &[u8]
     &buffer[start..end]
 }
 
-// The spans in descending order of the octets that they mean.
-pub(crate) fn sort_down(alloc: Global, buffer: &[u8], spans: &[Span]) -> Result<Vec<Span>, NoMemory>
+// Puts the parts that the spans mean, which are all that stands from `from` on, in ascending order. Mostly they
+// come in order, and nothing is sorted or moved.
+pub(crate) fn arrange(
+    alloc: Global,
+    out: &mut Vec<u8>,
+    from: usize,
+    spans: &[Span],
+) -> Result<(), NoMemory>
+    requires { IsCutInto from spans.now out.old.items }
+    ensures arranged { OnOk result (IsArranged from spans.now out.old.items out.new.items) }
+    ensures kept { OnErr result (Keeps (take from out.old.items) out.new.items) }
+{
+    if ascend(out, spans) {
+        return Ok(());
+    }
+    let sorted = sort_up(alloc, out, spans)?;
+    join_again(alloc, out, from, &sorted)
+}
+
+// Whether each part is at most the next.
+fn ascend(buffer: &[u8], spans: &[Span]) -> bool
+    ensures { IsTrue result → Ascends (map (part_of buffer.now) spans.now) }
+{
+    spans.is_sorted_by(
+        |a, b| -> bool
+            ensures { result ≡ not (is_lt (slice_cmp nat_cmp (part_of buffer.entry.now b.now) (part_of buffer.entry.now a.now))) }
+        { !part(buffer, *b).cmp(&part(buffer, *a)).is_lt() },
+    )
+}
+
+// The spans in ascending order of the octets that they mean.
+fn sort_up(alloc: Global, buffer: &[u8], spans: &[Span]) -> Result<Vec<Span>, NoMemory>
     ensures permutation { IfOk result (λ sorted. IsPermutation spans.now sorted.items) }
-    ensures ascends { IfOk result (λ sorted. Ascends (reverse (map (part_of buffer.now) sorted.items))) }
+    ensures ascends { IfOk result (λ sorted. Ascends (map (part_of buffer.now) sorted.items)) }
 {
     let mut keyed = keys_of(alloc, buffer, spans)?;
     sort_by_keys(buffer, &mut keyed);
@@ -107,17 +129,17 @@ fn key(octets: &[u8]) -> u128
     number
 }
 
-// Puts spans in descending order of the octets that they mean. Keys decide mostly: octets are read again only
+// Puts spans in ascending order of the octets that they mean. Keys decide mostly: octets are read again only
 // where those are equal.
 fn sort_by_keys(buffer: &[u8], keyed: &mut Vec<Keyed>)
     requires keys { All (HasKey buffer.now) keyed.old.items }
     ensures permutation { IsPermutation keyed.old.items keyed.new.items }
-    ensures ascends { Ascends (reverse (map (λ one. part_of buffer.now one.span) keyed.new.items)) }
+    ensures ascends { Ascends (map (λ one. part_of buffer.now one.span) keyed.new.items) }
 {
     keyed.sort_unstable_by(
         |a, b| -> Ordering
-            ensures { result ≡ slice_cmp nat_cmp (compared buffer.entry.now b.now) (compared buffer.entry.now a.now) }
-        { compare(buffer, *b, *a) },
+            ensures { result ≡ slice_cmp nat_cmp (compared buffer.entry.now a.now) (compared buffer.entry.now b.now) }
+        { compare(buffer, *a, *b) },
     );
 }
 
@@ -138,42 +160,61 @@ fn behind(octets: &[u8]) -> &[u8]
     &octets[octets.len().min(16)..]
 }
 
-// Puts parts in descending order of their tags.
-pub(crate) fn sort_down_by_tag(parts: &mut Vec<Tagged>)
-    ensures permutation { IsPermutation parts.old.items parts.new.items }
-    ensures descends { DescendsByTag (map (λ part. part.tag) parts.new.items) }
+// Puts parts, which are all that stands from `from` on, in ascending order of their tags.
+pub(crate) fn arrange_by_tag(
+    alloc: Global,
+    out: &mut Vec<u8>,
+    from: usize,
+    parts: Vec<Tagged>,
+) -> Result<(), NoMemory>
+    requires { IsCutInto from (map (λ part. part.span) parts.items) out.old.items }
+    ensures arranged { OnOk result (IsArrangedByTag from parts.items out.old.items out.new.items) }
+    ensures kept { OnErr result (Keeps (take from out.old.items) out.new.items) }
 {
-    parts.sort_unstable_by(|a, b| b.tag.order(a.tag));
+    if rise(&parts) {
+        return Ok(());
+    }
+    let mut sorted = parts;
+    sort_by_tag(&mut sorted);
+    let spans = spans_of(alloc, &sorted)?;
+    join_again(alloc, out, from, &spans)
+}
+
+// Whether no tag comes before the one in front of it.
+fn rise(parts: &[Tagged]) -> bool
+    ensures { IsTrue result → RisesByTag (map (λ part. part.tag) parts.now) }
+{
+    parts.is_sorted_by(|a, b| !b.tag.order(a.tag).is_lt())
+}
+
+// Puts parts in ascending order of their tags.
+fn sort_by_tag(parts: &mut Vec<Tagged>)
+    ensures permutation { IsPermutation parts.old.items parts.new.items }
+    ensures rises { RisesByTag (map (λ part. part.tag) parts.new.items) }
+{
+    parts.sort_unstable_by(|a, b| a.tag.order(b.tag));
 }
 
 // Where the parts stand.
-pub(crate) fn spans_of(alloc: Global, parts: &[Tagged]) -> Result<Vec<Span>, NoMemory>
+fn spans_of(alloc: Global, parts: &[Tagged]) -> Result<Vec<Span>, NoMemory>
     ensures { IfOk result (λ spans. spans.items ≡ map (λ part. part.span) parts.now) }
 {
     Ok(parts.iter().map(|part| part.span).collect(alloc)?)
 }
 
-// Puts the parts that the spans mean, each turned round, in the place of what stands from `from` on. They come the
-// last first, and all are turned at once.
-pub(crate) fn arrange_turned(
-    alloc: Global,
-    out: &mut Vec<u8>,
-    from: usize,
-    spans: &[Span],
-) -> Result<(), NoMemory>
+// Puts the parts that the spans mean, one behind another, in the place of what stands from `from` on.
+fn join_again(alloc: Global, out: &mut Vec<u8>, from: usize, spans: &[Span]) -> Result<(), NoMemory>
     requires { from ≤ length out.old.items }
-    ensures arranged { OnOk result
-        (out.new.items ≡ take from out.old.items ++ concat (map (turned_part out.old.items) spans.now)) }
+    ensures joined { OnOk result
+        (out.new.items ≡ take from out.old.items ++ concat (map (part_of out.old.items) spans.now)) }
     ensures kept { OnErr result (Keeps (take from out.old.items) out.new.items) }
 {
     let mut moved = Vec::new(alloc);
     moved.reserve(out.len() - from)?;
-    let count = spans.len();
-    for done in 0..count {
-        moved.extend_from_slice(part(out, spans[count - 1 - done]))?;
+    for span in spans {
+        moved.extend_from_slice(part(out, *span))?;
     }
     out.truncate(from);
     out.extend_from_slice(&moved)?;
-    turn(out, from);
     Ok(())
 }

@@ -20,6 +20,9 @@ pub(crate) fn order_tag(rule: CanonicalRule, ty: &Ty, encoding: &[u8]) -> Tag
     ensures { (v : Val) → IsEncoding (rule_of rule) (ty_view ty.now) v encoding.now →
         IsOrderTag (rule_of rule) (ty_view ty.now) encoding.now result }
 {
+    if let Some(tag) = ty.tag() {
+        return tag;
+    }
     match rule {
         CanonicalRule::Cer => least_tag(ty),
         CanonicalRule::Der => tag_at_front(encoding),

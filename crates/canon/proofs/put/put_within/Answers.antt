@@ -22,7 +22,7 @@ returns-then-len-before-le-MAX_ENCODING-clause-appended c =
     let shape = ty_view c.args.ty.now in
     let v = value_view c.args.value.now in
     let old = c.args.out.now.items in
-    let h = appended_where_ok c.put_forward-put.result (Appends (IsEncoding (rule_of c.args.rule) (ty_view c.as_type-shape.result.now) v) old c.put_forward-put.new.out.items) (sym c.if-is_ok.ensures.value) c.put_forward-put.ensures.appended in
+    let h = appended_where_ok c.put_value-put.result (Appends (IsEncoding (rule_of c.args.rule) (ty_view c.as_type-shape.result.now) v) old c.put_value-put.new.out.items) (sym c.if-is_ok.ensures.value) c.put_value-put.ensures.appended in
     let e = subst (λ (t : Ty). IsEncoding (rule_of c.args.rule) (ty_view t) v h.0) c.as_type-shape.ensures.value h.2 in
     (h.0, h.1, accepted c.args.rule shape v h.0 c.as_type-shape.ensures.well_formed e (omega (arith, c.if-len-before-le-MAX_ENCODING.true, c.len.ensures, c.len-before.ensures, ap length h.1, length-append old h.0)))
 

@@ -19,7 +19,7 @@ use Rattle.canon.proofs.NodeLemmas.{choice_parts, has_items, has_slots, has_inne
 use Rattle.canon.proofs.NodeSizeLemmas.{around_size}
 use Rattle.canon.proofs.SimpleLemmas.{rule_is_canonical}
 use Rattle.canon.proofs.StepLemmas.{item_size, as_many_slots, present_at, size_from_end, present_size, absent_size_any}
-use Rattle.canon.proofs.TyLemmas.{leaf_view, list_view, record_view, list_size, record_size}
+use Rattle.canon.proofs.TyLemmas.{list_view, record_view, list_size, record_size}
 use Rattle.canon.proofs.ForwardLemmas.{chosen_in_choice}
 use Rattle.canon.proofs.WritableLemmas.{stands_at, item_writable, part_writable}
 use Rattle.canon.proofs.size_of.+size.Goals as goal
@@ -30,7 +30,7 @@ size_of-index-requires t c =
     let alternatives = c.in-Choice.alternatives in
     let is = ap ty_view c.in-Choice.is ∙ ty-Choice alternatives in
     let parts = choice_parts alternatives.items (value_view c.args.value.now) (subst (λ (s : Shape). Conforms s (value_view c.args.value.now)) is c.requires.conforms) (subst HasGoodNodes is c.requires.nodes) in
-    let told = c.in-Some.ensures parts.which parts.value parts.is in
+    let told = c.in-Some-chosen_in.ensures parts.which parts.value parts.is in
     omega (arith, told.0, parts.alternative.there, alternatives.ok.0)
 
 pub size_of-size_of-requires : goal.size_of-size_of-requires
@@ -38,16 +38,16 @@ size_of-size_of-requires t c =
     let alternatives = c.in-Choice.alternatives in
     let is = ap ty_view c.in-Choice.is ∙ ty-Choice alternatives in
     let parts = choice_parts alternatives.items (value_view c.args.value.now) (subst (λ (s : Shape). Conforms s (value_view c.args.value.now)) is c.requires.conforms) (subst HasGoodNodes is c.requires.nodes) in
-    let here = chosen_in_choice (rule_of c.args.rule) alternatives.items (ty_view c.args.ty.now) (value_view c.args.value.now) c.in-Some.which (value_view c.in-Some.chosen.now) c.index.result.now is parts (c.in-Some.ensures parts.which parts.value parts.is) c.index.ensures in
+    let here = chosen_in_choice (rule_of c.args.rule) alternatives.items (ty_view c.args.ty.now) (value_view c.args.value.now) c.in-Some-chosen_in.which (value_view c.in-Some-chosen_in.chosen.now) c.index.result.now is parts (c.in-Some-chosen_in.ensures parts.which parts.value parts.is) c.index.ensures in
     (search (rules, node.the_lemmas, alternative.the_lemmas), here.writable)
 
-pub size_of-returns-in-Some-clause-size : goal.size_of-returns-in-Some-clause-size
-size_of-returns-in-Some-clause-size t c =
+pub size_of-returns-in-Some-chosen_in-clause-size : goal.size_of-returns-in-Some-chosen_in-clause-size
+size_of-returns-in-Some-chosen_in-clause-size t c =
     let v = value_view c.args.value.now in
     let alternatives = c.in-Choice.alternatives in
     let is = ap ty_view c.in-Choice.is ∙ ty-Choice alternatives in
     let parts = choice_parts alternatives.items v (subst (λ (s : Shape). Conforms s v) is c.requires.conforms) (subst HasGoodNodes is c.requires.nodes) in
-    let here = chosen_in_choice (rule_of c.args.rule) alternatives.items (ty_view c.args.ty.now) v c.in-Some.which (value_view c.in-Some.chosen.now) c.index.result.now is parts (c.in-Some.ensures parts.which parts.value parts.is) c.index.ensures in
+    let here = chosen_in_choice (rule_of c.args.rule) alternatives.items (ty_view c.args.ty.now) v c.in-Some-chosen_in.which (value_view c.in-Some-chosen_in.chosen.now) c.index.result.now is parts (c.in-Some-chosen_in.ensures parts.which parts.value parts.is) c.index.ensures in
     size_alike _ _ c.size_of.result here.alike c.size_of.ensures.size
 
 pub size_of-size_of_items-contents-requires : goal.size_of-size_of_items-contents-requires
@@ -92,12 +92,11 @@ size_of-returns-in-Explicit-clause-size t c =
     subst (λ (s : Shape). HasSize (IsEncoding rule s v) size) (sym is)
     (size_alike _ _ size (explicit_alike rule tag inner v) (around_size (IsEncoding rule inner v) rule tag n size parts.kept here c.size_of_constructed.ensures.more c.size_of_constructed.ensures.size))
 
-pub size_of-returns-in-Boolean-clause-size : goal.size_of-returns-in-Boolean-clause-size
-size_of-returns-in-Boolean-clause-size t c =
-    let tag = c.in-Boolean.tag in
+pub size_of-returns-in-Some-clause-size : goal.size_of-returns-in-Some-clause-size
+size_of-returns-in-Some-clause-size t c =
     let shape = ty_view c.args.ty.now in
     let v = value_view c.args.value.now in
-    size_alike _ _ c.size_of_leaf.result (leaf_alike (rule_of c.args.rule) (rule_is_canonical c.args.rule) tag shape v (leaf_view c.args.ty.now tag c.in-Boolean.is) c.requires.conforms) c.size_of_leaf.ensures.size
+    size_alike _ _ c.size_of_leaf.result (leaf_alike (rule_of c.args.rule) (rule_is_canonical c.args.rule) c.in-Some.tag shape v c.in-Some.ensures.value c.requires.conforms) c.size_of_leaf.ensures.size
 
 pub size_of_items-size_of-requires : goal.size_of_items-size_of-requires
 size_of_items-size_of-requires t c =

@@ -1,5 +1,4 @@
-use Rattle.std.proofs.Common.{◌∙◌, ℕ, List, All, IsPermutation, map, ap, sym, subst}
-use Rattle.std.specs.Prelude.{reverse}
+use Rattle.std.proofs.Common.{◌∙◌, List, All, IsPermutation, map, ap, sym, subst}
 use Rattle.std.proofs.lemmas.List.Sorted.{IsPermutation-map}
 use Rattle.octets.proofs.ResultLemmas.{IfOk-map}
 use Rattle.types.specs.Order.{Ascends}
@@ -8,7 +7,7 @@ use Rattle.canon.specs.declared.spans.Span.{Span}
 use Rattle.canon.specs.Keyed.{with_key, HasKey}
 use Rattle.canon.specs.Span.{part_of}
 use Rattle.canon.proofs.KeyLemmas.{keys_are, spans_again, parts_again}
-use Rattle.canon.proofs.spans.sort_down.Goals as goal
+use Rattle.canon.proofs.spans.sort_up.Goals as goal
 
 pub sort_by_keys-requires : goal.sort_by_keys-requires
 sort_by_keys-requires c =
@@ -31,5 +30,5 @@ returns-clause-ascends c =
     let sorted = c.sort_by_keys.new.keyed.items in
     let span = λ (one : Keyed). one.span in
     IfOk-map c.spans_behind.result _ _
-    (λ found is. subst (λ (ps : List (List ℕ)). Ascends (reverse ps)) (sym (ap (map (part_of buffer)) (is ∙ ap (map span) c.deref.ensures.value) ∙ parts_again buffer sorted)) c.sort_by_keys.ensures.ascends)
+    (λ found is. subst Ascends (sym (ap (map (part_of buffer)) (is ∙ ap (map span) c.deref.ensures.value) ∙ parts_again buffer sorted)) c.sort_by_keys.ensures.ascends)
     c.spans_behind.ensures

@@ -4,7 +4,7 @@ use Rattle.types.specs.View.{value_view}
 use Rattle.canon.specs.Leaf.{IsLeafEncoding}
 use Rattle.canon.specs.Node.{AreItems}
 use Rattle.canon.specs.Rule.{rule_of}
-use Rattle.canon.proofs.leaves.join_leaves.Given as goal
+use Rattle.canon.proofs.leaves.put_leaves.Given as goal
 
 abbrev pub invariant-loop-value : goal.invariant-loop-value
 invariant-loop-value l = Appends (AreItems (IsLeafEncoding (rule_of l.rule) l.tag) (map value_view (take l.value-index l.values))) l.initial.out.items l.out.items

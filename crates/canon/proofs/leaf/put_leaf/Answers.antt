@@ -7,7 +7,7 @@ use Rattle.canon.specs.Rule.{rule_of}
 use Rattle.canon.specs.Segments.{IsStringOf}
 use Rattle.canon.proofs.LeafLemmas.{bits_put, octets_put, simply_leaf}
 use Rattle.canon.proofs.WritesLemmas.{written_by}
-use Rattle.canon.proofs.leaf.put_forwards.Goals as goal
+use Rattle.canon.proofs.leaf.put_leaf.Goals as goal
 
 pub returns-in-Bits : goal.returns-in-Bits
 returns-in-Bits c =

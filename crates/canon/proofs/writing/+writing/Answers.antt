@@ -1,0 +1,393 @@
+use Rattle.std.proofs.Common.{◌≡◌, ◌∙◌, ◌+◌, ◌<◌, ℕ, suc, List, Option, Some, None, Vec, Global, length, take, get_or, map, inl, inr, refl, sym, ap, subst, subst₂, arith, rules}
+use Rattle.std.proofs.lemmas.List.{take_all}
+use Rattle.octets.specs.Front.{Appends}
+use Rattle.octets.proofs.ResultLemmas.{OnOk-map}
+use Rattle.types.specs.declared.ty.Ty.{Ty}
+use Rattle.types.specs.declared.ty.Ty as node
+use Rattle.types.specs.declared.ty.Alternative as alternative
+use Rattle.types.specs.declared.ty.Field.{Field}
+use Rattle.types.specs.declared.ty.Field as field
+use Rattle.types.specs.declared.value.Value.{Value}
+use Rattle.types.specs.Conforms.{Conforms}
+use Rattle.types.specs.Encoding.{IsEncoding}
+use Rattle.types.specs.Order.{IsOrderTag}
+use Rattle.types.specs.Shape.{Shape, Slots, Val}
+use Rattle.types.specs.View.{ty_view, value_view, components_view}
+use Rattle.types.proofs.ViewLemmas.{ty-Sequence, ty-Set, ty-SequenceOf, ty-SetOf, ty-Choice, ty-Explicit}
+use Rattle.canon.specs.declared.spans.Span.{Span}
+use Rattle.canon.specs.declared.spans.Tagged.{Tagged}
+use Rattle.canon.specs.Node.{HasGoodNodes, ArePartsOf, AreItems, AreItemsInOrder, AreComponents, AreComponentsByTag}
+use Rattle.canon.specs.Part.{AreLaid, IsArranged, IsCutInto, IsPut, Keeps}
+use Rattle.canon.specs.Rule.{rule_of}
+use Rattle.canon.specs.Span.{part_of}
+use Rattle.canon.specs.Writes.{Writes}
+use Rattle.canon.proofs.JoinLemmas.{BeginsComponents, none_joined, present_joined, absent_joined, all_joined}
+use Rattle.canon.proofs.KeptLemmas.{kept, keeps_more, keeps_chain, keeps_taken}
+use Rattle.canon.proofs.LeafLemmas.{leaf_alike, leaf_conforms}
+use Rattle.canon.proofs.LeavesLemmas.{leaves_conform, leaves_alike, item_behind}
+use Rattle.canon.proofs.NodeLemmas.{choice_parts, has_items, has_slots, parts_around}
+use Rattle.canon.proofs.OpeningLemmas.{opened_kept}
+use Rattle.canon.proofs.PartLemmas.{part_put}
+use Rattle.canon.proofs.PutLemmas.{laid_more, laid_cut, order_made}
+use Rattle.canon.proofs.SimpleLemmas.{rule_is_canonical}
+use Rattle.canon.proofs.StepLemmas.{as_many_slots, present_at}
+use Rattle.canon.proofs.ForwardLemmas.{chosen_in_choice}
+use Rattle.canon.proofs.TagPutLemmas.{LaidTo, none_laid_by_tag, present_laid, absent_laid, all_laid, tagged_cut, by_tag_made, distinct_drop}
+use Rattle.canon.proofs.TyLemmas.{framed_view, leaf_kept}
+use Rattle.canon.proofs.WritableLemmas.{stands_at, item_writable, part_writable}
+use Rattle.canon.proofs.WritesLemmas.{written_by, refused, written_around, put_as}
+use Rattle.canon.proofs.writing.+writing.Goals as goal
+use Rattle.canon.proofs.writing.+writing.Goals.{put_components-in-Some-leaf_tag+in_ok-put_leaf-in-Some-leaf_tag, put_components-in-None+in_ok-put_value-in-None}
+
+-- no value in a slot
+no_slot_there : (slot : Option Value) → ((v : Value) → ¬ (slot ≡ Some v)) → slot ≡ None
+no_slot_there None h = refl
+no_slot_there (Some v) h = absurd (h v refl)
+
+pub put_value-put_leaf-requires-clause-leaf : goal.put_value-put_leaf-requires-clause-leaf
+put_value-put_leaf-requires-clause-leaf t c = leaf_conforms c.in-Some.tag (ty_view c.args.ty.now) (value_view c.args.value.now) c.in-Some.ensures.value c.requires.conforms
+
+pub put_value-returns-in-Some : goal.put_value-returns-in-Some
+put_value-returns-in-Some t c =
+    let alike = leaf_alike (rule_of c.args.rule) (rule_is_canonical c.args.rule) c.in-Some.tag (ty_view c.args.ty.now) (value_view c.args.value.now) c.in-Some.ensures.value c.requires.conforms in
+    written_by c.put_leaf.ensures alike.to
+
+pub put_value-index-requires : goal.put_value-index-requires
+put_value-index-requires t c =
+    let alternatives = c.in-Choice.alternatives in
+    let is = ap ty_view c.in-Choice.is ∙ ty-Choice alternatives in
+    let parts = choice_parts alternatives.items (value_view c.args.value.now) (subst (λ (s : Shape). Conforms s (value_view c.args.value.now)) is c.requires.conforms) (subst HasGoodNodes is c.requires.nodes) in
+    let told = c.in-Some-chosen_in.ensures parts.which parts.value parts.is in
+    omega (arith, told.0, parts.alternative.there, alternatives.ok.0)
+
+pub put_value-put_value-requires : goal.put_value-put_value-requires
+put_value-put_value-requires t c =
+    let rule = rule_of c.args.rule in
+    let v = value_view c.args.value.now in
+    let alternatives = c.in-Choice.alternatives in
+    let is = ap ty_view c.in-Choice.is ∙ ty-Choice alternatives in
+    let parts = choice_parts alternatives.items v (subst (λ (s : Shape). Conforms s v) is c.requires.conforms) (subst HasGoodNodes is c.requires.nodes) in
+    let here = chosen_in_choice rule alternatives.items (ty_view c.args.ty.now) v c.in-Some-chosen_in.which (value_view c.in-Some-chosen_in.chosen.now) c.index.result.now is parts (c.in-Some-chosen_in.ensures parts.which parts.value parts.is) c.index.ensures in
+    (search (rules, node.the_lemmas, alternative.the_lemmas), here.writable)
+
+pub put_value-returns-in-Some-chosen_in : goal.put_value-returns-in-Some-chosen_in
+put_value-returns-in-Some-chosen_in t c =
+    let rule = rule_of c.args.rule in
+    let v = value_view c.args.value.now in
+    let alternatives = c.in-Choice.alternatives in
+    let is = ap ty_view c.in-Choice.is ∙ ty-Choice alternatives in
+    let parts = choice_parts alternatives.items v (subst (λ (s : Shape). Conforms s v) is c.requires.conforms) (subst HasGoodNodes is c.requires.nodes) in
+    let a = c.index.result.now in
+    let here = chosen_in_choice rule alternatives.items (ty_view c.args.ty.now) v c.in-Some-chosen_in.which (value_view c.in-Some-chosen_in.chosen.now) a is parts (c.in-Some-chosen_in.ensures parts.which parts.value parts.is) c.index.ensures in
+    written_by c.put_value.ensures here.alike.to
+
+pub put_value-returns-in_ok-put_parts-in-Sequence : goal.put_value-returns-in_ok-put_parts-in-Sequence
+put_value-returns-in_ok-put_parts-in-Sequence t c =
+    let rule = rule_of c.args.rule in
+    let shape = ty_view c.args.ty.now in
+    let v = value_view c.args.value.now in
+    let tag = c.in-Sequence.tag in
+    written_around c.put_closing.result rule tag (ArePartsOf rule shape v) (IsEncoding rule shape v) c.in_ok-place-in-Sequence.place c.args.out.now.items c.put_opening.new.out.items c.put_parts.new.out.items c.put_closing.new.out.items c.in_ok-place-in-Sequence.ensures.opened
+    c.in_ok-put_parts-in-Sequence.ensures.appended (parts_around rule tag shape v (rule_is_canonical c.args.rule) (framed_view c.args.ty.now tag c.in-Sequence.is) c.requires.conforms) c.put_closing.ensures.closed c.put_closing.ensures.kept
+
+pub put_value-returns-in_err-put_parts-in-Sequence : goal.put_value-returns-in_err-put_parts-in-Sequence
+put_value-returns-in_err-put_parts-in-Sequence t c =
+    let old = c.args.out.now.items in
+    let one = c.put_opening.new.out.items in
+    refused _ c.from_residual-in_err-put_parts-in-Sequence.ensures.1
+    (keeps_chain old one c.put_parts.new.out.items (opened_kept c.in-Sequence.tag old one c.in_ok-place-in-Sequence.place c.in_ok-place-in-Sequence.ensures.opened) c.in_err-put_parts-in-Sequence.ensures.kept)
+
+pub put_parts-returns-in-Sequence : goal.put_parts-returns-in-Sequence
+put_parts-returns-in-Sequence t c =
+    let rule = rule_of c.args.rule in
+    let tag = c.in-Sequence.field-0 in
+    let components = components_view c.in-Sequence.fields.items in
+    let is : ty_view c.args.ty.now ≡ Shape.sequence tag components = ap ty_view c.in-Sequence.is ∙ ty-Sequence tag c.in-Sequence.fields in
+    let parts = has_slots tag components (ty_view c.args.ty.now) (value_view c.args.value.now) (inl is) c.requires.conforms c.requires.nodes in
+    put_as rule is parts.is (subst₂ (λ (fs : List Field) (s : Slots). Writes (AreComponents rule (components_view fs) s) c.put_components.result c.args.out.now.items c.put_components.new.out.items) c.deref.ensures.value (sym (c.slots_in.ensures parts.slots parts.is)) c.put_components.ensures)
+
+pub put_parts-returns-in-Set : goal.put_parts-returns-in-Set
+put_parts-returns-in-Set t c =
+    let rule = rule_of c.args.rule in
+    let tag = c.in-Set.field-0 in
+    let components = components_view c.in-Set.fields.items in
+    let is : ty_view c.args.ty.now ≡ Shape.set tag components = ap ty_view c.in-Set.is ∙ ty-Set tag c.in-Set.fields in
+    let parts = has_slots tag components (ty_view c.args.ty.now) (value_view c.args.value.now) (inr is) c.requires.conforms c.requires.nodes in
+    put_as rule is parts.is (subst₂ (λ (fs : List Field) (s : Slots). Writes (AreComponentsByTag rule (components_view fs) s) c.put_by_tag.result c.args.out.now.items c.put_by_tag.new.out.items) c.deref-in-Set.ensures.value (sym (c.slots_in-in-Set.ensures parts.slots parts.is)) c.put_by_tag.ensures)
+
+pub put_parts-returns-in-SequenceOf : goal.put_parts-returns-in-SequenceOf
+put_parts-returns-in-SequenceOf t c =
+    let rule = rule_of c.args.rule in
+    let tag = c.in-SequenceOf.field-0 in
+    let inner = c.in-SequenceOf.inner in
+    let is : ty_view c.args.ty.now ≡ Shape.sequence_of tag (ty_view inner.value) = ap ty_view c.in-SequenceOf.is ∙ ty-SequenceOf tag inner in
+    let parts = has_items tag (ty_view inner.value) (ty_view c.args.ty.now) (value_view c.args.value.now) (inl is) c.requires.conforms c.requires.nodes in
+    put_as rule is parts.is (subst₂ (λ (e : Ty) (vs : List Val). Writes (AreItems (IsEncoding rule (ty_view e)) vs) c.put_items.result c.args.out.now.items c.put_items.new.out.items) c.deref-in-SequenceOf.ensures (sym (c.items_in.ensures parts.items parts.is)) c.put_items.ensures)
+
+pub put_parts-returns-in-SetOf : goal.put_parts-returns-in-SetOf
+put_parts-returns-in-SetOf t c =
+    let rule = rule_of c.args.rule in
+    let tag = c.in-SetOf.field-0 in
+    let inner = c.in-SetOf.inner in
+    let is : ty_view c.args.ty.now ≡ Shape.set_of tag (ty_view inner.value) = ap ty_view c.in-SetOf.is ∙ ty-SetOf tag inner in
+    let parts = has_items tag (ty_view inner.value) (ty_view c.args.ty.now) (value_view c.args.value.now) (inr is) c.requires.conforms c.requires.nodes in
+    put_as rule is parts.is (subst₂ (λ (e : Ty) (vs : List Val). Writes (AreItemsInOrder (IsEncoding rule (ty_view e)) vs) c.put_in_order.result c.args.out.now.items c.put_in_order.new.out.items) c.deref-in-SetOf.ensures (sym (c.items_in-in-SetOf.ensures parts.items parts.is)) c.put_in_order.ensures)
+
+pub put_parts-returns-in-Explicit : goal.put_parts-returns-in-Explicit
+put_parts-returns-in-Explicit t c =
+    let rule = rule_of c.args.rule in
+    let v = value_view c.args.value.now in
+    let is : ty_view c.args.ty.now ≡ Shape.explicit c.in-Explicit.field-0 (ty_view c.in-Explicit.inner.value) = ap ty_view c.in-Explicit.is ∙ ty-Explicit c.in-Explicit.field-0 c.in-Explicit.inner in
+    let same : v ≡ v = refl in
+    put_as rule is same (subst (λ (e : Ty). Writes (IsEncoding rule (ty_view e) v) c.put_value.result c.args.out.now.items c.put_value.new.out.items) c.deref-in-Explicit.ensures c.put_value.ensures)
+
+pub put_items-put_leaves-requires-clause-leaves : goal.put_items-put_leaves-requires-clause-leaves
+put_items-put_leaves-requires-clause-leaves t c = leaves_conform c.in-Some.tag (ty_view c.args.ty.now) c.in-Some.ensures.value (map value_view c.args.items.now) c.requires.conform
+
+pub put_items-returns-in-Some : goal.put_items-returns-in-Some
+put_items-returns-in-Some t c =
+    let alike = leaves_alike c.in-Some.tag (ty_view c.args.ty.now) c.in-Some.ensures.value (rule_of c.args.rule) (rule_is_canonical c.args.rule) (map value_view c.args.items.now) c.requires.conform in
+    written_by c.put_leaves.ensures alike.to
+
+pub put_items-put_value-requires : goal.put_items-put_value-requires
+put_items-put_value-requires t c =
+    (search (rules, node.the_lemmas), item_writable (ty_view c.args.ty.now) c.args.items.now c.loop-item.item-index c.item-item.result (omega arith) c.item-item.is c.requires)
+
+pub put_items-loop-item-preserved : goal.put_items-loop-item-preserved
+put_items-loop-item-preserved t c =
+    item_behind (IsEncoding (rule_of c.args.rule) (ty_view c.args.ty.now)) c.args.items.now c.loop-item.item-index c.item-item.result c.args.out.now.items c.loop-item.out.items c.put_value.new.out.items (omega arith) c.item-item.is c.loop-item.invariant c.in_ok-put_value.ensures.appended
+
+pub put_items-returns-in_err-put_value : goal.put_items-returns-in_err-put_value
+put_items-returns-in_err-put_value t c =
+    let so_far = c.loop-item.invariant in
+    refused _ c.from_residual.ensures.1 (keeps_chain c.args.out.now.items c.loop-item.out.items c.put_value.new.out.items (so_far.0, so_far.1, tt) c.in_err-put_value.ensures.kept)
+
+pub put_components-loop-place-init : goal.put_components-loop-place-init
+put_components-loop-place-init t c = none_joined (rule_of c.args.rule) c.args.fields.now c.args.slots.now c.args.out.now.items
+
+pub put_components-returns : goal.put_components-returns
+put_components-returns t c =
+    let many = as_many_slots c.args.fields.now c.args.slots.now c.requires.conform in
+    let whole = all_joined (rule_of c.args.rule) c.args.fields.now c.args.slots.now c.loop-place.place c.args.out.now.items c.loop-place.out.items (omega (arith, c.min-count.ensures, many)) many c.loop-place.invariant in
+    record { appended = whole; kept = tt }
+
+pub put_components-put_leaf-requires-clause-tag : goal.put_components-put_leaf-requires-clause-tag
+put_components-put_leaf-requires-clause-tag t c =
+    let fields = c.args.fields.now in
+    let place = c.loop-place.place in
+    let f = c.index-fields-place.result in
+    let here = part_writable fields c.args.slots.now place f c.index-slots-place.result c.in-Some.value (omega (arith, c.min-count.ensures)) c.index-fields-place.is c.index-slots-place.is c.in-Some.is c.requires in
+    leaf_kept c.in-Some-leaf_tag.tag (ty_view (get_or fields place f).ty) c.in-Some-leaf_tag.ensures.value here.nodes
+
+pub put_components-put_leaf-requires-clause-leaf : goal.put_components-put_leaf-requires-clause-leaf
+put_components-put_leaf-requires-clause-leaf t c =
+    let fields = c.args.fields.now in
+    let place = c.loop-place.place in
+    let f = c.index-fields-place.result in
+    let here = part_writable fields c.args.slots.now place f c.index-slots-place.result c.in-Some.value (omega (arith, c.min-count.ensures)) c.index-fields-place.is c.index-slots-place.is c.in-Some.is c.requires in
+    leaf_conforms c.in-Some-leaf_tag.tag (ty_view (get_or fields place f).ty) (value_view c.in-Some.value) c.in-Some-leaf_tag.ensures.value here.conforms
+
+pub put_components-put_value-requires : goal.put_components-put_value-requires
+put_components-put_value-requires t c =
+    let place = c.loop-place.place in
+    let bound : place < length c.args.fields.now = omega (arith, c.min-count.ensures) in
+    let at = c.index-fields-place.is in (
+      search (rules, node.the_lemmas, field.the_lemmas, bound, at),
+      part_writable c.args.fields.now c.args.slots.now place c.index-fields-place.result c.index-slots-place.result c.in-Some.value (omega (arith, c.min-count.ensures)) at c.index-slots-place.is c.in-Some.is c.requires,
+    )
+
+pub put_components-loop-place-preserved-in_default : goal.put_components-loop-place-preserved-in_default
+put_components-loop-place-preserved-in_default t c =
+    let rule = rule_of c.args.rule in
+    let fields = c.args.fields.now in
+    let slots = c.args.slots.now in
+    let old = c.args.out.now.items in
+    let new = c.loop-place.out.items in
+    let i = c.loop-place.place in
+    let next : suc i ≡ i + 1 = omega arith in
+    let slot = c.index-slots-place.result in
+    let stands = stands_at slots i slot None c.index-slots-place.is (no_slot_there slot c.in_default.not-Some) in
+    subst (λ n. Appends (BeginsComponents rule fields slots n) old new) next
+    (absent_joined rule fields slots i old new (omega (arith, c.min-count.ensures)) (omega (arith, c.min-count.ensures)) stands (rule_is_canonical c.args.rule) c.requires.conform c.loop-place.invariant)
+
+pub put_components-loop-place-preserved : goal.put_components-loop-place-preserved
+put_components-loop-place-preserved t c =
+    let rule = rule_of c.args.rule in
+    let fields = c.args.fields.now in
+    let slots = c.args.slots.now in
+    let old = c.args.out.now.items in
+    let mid = c.loop-place.out.items in
+    let i = c.loop-place.place in
+    let next : suc i ≡ i + 1 = omega arith in
+    let there : i < length fields = omega (arith, c.min-count.ensures) in
+    let here : i < length slots = omega (arith, c.min-count.ensures) in
+    let v = c.in-Some.value in
+    let f = c.index-fields-place.result in
+    let at = c.index-fields-place.is in
+    let type = ty_view (get_or fields i f).ty in
+    let slot = c.index-slots-place.result in
+    let stands = stands_at slots i slot (Some v) c.index-slots-place.is c.in-Some.is in
+    let is = present_at fields slots i f v here at stands c.requires.conform c.requires.nodes in
+    let writable = part_writable fields slots i f slot v here at c.index-slots-place.is c.in-Some.is c.requires in
+    let more : (new : List ℕ) → Appends (IsEncoding rule type (value_view v)) mid new → Appends (BeginsComponents rule fields slots (i + 1)) old new = λ new put.
+    let one = subst (λ (g : Field). Appends (IsEncoding rule (ty_view g.ty) (value_view v)) mid new) (sym at) put in
+    subst (λ n. Appends (BeginsComponents rule fields slots n) old new) next (present_joined rule fields slots i f v old mid new there here at stands is c.loop-place.invariant one) in
+    elim c.match-leaf_tag.branch [
+      | put_components-in-Some-leaf_tag+in_ok-put_leaf-in-Some-leaf_tag w ↦
+          let alike = leaf_alike rule (rule_is_canonical c.args.rule) w.in-Some-leaf_tag.tag type (value_view v) w.in-Some-leaf_tag.ensures.value writable.conforms in
+          let put = w.in_ok-put_leaf-in-Some-leaf_tag.ensures.appended in
+          subst (λ (o : Vec ℕ Global). Appends (BeginsComponents rule fields slots (i + 1)) old o.items) (sym w.out-is) (more w.put_leaf.new.out.items (put.0, put.1, alike.to put.0 put.2))
+      | put_components-in-None+in_ok-put_value-in-None w ↦
+          subst (λ (o : Vec ℕ Global). Appends (BeginsComponents rule fields slots (i + 1)) old o.items) (sym w.out-is) (more w.put_value.new.out.items w.in_ok-put_value-in-None.ensures.appended)
+    ]
+
+pub put_components-returns-in_err-put_leaf-in-Some-leaf_tag : goal.put_components-returns-in_err-put_leaf-in-Some-leaf_tag
+put_components-returns-in_err-put_leaf-in-Some-leaf_tag t c =
+    let so_far = c.loop-place.invariant in
+    refused _ c.from_residual.ensures.1 (keeps_chain c.args.out.now.items c.loop-place.out.items c.put_leaf.new.out.items (so_far.0, so_far.1, tt) c.in_err-put_leaf-in-Some-leaf_tag.ensures.kept)
+
+pub put_components-returns-in_err-put_value-in-None : goal.put_components-returns-in_err-put_value-in-None
+put_components-returns-in_err-put_value-in-None t c =
+    let so_far = c.loop-place.invariant in
+    refused _ c.from_residual-in_err-put_value-in-None.ensures.1 (keeps_chain c.args.out.now.items c.loop-place.out.items c.put_value.new.out.items (so_far.0, so_far.1, tt) c.in_err-put_value-in-None.ensures.kept)
+
+pub put_in_order-put_span-requires : goal.put_in_order-put_span-requires
+put_in_order-put_span-requires t c =
+    (search (rules, node.the_lemmas), item_writable (ty_view c.args.ty.now) c.args.items.now c.loop-item.item-index c.item-item.result (omega arith) c.item-item.is c.requires)
+
+pub put_in_order-loop-item-preserved : goal.put_in_order-loop-item-preserved
+put_in_order-loop-item-preserved t c =
+    let items = c.args.items.now in
+    let i = c.loop-item.item-index in
+    let IsItem = IsEncoding (rule_of c.args.rule) (ty_view c.args.ty.now) in
+    let laid = laid_more IsItem items i c.item-item.result c.loop-item.spans.items c.in_ok-span.span c.args.out.now.items c.loop-item.out.items c.put_span.new.out.items (omega arith) c.item-item.is c.loop-item.invariant c.in_ok-span.ensures.put in
+    subst (λ (ss : List Span). AreLaid IsItem (map value_view (take (i + 1) items)) ss c.args.out.now.items c.put_span.new.out.items) (sym c.in_ok-push.ensures.items) laid
+
+pub put_in_order-arrange-requires : goal.put_in_order-arrange-requires
+put_in_order-arrange-requires t c =
+    subst (λ (ss : List Span). IsCutInto c.len-from.result ss c.loop-item.out.items) (sym c.deref.ensures.value)
+    (laid_cut _ _ c.loop-item.spans.items c.args.out.now.items c.loop-item.out.items c.len-from.result (omega (arith, c.len-from.ensures)) c.loop-item.invariant)
+
+pub put_in_order-returns : goal.put_in_order-returns
+put_in_order-returns t c =
+    let items = c.args.items.now in
+    let IsItem = IsEncoding (rule_of c.args.rule) (ty_view c.args.ty.now) in
+    let old = c.args.out.now.items in
+    let mid = c.loop-item.out.items in
+    let new = c.arrange.new.out.items in
+    let spans = c.loop-item.spans.items in
+    let from = c.len-from.result in
+    let at : from ≡ length old = omega (arith, c.len-from.ensures) in
+    let all : take c.loop-item.item-index items ≡ items = take_all c.loop-item.item-index items (omega arith) in
+    let laid : AreLaid IsItem (map value_view items) spans old mid = subst (λ (vs : List Value). AreLaid IsItem (map value_view vs) spans old mid) all c.loop-item.invariant in
+    record {
+      appended = OnOk-map c.arrange.result _ _ (λ made. order_made IsItem (map value_view items) spans old mid new from at laid (subst (λ (ss : List Span). IsArranged from ss mid new) c.deref.ensures.value made)) c.arrange.ensures.arranged;
+      kept = kept c.arrange.result (Keeps (take from mid) new) (Keeps old new) (keeps_taken old _ mid new from at c.loop-item.invariant.is) c.arrange.ensures.kept;
+    }
+
+pub put_in_order-returns-in_err-span : goal.put_in_order-returns-in_err-span
+put_in_order-returns-in_err-span t c =
+    refused _ c.from_residual-in_err-span.ensures.1 (keeps_chain c.args.out.now.items c.loop-item.out.items c.put_span.new.out.items (_, c.loop-item.invariant.is, tt) c.in_err-span.ensures.kept)
+
+pub put_in_order-returns-in_err-push : goal.put_in_order-returns-in_err-push
+put_in_order-returns-in_err-push t c =
+    let put = c.in_ok-span.ensures.put in
+    refused _ c.from_residual-in_err-push.ensures.1 (keeps_more c.args.out.now.items c.loop-item.out.items c.put_span.new.out.items put.octets (_, c.loop-item.invariant.is, tt) put.is)
+
+pub put_by_tag-loop-index-init : goal.put_by_tag-loop-index-init
+put_by_tag-loop-index-init t c =
+    let rule = rule_of c.args.rule in
+    let old = c.args.out.now.items in
+    subst (λ (ts : List Tagged). LaidTo rule c.args.fields.now c.args.slots.now 0 ts old old) (sym (c.in_ok-reserve.ensures.items ∙ c.new-parts.ensures.items)) (none_laid_by_tag rule c.args.fields.now c.args.slots.now old)
+
+pub put_by_tag-put_span-requires : goal.put_by_tag-put_span-requires
+put_by_tag-put_span-requires t c =
+    let place = c.loop-index.index in
+    let bound : place < length c.args.fields.now = omega (arith, c.min-count.ensures) in
+    let at = c.index-fields-index.is in (
+      search (rules, node.the_lemmas, field.the_lemmas, bound, at),
+      part_writable c.args.fields.now c.args.slots.now place c.index-fields-index.result c.index-slots-index.result c.in-Some.value (omega (arith, c.min-count.ensures)) at c.index-slots-index.is c.in-Some.is c.requires.slots,
+    )
+
+pub put_by_tag-order_tag-tag-requires : goal.put_by_tag-order_tag-tag-requires
+put_by_tag-order_tag-tag-requires t c =
+    let here = part_writable c.args.fields.now c.args.slots.now c.loop-index.index c.index-fields-index.result c.index-slots-index.result c.in-Some.value (omega (arith, c.min-count.ensures)) c.index-fields-index.is c.index-slots-index.is c.in-Some.is c.requires.slots in
+    here.nodes
+
+pub put_by_tag-loop-index-preserved-in_default : goal.put_by_tag-loop-index-preserved-in_default
+put_by_tag-loop-index-preserved-in_default t c =
+    let rule = rule_of c.args.rule in
+    let fields = c.args.fields.now in
+    let slots = c.args.slots.now in
+    let old = c.args.out.now.items in
+    let new = c.loop-index.out.items in
+    let i = c.loop-index.index in
+    let next : suc i ≡ i + 1 = omega arith in
+    let slot = c.index-slots-index.result in
+    let stands = stands_at slots i slot None c.index-slots-index.is (no_slot_there slot c.in_default.not-Some) in
+    subst (λ n. LaidTo rule fields slots n c.loop-index.parts.items old new) next
+    (absent_laid rule fields slots i c.loop-index.parts.items old new (omega (arith, c.min-count.ensures)) (omega (arith, c.min-count.ensures)) stands (rule_is_canonical c.args.rule) c.requires.slots.conform (distinct_drop fields i c.requires.distinct) c.loop-index.invariant)
+
+pub put_by_tag-loop-index-preserved : goal.put_by_tag-loop-index-preserved
+put_by_tag-loop-index-preserved t c =
+    let rule = rule_of c.args.rule in
+    let fields = c.args.fields.now in
+    let slots = c.args.slots.now in
+    let old = c.args.out.now.items in
+    let mid = c.loop-index.out.items in
+    let new = c.put_span.new.out.items in
+    let i = c.loop-index.index in
+    let next : suc i ≡ i + 1 = omega arith in
+    let there : i < length fields = omega (arith, c.min-count.ensures) in
+    let here : i < length slots = omega (arith, c.min-count.ensures) in
+    let v = c.in-Some.value in
+    let f = c.index-fields-index.result in
+    let at = c.index-fields-index.is in
+    let stands = stands_at slots i c.index-slots-index.result (Some v) c.index-slots-index.is c.in-Some.is in
+    let is = present_at fields slots i f v here at stands c.requires.slots.conform c.requires.slots.nodes in
+    let span = c.in_ok-span.span in
+    let put : IsPut (IsEncoding rule (ty_view f.ty) (value_view v)) mid new span = subst (λ (g : Field). IsPut (IsEncoding rule (ty_view g.ty) (value_view v)) mid new span) (sym at) c.in_ok-span.ensures.put in
+    let stood : c.part.result.now ≡ put.octets = c.part.ensures ∙ ap (λ (b : List ℕ). part_of b span) c.deref.ensures.value ∙ part_put (IsEncoding rule (ty_view f.ty) (value_view v)) mid new span put in
+    let encodes = subst (λ (g : Field). IsEncoding rule (ty_view g.ty) (value_view v) c.part.result.now) at (subst (IsEncoding rule (ty_view f.ty) (value_view v)) (sym stood) put.holds) in
+    let tag = c.order_tag-tag.result in
+    let ordered = subst (λ (g : Field). IsOrderTag rule (ty_view g.ty) c.part.result.now tag) (sym at) (c.order_tag-tag.ensures (value_view v) encodes) in
+    let order : IsOrderTag rule (ty_view f.ty) put.octets tag = subst (λ (b : List ℕ). IsOrderTag rule (ty_view f.ty) b tag) stood ordered in
+    let t : Tagged = record { tag = tag; span = span } in
+    let laid = present_laid rule fields slots i f v c.loop-index.parts.items t old mid new there here at stands (rule_is_canonical c.args.rule) is (distinct_drop fields i c.requires.distinct) c.loop-index.invariant put order in
+    subst₂ (λ n (ts : List Tagged). LaidTo rule fields slots n ts old new) next (sym c.in_ok-push.ensures.items) laid
+
+pub put_by_tag-arrange_by_tag-requires : goal.put_by_tag-arrange_by_tag-requires
+put_by_tag-arrange_by_tag-requires t c =
+    tagged_cut (rule_of c.args.rule) c.args.fields.now c.args.slots.now c.loop-index.parts.items c.args.out.now.items c.loop-index.out.items c.loop-index.index c.len-from.result (omega (arith, c.len-from.ensures)) c.loop-index.invariant
+
+pub put_by_tag-returns : goal.put_by_tag-returns
+put_by_tag-returns t c =
+    let rule = rule_of c.args.rule in
+    let fields = c.args.fields.now in
+    let slots = c.args.slots.now in
+    let old = c.args.out.now.items in
+    let mid = c.loop-index.out.items in
+    let new = c.arrange_by_tag.new.out.items in
+    let parts = c.loop-index.parts.items in
+    let from = c.len-from.result in
+    let at : from ≡ length old = omega (arith, c.len-from.ensures) in
+    let many = as_many_slots fields slots c.requires.slots.conform in
+    let all = all_laid rule fields slots c.loop-index.index parts old mid (omega (arith, c.min-count.ensures, many)) many c.loop-index.invariant in
+    record {
+      appended = OnOk-map c.arrange_by_tag.result _ _ (λ made. by_tag_made rule fields slots parts old mid c.loop-index.index from at c.loop-index.invariant new all made) c.arrange_by_tag.ensures.arranged;
+      kept = kept c.arrange_by_tag.result (Keeps (take from mid) new) (Keeps old new) (keeps_taken old _ mid new from at c.loop-index.invariant.is) c.arrange_by_tag.ensures.kept;
+    }
+
+pub put_by_tag-returns-in_err-span : goal.put_by_tag-returns-in_err-span
+put_by_tag-returns-in_err-span t c =
+    refused _ c.from_residual-in_err-span.ensures.1 (keeps_chain c.args.out.now.items c.loop-index.out.items c.put_span.new.out.items (_, c.loop-index.invariant.is, tt) c.in_err-span.ensures.kept)
+
+pub put_by_tag-returns-in_err-push : goal.put_by_tag-returns-in_err-push
+put_by_tag-returns-in_err-push t c =
+    let put = c.in_ok-span.ensures.put in
+    refused _ c.from_residual-in_err-push.ensures.1 (keeps_more c.args.out.now.items c.loop-index.out.items c.put_span.new.out.items put.octets (_, c.loop-index.invariant.is, tt) put.is)
+
+pub put_span-returns-clause-put : goal.put_span-returns-clause-put
+put_span-returns-clause-put t c =
+    let put = c.in_ok-put_value.ensures.appended in
+    record { octets = put.0; is = put.1; holds = put.2; start = search rules; end = search rules }
