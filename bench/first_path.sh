@@ -11,16 +11,9 @@ shopt -s inherit_errexit
 readonly contents=1048571
 readonly runs=5
 
-top=$(cd "$(dirname "${BASH_SOURCE[0]}")/.." && pwd)
-readonly top
-readonly program=${1-$top/crates/asn1x/out/asn1x}
-
-command -v xxd >/dev/null || { echo 'first_path: xxd is missing' >&2; exit 1; }
-[[ -x $program ]] || { echo "first_path: $program is missing: run 'rt run' in crates/asn1x" >&2; exit 1; }
-
-work=$(mktemp -d)
-readonly work
-trap 'rm -rf "$work"' EXIT
+# shellcheck source=bench/built.sh
+. "$(dirname "${BASH_SOURCE[0]}")/built.sh"
+command -v xxd >/dev/null || fail 'xxd is missing'
 
 # 04 83 0F FF FB and 1,048,571 octets 00: 1,048,576 octets, the most that one encoding may have.
 {

@@ -18,22 +18,10 @@ shopt -s inherit_errexit
 
 readonly runs=3
 
-top=$(cd "$(dirname "${BASH_SOURCE[0]}")/.." && pwd)
-readonly top
-program=$(realpath "${1-$top/crates/asn1x/out/asn1x}")
-readonly program
-
-fail() {
-    echo "peers: $1" >&2
-    exit 2
-}
-
-[[ -x $program ]] || fail "$program is missing: run 'rt run' in crates/asn1x"
+# shellcheck source=bench/built.sh
+. "$(dirname "${BASH_SOURCE[0]}")/built.sh"
 command -v cc >/dev/null || fail 'cc is missing'
 
-work=$(mktemp -d)
-readonly work
-trap 'rm -rf "$work"' EXIT
 cd "$work"
 cc -O2 -Wall -o floor "$top/bench/floor.c"
 

@@ -16,22 +16,9 @@
 set -euo pipefail
 shopt -s inherit_errexit
 
-top=$(cd "$(dirname "${BASH_SOURCE[0]}")/.." && pwd)
-readonly top
-program=$(realpath "${1-$top/crates/asn1x/out/asn1x}")
-readonly program
-
-fail() {
-    echo "refused_growths: $1" >&2
-    exit 1
-}
-
-[[ -x $program ]] || fail "$program is missing: run 'rt run' in crates/asn1x"
+# shellcheck source=bench/built.sh
+. "$(dirname "${BASH_SOURCE[0]}")/built.sh"
 command -v cc >/dev/null || fail 'cc is missing'
-
-work=$(mktemp -d)
-readonly work
-trap 'rm -rf "$work"' EXIT
 cc -O2 -Wall -shared -fPIC -o "$work/refuse.so" "$top/bench/refuse.c"
 cd "$work"
 

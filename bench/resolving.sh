@@ -10,33 +10,9 @@
 set -euo pipefail
 shopt -s inherit_errexit
 
-command -v rt >/dev/null || { echo 'resolving: rt is missing: install the kit' >&2; exit 1; }
-
-top=$(cd "$(dirname "${BASH_SOURCE[0]}")/.." && pwd)
-readonly top
-work=$(mktemp -d)
-readonly work
-trap 'rm -rf "$work"' EXIT
-
-mkdir -p "$work/crates/resolving/src"
-for crate in octets primitives strings names types lexis syntax builtin_types notation; do
-    cp -r "$top/crates/$crate" "$work/crates"
-done
-cp "$top/bench/resolving/main.txt" "$work/crates/resolving/src/main.rt"
-cat >"$work/crates.txt" <<'END'
-octets:
-primitives: octets
-strings: simdutf8
-lexis:
-names:
-types: octets primitives strings names
-syntax: lexis names
-builtin_types: lexis syntax octets primitives strings types indexmap
-notation: lexis syntax octets primitives strings types builtin_types indexmap
-resolving: notation types
-END
-cd "$work/crates/resolving"
-rt run
+# shellcheck source=bench/over_libraries.sh
+. "$(dirname "${BASH_SOURCE[0]}")/over_libraries.sh"
+run_over resolving 'notation types'
 cc -O2 -o "$work/floor" "$top/bench/floor.c"
 read -r _ resident < <("$work/floor" measure 1 "$work/crates/resolving/out/resolving")
 readonly resident

@@ -16,25 +16,14 @@
 set -euo pipefail
 shopt -s inherit_errexit
 
-top=$(cd "$(dirname "${BASH_SOURCE[0]}")/.." && pwd)
-readonly top
-program=$(realpath "${1-$top/crates/asn1x/out/asn1x}")
+# shellcheck source=bench/built.sh
+. "$(dirname "${BASH_SOURCE[0]}")/built.sh"
 module=$top/examples/certificates.asn
 export program module
-
-fail() {
-    echo "scale: $1" >&2
-    exit 2
-}
-
-[[ -x $program ]] || fail "$program is missing: run 'rt run' in crates/asn1x"
 for tool in parallel basenc; do
     command -v $tool >/dev/null || fail "$tool is missing"
 done
 
-work=$(mktemp -d)
-readonly work
-trap 'rm -rf "$work"' EXIT
 cd "$work"
 export PARALLEL_HOME=$work
 tr -d ' \n' <"$top/examples/certificates.hex" | tr a-f A-F | basenc --base16 -d >four

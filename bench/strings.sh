@@ -22,20 +22,8 @@ readonly most=1048576
 readonly rounds=5
 readonly runs=20
 
-top=$(cd "$(dirname "${BASH_SOURCE[0]}")/.." && pwd)
-readonly top
-readonly program=${1-$top/crates/asn1x/out/asn1x}
-
-fail() {
-    echo "strings: $1" >&2
-    exit 1
-}
-
-[[ -x $program ]] || fail "$program is missing: run 'rt run' in crates/asn1x"
-
-work=$(mktemp -d)
-readonly work
-trap 'rm -rf "$work"' EXIT
+# shellcheck source=bench/built.sh
+. "$(dirname "${BASH_SOURCE[0]}")/built.sh"
 
 # Some digits, $1 times over.
 repeated() {

@@ -9,14 +9,9 @@
 set -euo pipefail
 shopt -s inherit_errexit
 
-top=$(cd "$(dirname "${BASH_SOURCE[0]}")/.." && pwd)
-readonly top
-program=${1-$top/crates/asn1x_trim/out/asn1x_trim}
-readonly program
-[ -x "$program" ] || { echo "trimming: $program is missing: run 'rt run' in crates/asn1x_trim" >&2; exit 1; }
-work=$(mktemp -d)
-readonly work
-trap 'rm -rf "$work"' EXIT
+crate=asn1x_trim
+# shellcheck source=bench/built.sh
+. "$(dirname "${BASH_SOURCE[0]}")/built.sh"
 cc -O2 -o "$work/floor" "$top/bench/floor.c"
 status=0
 

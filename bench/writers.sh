@@ -9,27 +9,6 @@
 set -euo pipefail
 shopt -s inherit_errexit
 
-command -v rt >/dev/null || { echo 'writers: rt is missing: install the kit' >&2; exit 1; }
-
-top=$(cd "$(dirname "${BASH_SOURCE[0]}")/.." && pwd)
-readonly top
-work=$(mktemp -d)
-readonly work
-trap 'rm -rf "$work"' EXIT
-
-mkdir -p "$work/crates/writers/src"
-for crate in octets primitives strings names types canon; do
-    cp -r "$top/crates/$crate" "$work/crates"
-done
-cp "$top/bench/writers/main.txt" "$work/crates/writers/src/main.rt"
-cat >"$work/crates.txt" <<'END'
-octets:
-primitives: octets
-strings: simdutf8
-names:
-types: octets primitives strings names
-canon: octets primitives strings types
-writers: octets primitives strings types canon
-END
-cd "$work/crates/writers"
-rt run
+# shellcheck source=bench/over_libraries.sh
+. "$(dirname "${BASH_SOURCE[0]}")/over_libraries.sh"
+run_over writers 'octets primitives strings types canon'
