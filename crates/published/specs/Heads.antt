@@ -3,7 +3,7 @@ use Rattle.published_tokens.specs.declared.token.Token.{Token}
 use Rattle.published_tokens.specs.declared.token.Kind.{Kind}
 use Rattle.published_tokens.specs.declared.token.Kind.TheVariants.{Reserved, Symbol, Upper}
 use Rattle.published_tokens.specs.declared.symbol.Symbol.TheVariants as symbol
-use Rattle.published.specs.declared.tree.Tagging.TheVariants.{Explicit, Implicit, Automatic}
+use Rattle.syntax.specs.declared.tree.Tagging.TheVariants.{Explicit, Implicit, Automatic}
 use Rattle.published.specs.declared.heads.Head.{Head}
 use Rattle.published.specs.declared.heads.Stage.{Stage}
 use Rattle.published.specs.declared.heads.Stage.TheVariants as stage

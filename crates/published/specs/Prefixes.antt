@@ -3,8 +3,8 @@ use Rattle.published_tokens.specs.declared.token.Kind.{Kind}
 use Rattle.published_tokens.specs.declared.token.Kind.TheVariants.{Reserved}
 use Rattle.published.specs.declared.tree.TagClass.{TagClass}
 use Rattle.published.specs.declared.tree.TagClass.TheVariants.{Universal, Application, ContextSpecific, Private}
-use Rattle.published.specs.declared.tree.TagMode.{TagMode}
-use Rattle.published.specs.declared.tree.TagMode.TheVariants.{Unmarked, Implicit, Explicit}
+use Rattle.syntax.specs.declared.tree.TagMode.{TagMode}
+use Rattle.syntax.specs.declared.tree.TagMode.TheVariants.{Unmarked, Implicit, Explicit}
 
 -- the class that the token behind [ gives a tag
 abbrev pub class_of : Kind → TagClass

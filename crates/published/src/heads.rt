@@ -3,9 +3,9 @@
 ghost use Rattle.std.specs.Prelude.{◌≡◌, true, false};
 ghost use Rattle.published.specs.Heads.{stage_anew, stage_behind};
 
-use crate::tree::Tagging;
 use lexis::Word as Reserved;
 use published_tokens::{Kind, MAX_FILE, Scanner, Symbol, Token};
+use syntax::Tagging;
 
 /// The head of a module.
 #[derive(Clone, Copy, Debug, PartialEq, Eq)]

@@ -33,12 +33,12 @@ pub use fault::{Fault, Reason};
 pub use modules::{Published, read};
 pub use published_tokens::{MAX_FILE, Place};
 pub use simple::Simple;
+pub use syntax::{Group, SignedNumber, TagMode, Tagging};
 pub use tree::{
-    Alternative, Alternatives, Assignment, Body, Component, Components, Field, Form, Group, Import,
-    Item, Items, LeftOut, Module, NamedNumber, Presence, Reference, Tag, TagClass, TagMode,
-    Tagging, Type, Word,
+    Alternative, Alternatives, Assignment, Body, Component, Components, Field, Form, Import, Item,
+    Items, LeftOut, Module, NamedNumber, Presence, Reference, Tag, TagClass, Type, Word,
 };
-pub use value::{Arc, Number, SignedNumber, Value, ValueForm};
+pub use value::{Arc, Number, Value, ValueForm};
 
 /// The most levels of types that nest, and of brackets in what is skipped.
 pub const MAX_LEVELS: u32 = 64;

@@ -6,8 +6,9 @@ use crate::reader::Reader;
 use crate::references::value_name_at;
 use crate::stop::Stop;
 use crate::tree::NamedNumber;
-use crate::value::{Number, SignedNumber};
+use crate::value::Number;
 use published_tokens::{Kind, Symbol};
+use syntax::SignedNumber;
 
 /// A number, with `-` before it or without, or the name of a value.
 pub(crate) fn number_at(reader: &mut Reader) -> Result<Number, Stop> {

@@ -7,9 +7,10 @@ use crate::numbers::number_at;
 use crate::reader::Reader;
 use crate::skipping::skip_brackets;
 use crate::stop::Stop;
-use crate::tree::{Tag, TagClass, TagMode};
+use crate::tree::{Tag, TagClass};
 use lexis::Word as Reserved;
 use published_tokens::{Kind, MAX_FILE, Place, Symbol};
+use syntax::TagMode;
 
 /// The tag that stands in front, and the keyword behind it.
 pub(crate) fn tag_at(reader: &mut Reader) -> Result<Tag, Stop> {

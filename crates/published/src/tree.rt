@@ -4,6 +4,7 @@ use crate::simple::Simple;
 use crate::value::{Number, Value};
 use names::Name;
 use published_tokens::Place;
+use syntax::{Group, TagMode, Tagging};
 
 /// A name where it is written.
 #[derive(Debug, Drop)]
@@ -27,17 +28,6 @@ pub struct Module {
     pub imports: Vec<Import>,
     /// Its assignments, in order of text. Parts that are refused leave none.
     pub assignments: Vec<Assignment>,
-}
-
-/// The tag default of a module.
-#[derive(Clone, Copy, Debug, PartialEq, Eq)]
-pub enum Tagging {
-    /// `EXPLICIT TAGS`, or no tag default.
-    Explicit,
-    /// `IMPLICIT TAGS`.
-    Implicit,
-    /// `AUTOMATIC TAGS`.
-    Automatic,
 }
 
 /// Names imported from one module.
@@ -175,26 +165,6 @@ pub enum TagClass {
     ContextSpecific,
     /// `PRIVATE`.
     Private,
-}
-
-/// The keyword behind a tag.
-#[derive(Clone, Copy, Debug, PartialEq, Eq)]
-pub enum TagMode {
-    /// No keyword.
-    Unmarked,
-    /// `IMPLICIT`.
-    Implicit,
-    /// `EXPLICIT`.
-    Explicit,
-}
-
-/// The word that a list or an OF type begins with.
-#[derive(Clone, Copy, Debug, PartialEq, Eq)]
-pub enum Group {
-    /// `SEQUENCE`.
-    Sequence,
-    /// `SET`.
-    Set,
 }
 
 /// The components of a SEQUENCE or SET.

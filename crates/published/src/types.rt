@@ -6,12 +6,13 @@ use crate::prefixes::{skip_constraints, skip_size, tag_at};
 use crate::reader::Reader;
 use crate::references::{named_type_at, part_name_at};
 use crate::stop::Stop;
-use crate::tree::{Alternative, Alternatives, Component, Components, Form, Group, Presence, Type};
+use crate::tree::{Alternative, Alternatives, Component, Components, Form, Presence, Type};
 use crate::values::value_at;
 use crate::words::word_type_at;
 use crate::{MAX_LEVELS, MAX_PARTS};
 use lexis::Word as Reserved;
 use published_tokens::{Kind, Place, Symbol};
+use syntax::Group;
 
 /// The type that stands in front.
 pub(crate) fn whole_type_at(reader: &mut Reader) -> Result<Type, Stop> {

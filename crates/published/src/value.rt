@@ -3,6 +3,7 @@
 use crate::tree::{Reference, Word};
 use names::Name;
 use published_tokens::Place;
+use syntax::SignedNumber;
 
 /// A value.
 #[derive(Debug, Drop)]
@@ -38,15 +39,6 @@ pub enum ValueForm {
     Oid(Vec<Arc>),
     /// What is recognised as none of these, and skipped.
     LeftOut,
-}
-
-/// A number, and whether `-` stands before it.
-#[derive(Clone, Copy, Debug, PartialEq, Eq)]
-pub struct SignedNumber {
-    /// Whether `-` stands before it.
-    pub negative: bool,
-    /// The number without `-`.
-    pub magnitude: u128,
 }
 
 /// A number where one is asked for: in a tag, behind an item, a named number or a named bit.

@@ -5,9 +5,10 @@ use crate::reader::Reader;
 use crate::references::value_name_at;
 use crate::skipping::skip_brackets;
 use crate::stop::Stop;
-use crate::value::{SignedNumber, Value, ValueForm};
+use crate::value::{Value, ValueForm};
 use lexis::Word as Reserved;
 use published_tokens::{Kind, MAX_FILE, Symbol};
+use syntax::SignedNumber;
 
 /// The value that stands in front.
 pub(crate) fn value_at(reader: &mut Reader) -> Result<Value, Stop> {

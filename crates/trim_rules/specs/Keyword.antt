@@ -1,9 +1,9 @@
 -- What a tag does, and the numbers of automatic tags (X.680 31.2.7, and "automatic tagging").
 use Rattle.std.specs.Prelude.{ℕ, ◌+◌, Bool, true, false, Option, Some, None}
-use Rattle.published.specs.declared.tree.TagMode.{TagMode}
-use Rattle.published.specs.declared.tree.TagMode.TheVariants.{Unmarked, Implicit as WrittenImplicit, Explicit as WrittenExplicit}
-use Rattle.published.specs.declared.tree.Tagging.{Tagging}
-use Rattle.published.specs.declared.tree.Tagging.TheVariants.{Explicit as ExplicitTags, Implicit as ImplicitTags, Automatic as AutomaticTags}
+use Rattle.syntax.specs.declared.tree.TagMode.{TagMode}
+use Rattle.syntax.specs.declared.tree.TagMode.TheVariants.{Unmarked, Implicit as WrittenImplicit, Explicit as WrittenExplicit}
+use Rattle.syntax.specs.declared.tree.Tagging.{Tagging}
+use Rattle.syntax.specs.declared.tree.Tagging.TheVariants.{Explicit as ExplicitTags, Implicit as ImplicitTags, Automatic as AutomaticTags}
 use Rattle.trim_rules.specs.declared.keyword.Keyword.{Keyword}
 use Rattle.trim_rules.specs.declared.keyword.Keyword.TheVariants.{Implicit, Explicit}
 use Rattle.trim_rules.specs.declared.keyword.Section.{Section}

@@ -3,7 +3,7 @@
 ghost use Rattle.std.specs.Prelude.{◌≡◌, ◌↔◌, ◌+◌, ◌<◌, ◌^◌, IsTrue, false};
 ghost use Rattle.trim_rules.specs.Keyword.{keyword_of, by_default, first_number};
 
-use published::{TagMode, Tagging};
+use syntax::{TagMode, Tagging};
 
 /// What a tag does.
 #[derive(Clone, Copy, Debug, PartialEq, Eq)]
