@@ -1,11 +1,11 @@
 //! Values of contents octets, put where they belong: a value is large to hand on.
 
-ghost use Rattle.std.specs.Prelude.{◌≡◌, IsTrue};
+ghost use Rattle.std.specs.Prelude.{◌≡◌, IsTrue, MatchOption};
 ghost use Rattle.octets.specs.Rule.{ber};
 ghost use Rattle.types.specs.Leaf.{IsLeaf};
 ghost use Rattle.types.specs.Shape.{Shape, SimpleType, StringType};
-ghost use Rattle.types.specs.View.{ty_view};
-ghost use Rattle.encoding_parts.specs.Contents.{IsEnumerated, IsFilled};
+ghost use Rattle.types.specs.View.{ty_view, value_view};
+ghost use Rattle.encoding_parts.specs.Contents.{IsEnumerated, IsFilled, text_view};
 
 use crate::contents::read_contents;
 use crate::slots::take_bits;
@@ -14,7 +14,7 @@ use primitives::{
     is_wide_integer, read_bits_in, read_boolean, read_integer, read_oid, read_oid_into,
 };
 use std::alloc::Global;
-use strings::{TextKind, TimeKind, allowed, is_time};
+use strings::{allowed, is_time};
 use types::{Ty, Value, conforms};
 
 /// Puts the value of a type without parts that the contents octets of a primitive encoding are into the slot, and says
@@ -41,20 +41,12 @@ pub fn fill(alloc: Global, ty: &Ty, contents: &[u8], slot: &mut Option<Value>) -
             None => fill_wide_integer(alloc, *tag, contents, slot),
         },
         Ty::Octets(tag) => fill_octets(alloc, *tag, contents, slot),
-        Ty::Text(tag, kind) => fill_text(alloc, *tag, *kind, contents, slot),
-        Ty::Time(tag, kind) => fill_time(alloc, *tag, *kind, contents, slot),
+        Ty::Text(_, kind) => allowed(*kind, contents) && fill_text(alloc, contents, slot),
+        Ty::Time(_, kind) => is_time(*kind, contents) && fill_text(alloc, contents, slot),
         Ty::Oid(tag) => fill_oid(alloc, *tag, contents, slot),
         Ty::Bits(tag) => fill_bits(alloc, *tag, contents, slot),
         Ty::Enumerated(_, _) => fill_item(ty, contents, slot),
-        Ty::Null(_)
-        | Ty::RelativeOid(_)
-        | Ty::NamedBits(_, _)
-        | Ty::Sequence(_, _)
-        | Ty::Set(_, _)
-        | Ty::SequenceOf(_, _)
-        | Ty::SetOf(_, _)
-        | Ty::Choice(_)
-        | Ty::Explicit(_, _) => fill_any(alloc, ty, contents, slot),
+        _ => fill_any(alloc, ty, contents, slot),
     }
 }
 
@@ -95,46 +87,11 @@ fn fill_octets(alloc: Global, tag: Tag, contents: &[u8], slot: &mut Option<Value
     }
 }
 
-// Fills the slot with a character string.
+// Fills the slot with the text of a character string or a time.
 #[inline(never)]
-fn fill_text(
-    alloc: Global,
-    tag: Tag,
-    kind: TextKind,
-    contents: &[u8],
-    slot: &mut Option<Value>,
-) -> bool
-    ensures { IsTrue result → IsFilled ber (Shape.string tag (StringType.text kind)) contents.now slot.new }
+fn fill_text(alloc: Global, contents: &[u8], slot: &mut Option<Value>) -> bool
+    ensures { IsTrue result → MatchOption slot.new ⊥ (λ value. value_view value ≡ text_view contents.now) }
 {
-    if !allowed(kind, contents) {
-        return false;
-    }
-    if let Some(Value::Text(octets)) = slot {
-        return refill(octets, contents);
-    }
-    match Vec::from_slice(alloc, contents) {
-        Ok(octets) => {
-            *slot = Some(Value::Text(octets));
-            true
-        }
-        Err(_) => false,
-    }
-}
-
-// Fills the slot with a time.
-#[inline(never)]
-fn fill_time(
-    alloc: Global,
-    tag: Tag,
-    kind: TimeKind,
-    contents: &[u8],
-    slot: &mut Option<Value>,
-) -> bool
-    ensures { IsTrue result → IsFilled ber (Shape.string tag (StringType.time kind)) contents.now slot.new }
-{
-    if !is_time(kind, contents) {
-        return false;
-    }
     if let Some(Value::Text(octets)) = slot {
         return refill(octets, contents);
     }

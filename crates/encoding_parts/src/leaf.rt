@@ -5,12 +5,10 @@
 //! it, which is a fault of its length, is said by the reader of those (`refusal_inside`). Such a fault comes before that of a
 //! length that the type cannot have, so the reader of a primitive encoding is told whether one is around it.
 
-ghost use Rattle.std.specs.Prelude.{◌≡◌, ◌+◌, ◌≤◌, ◌++◌, ℕ, List, length, take, slice_range, true, false, IfOk, IfErr, IsErr, IsOk};
+ghost use Rattle.std.specs.Prelude.{◌≡◌, ◌+◌, ◌≤◌, ◌++◌, ℕ, List, length, take, true, false, IfOk, IfErr, IfSome, IsErr, IsOk};
 ghost use Rattle.octets.specs.declared.TheConstants.{MAX_ENCODING};
 ghost use Rattle.octets.specs.Front.{HasFront};
 ghost use Rattle.octets.specs.Length.{IsLength};
-ghost use Rattle.octets.specs.Rule.{ber};
-ghost use Rattle.types.specs.Form.{IsPrimitive};
 ghost use Rattle.types.specs.Leaf.{tag_of, IsLeaf};
 ghost use Rattle.types.specs.Refusal.{IsFinal, IsOfReading};
 ghost use Rattle.types.specs.View.{ty_view, value_view};
@@ -27,9 +25,18 @@ use crate::joined::{Kind, kind_of};
 use crate::lengths::can_have_length;
 use crate::parts::{read_contents_place, read_opening};
 use crate::segments::Segments;
-use octets::{Length, read_length};
+use octets::{Length, Tag, read_length};
 use std::alloc::Global;
 use types::{Refusal, Ty, Value};
+
+/// The tag of a type without parts; None of any other. Takes no memory.
+#[inline(always)]
+pub fn leaf_tag(ty: &Ty) -> Option<Tag>
+    ensures leaf { IfSome result (λ tag. IsLeaf (ty_view ty.now)) }
+    ensures tag { IfSome result (λ tag. tag_of (ty_view ty.now) ≡ tag) }
+{
+    if ty.has_no_parts() { ty.tag() } else { None }
+}
 
 /// Reads the primitive encoding at the front of `octets`, of a type without parts, by its identifier octets, of
 /// which there are `identifier`: its value, and how many octets it has. Before it stand `taken` octets, and it
@@ -64,54 +71,22 @@ pub fn read_leaf(
         ¬ HasFront (IsPartWithin levels (ty_view node.now) end taken) (octets.now ++ more)) }
     ensures numbers { IfErr result IsOfReading }
 {
-    let (start, stop) = read_place(node, identifier, end, taken, inside_definite, octets)?;
-    let value = read_contents(alloc, node, &octets[start..stop])?;
-    Ok((value, stop))
-}
-
-// Where the contents octets of the primitive encoding at the front begin and end, by its identifier octets: as many
-// as the type can have. A length that no value has is refused before one that is cut, and before one that does not
-// fit, but where that passes the end of a definite encoding around it.
-fn read_place(
-    node: &Ty,
-    identifier: usize,
-    end: usize,
-    taken: usize,
-    inside_definite: bool,
-    octets: &[u8],
-) -> Result<(usize, usize), Refusal>
-    requires leaf { IsLeaf (ty_view node.now) }
-    requires within { end ≤ MAX_ENCODING }
-    requires tagged { IsReadTag (tag_of (ty_view node.now)) end taken octets.now false identifier }
-    ensures bounds { IfOk result (λ p.
-        (p.0 ≤ p.1) × (p.1 ≤ length octets.now) × (taken + p.1 ≤ end)) }
-    ensures value { IfOk result (λ p.
-        IsPrimitive ber (tag_of (ty_view node.now)) (slice_range octets.now p.0 p.1) (take p.1 octets.now)) }
-    ensures truncated { result ≡ Err Refusal.Truncated → (levels : ℕ) →
-        ¬ HasFront (IsPartWithin levels (ty_view node.now) end taken) octets.now }
-    ensures cut { result ≡ Err Refusal.Truncated → (levels : ℕ) →
-        IsPartCut (tag_of (ty_view node.now)) (ty_view node.now) levels end taken octets.now }
-    ensures never { IfErr result (λ refusal. IsFinal refusal → (more : List ℕ) (levels : ℕ) →
-        ¬ HasFront (IsPartWithin levels (ty_view node.now) end taken) (octets.now ++ more)) }
-    ensures numbers { IfErr result IsOfReading }
-{
-    match read_contents_place(end, taken, identifier, octets) {
-        Ok((start, stop)) => {
-            if can_have_length(node, stop - start) {
-                Ok((start, stop))
-            } else {
-                Err(contents_refusal(node))
-            }
-        }
+    let (start, stop) = match read_contents_place(end, taken, identifier, octets) {
+        Ok(place) => place,
         Err(refusal) => {
             if inside_definite && refusal == Refusal::TooLong {
                 return Err(refusal);
             }
             let room = end - taken - identifier;
             check_length(node, front(&octets[identifier..], room))?;
-            Err(refusal)
+            return Err(refusal);
         }
+    };
+    if !can_have_length(node, stop - start) {
+        return Err(contents_refusal(node));
     }
+    let value = read_contents(alloc, node, &octets[start..stop])?;
+    Ok((value, stop))
 }
 
 // Refuses length octets at the front that go with no contents octets of the type.

@@ -117,7 +117,7 @@ impl Segments {
         }
     }
 
-    // Takes a segment, or the beginning of a constructed one.
+    // Takes a primitive segment, or the beginning of a constructed one.
     fn segment(&mut self, kind: Kind, frame: Frame, octets: &[u8]) -> Result<usize, Refusal>
         requires top { IsTop frame self.old.frames.items }
         requires sound { IsSound kind self.old }
@@ -132,10 +132,12 @@ impl Segments {
             return Err(Refusal::Contents);
         }
         if constructed {
-            self.constructed(kind, frame, identifier, octets)
-        } else {
-            self.primitive(kind, frame, identifier, octets)
+            return self.constructed(kind, frame, identifier, octets);
         }
+        let (start, end) = read_contents_place(frame.end, self.taken, identifier, octets)?;
+        self.joined.join(kind, &octets[start..end])?;
+        self.taken += end;
+        Ok(end)
     }
 
     // Takes the length octets of a constructed segment, and opens it.
@@ -163,25 +165,6 @@ impl Segments {
             }
             Err(_) => Err(Refusal::NoMemory),
         }
-    }
-
-    // Takes the rest of a primitive segment.
-    fn primitive(
-        &mut self,
-        kind: Kind,
-        frame: Frame,
-        identifier: usize,
-        octets: &[u8],
-    ) -> Result<usize, Refusal>
-        requires due { IsSegmentDue kind self.old frame octets.now false identifier }
-        ensures passed { IfOk result (Passes kind self.old self.new octets.now) }
-        ensures refused { IfErr result (Refuses (CanComplete kind self.old) (IsCutInside kind self.old frame) octets.now) }
-        ensures unchanged { result ≡ Err Refusal.Truncated → self.new ≡ self.old }
-    {
-        let (start, end) = read_contents_place(frame.end, self.taken, identifier, octets)?;
-        self.joined.join(kind, &octets[start..end])?;
-        self.taken += end;
-        Ok(end)
     }
 }
 

@@ -71,9 +71,16 @@ pub fn set_component_due<'a>(
         IsVacant (map set_component_view set_components.now) which type → ¬ Contains (first_tags type) tag) }
     ensures numbers { IfErr result IsOfDue }
 {
-    match due_at(set_components, behind.saturating_sub(2), tag) {
+    if let Some(found) = due_at(set_components, behind.saturating_sub(2), tag) {
+        return Ok(found);
+    }
+    let start = behind.min(set_components.len());
+    if let Some((place, ty)) = vacant(&set_components[start..], tag) {
+        return Ok((start + place, ty));
+    }
+    match vacant(&set_components[..start], tag) {
         Some(found) => Ok(found),
-        None => set_component_from(set_components, behind, tag),
+        None => Err(no_set_component(set_components, tag)),
     }
 }
 
@@ -94,28 +101,6 @@ fn due_at<'a>(
         return Some((place, &set_component.field.ty));
     }
     None
-}
-
-// Which component begins with the tag, looked for from some place on and then before it.
-fn set_component_from<'a>(
-    set_components: &[SetComponent<'a>],
-    behind: usize,
-    tag: Tag,
-) -> Result<(usize, &'a Ty), Refusal>
-    ensures value { IfOk result (λ p. IsVacant (map set_component_view set_components.now) p.0 (ty_view p.1.now)
-        × Contains (first_tags (ty_view p.1.now)) tag) }
-    ensures never { IfErr result (λ refusal. (which : ℕ) (type : Shape) →
-        IsVacant (map set_component_view set_components.now) which type → ¬ Contains (first_tags type) tag) }
-    ensures numbers { IfErr result IsOfDue }
-{
-    let start = behind.min(set_components.len());
-    if let Some((place, ty)) = vacant(&set_components[start..], tag) {
-        return Ok((start + place, ty));
-    }
-    match vacant(&set_components[..start], tag) {
-        Some(found) => Ok(found),
-        None => Err(no_set_component(set_components, tag)),
-    }
 }
 
 // The first component that begins with the tag and has not come.
