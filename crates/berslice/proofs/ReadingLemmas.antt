@@ -11,7 +11,7 @@ use Rattle.types.specs.declared.ty.Field.{Field}
 use Rattle.types.specs.declared.ty.Alternative.{Alternative}
 use Rattle.types.specs.Shape.{Val, Shape}
 use Rattle.types.specs.View.{ComponentView, ty_view, value_view, field_view, requirement_view, components_view, alternatives_view, components_of, slots_of}
-use Rattle.types.specs.FirstTags.{IsUsable}
+use Rattle.types.specs.FirstTags.{IsUsable, first_tags}
 use Rattle.types.specs.Form.{IsConstructed}
 use Rattle.types.specs.Encoding.{IsEncoding, standing}
 use Rattle.types.proofs.NestingLemmas.{nested_above}
@@ -22,13 +22,17 @@ use Rattle.encoding_parts.specs.Parts.{Parts, SetComponent, IsVacant, IsDue, IsV
 use Rattle.encoding_parts.proofs.ChoiceLemmas.{alternative_encodes, alternative_nodes}
 use Rattle.encoding_parts.proofs.PartsOpenLemmas.{none_holds, components_good, parts_good}
 use Rattle.encoding_parts.proofs.PartsPutLemmas.{standing_append, concat_more, items_more, slot_come, come_append, put_holds, put_parts_of}
-use Rattle.encoding_parts.proofs.PartsValueLemmas.{explicit_encodes, sequence_encodes, sequence_of_encodes, set_of_encodes, value_encodes}
-use Rattle.berslice.specs.Reading.{IsRead, IsComponentRead, AreComponentsRead, AreItemsRead, AreMoreItemsRead, IsItemRead, AreSetComponentsOf, AreMembersRead, IsMemberRead}
+use Rattle.encoding_parts.proofs.PartsValueLemmas.{sequence_of_encodes, set_of_encodes, value_encodes}
+use Rattle.berslice.specs.Reading.{IsRead, AreContentsRead, IsComponentRead, AreComponentsRead, AreItemsRead, AreMoreItemsRead, IsItemRead, AreSetComponentsOf, AreMembersRead, IsMemberRead}
 
 -- two facts of one answer
 pub both_of : (P Q R : ℕ → Type 0) (answer : Option ℕ) → IfSome answer P → IfSome answer Q → ((n : ℕ) → P n → Q n → R n) → IfSome answer R
 both_of P Q R None p q f = tt
 both_of P Q R (Some n) p q f = f n p q
+
+pub IfSome-map : (answer : Option ℕ) (P Q : ℕ → Type 0) → ((n : ℕ) → P n → Q n) → IfSome answer P → IfSome answer Q
+IfSome-map None P Q step p = tt
+IfSome-map (Some n) P Q step p = step n p
 
 one_more : (levels : ℕ) → levels ≢ 0 → suc (levels - 1) ≡ levels
 one_more zero some = absurd (some refl)
@@ -40,24 +44,30 @@ read_some levels type octets None used h = absurd h.1
 read_some levels type octets (Some v) zero h = let above = nested_above levels [] h.1.depth in let none : above.first ∷ above.others ≡ [] = sym above.is in cc
 read_some levels type octets (Some v) (suc used) h = omega arith
 
--- around an encoding, an explicit tag
-pub explicit_read : (levels : ℕ) (tag : Tag) (type : Shape) (octets inside : List ℕ) (slot : Option Value) (used whole : ℕ) → IsGoodType (Shape.explicit tag type) → levels ≢ 0 → IsRead (levels - 1) type inside slot used
-    → whole ≤ length octets → IsConstructed ber tag (take used inside) (take whole octets) → IsRead levels (Shape.explicit tag type) octets slot whole
-explicit_read levels tag type octets inside None used whole good some h there c = absurd h.1
-explicit_read levels tag type octets inside (Some v) used whole good some h there c =
-    (there, subst (λ n. IsPartOf n (Shape.explicit tag type) (value_view v) (take whole octets)) (one_more levels some) (explicit_encodes (levels - 1) tag type (value_view v) (take used inside) (take whole octets) good.tags.0 h.1 c))
+-- around contents octets, an encoding
+pub constructed_read : (levels : ℕ) (tag : Tag) (type : Shape) (octets inside : List ℕ) (slot : Option Value) (used whole : ℕ) → IsGoodType type → levels ≢ 0 → first_tags type ≡ tag ∷ [] → AreContentsRead (levels - 1) type inside slot used
+    → whole ≤ length octets → IsConstructed ber tag (take used inside) (take whole octets) → IsRead levels type octets slot whole
+constructed_read levels tag type octets inside None used whole good some own h there c = absurd h.value
+constructed_read levels tag type octets inside (Some v) used whole good some own h there c =
+    (there, subst (λ n. IsPartOf n type (value_view v) (take whole octets)) (one_more levels some) (value_encodes (levels - 1) type h.parts tag (value_view v) (take used inside) (take whole octets) h.of h.come h.value good own c))
 
--- around components, a SEQUENCE
-pub sequence_read : (levels : ℕ) (tag : Tag) (fields : List Field) (octets inside : List ℕ) (slots : Vec (Option Value) Global) (used whole : ℕ) → IsGoodType (Shape.sequence tag (components_view fields)) → levels ≢ 0
-    → AreComponentsRead (levels - 1) (map field_view fields) inside slots.items used → whole ≤ length octets → IsConstructed ber tag (take used inside) (take whole octets) → IsRead levels (Shape.sequence tag (components_view fields)) octets (Some (value.Fields slots)) whole
-sequence_read levels tag fields octets inside slots used whole good some h there c =
+-- an encoding is the contents octets under an explicit tag
+pub explicit_contents : (levels : ℕ) (tag : Tag) (type : Shape) (inside : List ℕ) (slot : Option Value) (used : ℕ) → IsRead levels type inside slot used → AreContentsRead levels (Shape.explicit tag type) inside slot used
+explicit_contents levels tag type inside None used h = absurd h.1
+explicit_contents levels tag type inside (Some v) used h = record { there = h.0; parts = Parts.explicit type (Some (value_view v)); of = refl; come = h.1; value = refl }
+
+-- components are those of a SEQUENCE
+pub sequence_contents : (levels : ℕ) (tag : Tag) (fields : List Field) (inside : List ℕ) (slots : Vec (Option Value) Global) (used : ℕ) → AreComponentsRead levels (map field_view fields) inside slots.items used → AreContentsRead levels (Shape.sequence tag (components_view fields)) inside (Some (value.Fields slots)) used
+sequence_contents levels tag fields inside slots used h =
     let cs = map field_view fields in
     let views = map (option_map value_view) slots.items in
-    let part : IsPartOf (suc (levels - 1)) (Shape.sequence tag (components_of (cs ++ []))) (Val.fields (slots_of (views ++ []))) (take whole octets) = sequence_encodes (levels - 1) tag cs [] views (take used inside) (take whole octets) good.tags.0.0 h.come tt c in
-    let here = subst (λ l. IsPartOf (suc (levels - 1)) (Shape.sequence tag (components_of l)) (Val.fields (slots_of (views ++ []))) (take whole octets)) (append-nil cs) part in
-    let there' = subst (λ l. IsPartOf (suc (levels - 1)) (Shape.sequence tag (components_of cs)) (Val.fields (slots_of l)) (take whole octets)) (append-nil views) here in
-    let viewed = subst (λ v. IsPartOf (suc (levels - 1)) (Shape.sequence tag (components_of cs)) v (take whole octets)) (sym (value-Fields slots)) there' in
-    (there, subst (λ n. IsPartOf n (Shape.sequence tag (components_of cs)) (value_view (value.Fields slots)) (take whole octets)) (one_more levels some) viewed)
+    record {
+      there = h.there;
+      parts = Parts.sequence cs views [];
+      of = ap components_of (sym (append-nil cs));
+      come = h.come;
+      value = (tt, value-Fields slots ∙ ap (λ l. Val.fields (slots_of l)) (sym (append-nil views)));
+    }
 
 -- around items, a SEQUENCE OF
 pub sequence_of_read : (levels : ℕ) (tag : Tag) (type : Shape) (octets inside : List ℕ) (items : Vec Value Global) (used whole : ℕ) → IsUsable tag → levels ≢ 0
@@ -174,9 +184,9 @@ chosen_read levels xs which a octets v (Some w) used below is put h =
     (h.0, record { encoding = subst (λ x. IsEncoding ber (Shape.choice (alternatives_view xs)) x (take used octets)) (sym viewed) encodes; depth = h.1.depth })
 
 -- no component of a SET yet
-pub no_members : (levels : ℕ) (tag : Tag) (fields : List Field) (octets : List ℕ) (set_components : List set_component.SetComponent) → map (λ (s : SetComponent). s.component) (map set_component_view set_components) ≡ map field_view fields → AllByRecursion (λ (s : SetComponent). (s.slot ≡ None) × (s.came ≡ false)) (map set_component_view set_components)
+pub no_members : (levels : ℕ) (fields : List Field) (octets : List ℕ) (set_components : List set_component.SetComponent) → map (λ (s : SetComponent). s.component) (map set_component_view set_components) ≡ map field_view fields → AllByRecursion (λ (s : SetComponent). (s.slot ≡ None) × (s.came ≡ false)) (map set_component_view set_components)
     → AreMembersRead levels (map field_view fields) octets (Parts.set (map set_component_view set_components)) 0
-no_members levels tag fields octets set_components components vacant = record { there = omega arith; set_components = λ other. ap components_of (sym components); come = none_holds levels (Parts.set (map set_component_view set_components)) vacant }
+no_members levels fields octets set_components components vacant = record { there = omega arith; set_components = λ other. ap components_of (sym components); come = none_holds levels (Parts.set (map set_component_view set_components)) vacant }
 
 -- one component more
 pub member_read : (levels : ℕ) (components : List ComponentView) (octets : List ℕ) (old new : Parts) (at used : ℕ) → AreMembersRead levels components octets old at → IsMemberRead levels (drop at octets) old new used → AreMembersRead levels components octets new (at + used)
@@ -223,13 +233,9 @@ due_field tag fields (Parts.explicit inner held) which type of due = absurd (of 
 due_field tag fields (Parts.items inner values) which type of due = absurd (of tag)
 due_field tag fields (Parts.sequence passed slots left) which type of due = absurd (of tag)
 
--- around components in any order, a SET
-pub set_read : (levels : ℕ) (tag : Tag) (components : List ComponentView) (octets inside : List ℕ) (parts : Parts) (v : Value) (used whole : ℕ) → IsGoodType (Shape.set tag (components_of components)) → levels ≢ 0
-    → AreMembersRead (levels - 1) components inside parts used → IsValueOf parts (value_view v) → whole ≤ length octets → IsConstructed ber tag (take used inside) (take whole octets) → IsRead levels (Shape.set tag (components_of components)) octets (Some v) whole
-set_read levels tag components octets inside parts v used whole good some h is there c =
-    let shape = Shape.set tag (components_of components) in
-    let part = value_encodes (levels - 1) shape parts tag (value_view v) (take used inside) (take whole octets) (h.set_components tag) h.come is good refl c in
-    (there, subst (λ n. IsPartOf n shape (value_view v) (take whole octets)) (one_more levels some) part)
+-- components in any order are the contents octets of a SET
+pub set_contents : (levels : ℕ) (tag : Tag) (components : List ComponentView) (inside : List ℕ) (parts : Parts) (v : Value) (used : ℕ) → AreMembersRead levels components inside parts used → IsValueOf parts (value_view v) → AreContentsRead levels (Shape.set tag (components_of components)) inside (Some v) used
+set_contents levels tag components inside parts v used h is = record { there = h.there; parts = parts; of = h.set_components tag; come = h.come; value = is }
 
 -- the components of a good SET
 pub good_members : (tag : Tag) (fields : List Field) → IsGoodType (Shape.set tag (components_view fields)) → AllByRecursion IsGoodComponent (map field_view fields)

@@ -6,11 +6,19 @@ use Rattle.types.specs.declared.value.Value.{Value}
 use Rattle.types.specs.Shape.{Val, Shape}
 use Rattle.types.specs.View.{ComponentView, value_view, components_of}
 use Rattle.types.specs.Encoding.{standing}
-use Rattle.encoding_parts.specs.Parts.{Parts, IsPartOf, IsCome, Holds, ArePartsOf, IsDue, IsPut}
+use Rattle.encoding_parts.specs.Parts.{Parts, IsPartOf, IsCome, Holds, ArePartsOf, IsValueOf, IsDue, IsPut}
 
 -- so many octets are an encoding of the value in the slot, in which at most so many constructed ones nest
 abbrev pub IsRead : ℕ → Shape → List ℕ → Option Value → ℕ → Type 0
 IsRead levels type octets slot used = (used ≤ length octets) × MatchOption slot ⊥ (λ value. IsPartOf levels type (value_view value) (take used octets))
+
+-- so many are the contents octets of an encoding of the value in the slot, which has parts
+pub record AreContentsRead (levels : ℕ) (type : Shape) (octets : List ℕ) (slot : Option Value) (used : ℕ) : Type 0 where
+  pub there : used ≤ length octets
+  pub parts : Parts
+  pub of : ArePartsOf type parts
+  pub come : Holds levels parts (take used octets)
+  pub value : MatchOption slot ⊥ (λ v. IsValueOf parts (value_view v))
 
 -- so many are what stands for a component: an encoding of the value in its slot, or of its default, or nothing
 pub record IsComponentRead (levels : ℕ) (component : ComponentView) (octets : List ℕ) (slot : Option Value) (used : ℕ) : Type 0 where

@@ -1,63 +1,40 @@
 //! Components of a SEQUENCE, in order of declaration (X.690 8.9).
 
-ghost use Rattle.std.specs.Prelude.{◌≡◌, None, length, map, option_map, IfSome, MatchOption};
+ghost use Rattle.std.specs.Prelude.{◌≡◌, None, map, option_map, IfSome, MatchOption};
 ghost use Rattle.std.specs.List.{AllByRecursion};
+ghost use Rattle.octets.specs.declared.tag.Tag.{Tag};
 ghost use Rattle.types.specs.Shape.{Shape};
 ghost use Rattle.types.specs.View.{value_view, field_view, requirement_view, components_view};
-ghost use Rattle.encoding_parts.specs.Parts.{IsGoodType, IsGoodComponent, IsSlotOf};
-ghost use Rattle.berslice.specs.Reading.{IsRead, IsComponentRead, AreComponentsRead};
+ghost use Rattle.encoding_parts.specs.Parts.{IsGoodComponent, IsSlotOf};
+ghost use Rattle.berslice.specs.Reading.{AreContentsRead, IsComponentRead};
 
-use crate::heads::opened;
 use crate::reading::{fill, read_one};
 use encoding_parts::{clear, is_default, take_slots};
-use octets::Tag;
 use std::alloc::Global;
 use types::{Field, Presence, Value, may_be_absent};
 
-// Reads a SEQUENCE with these components at the front into the slot.
+// Reads the encodings of components at the front, in order of declaration, into the slot, and returns how many octets
+// they have.
 #[cycle(reading)]
-#[inline(never)]
-pub fn read_sequence(
+pub fn read_components(
     alloc: Global,
-    tag: Tag,
     fields: &[Field],
     levels: usize,
     octets: &[u8],
     slot: &mut Option<Value>,
 ) -> Option<usize>
-    requires { IsGoodType (Shape.sequence tag (components_view fields.now)) }
-    ensures { IfSome result (λ used. IsRead levels (Shape.sequence tag (components_view fields.now)) octets.now slot.new used) }
+    requires { AllByRecursion IsGoodComponent (map field_view fields.now) }
+    ensures { IfSome result (λ used. (tag : Tag) → AreContentsRead levels (Shape.sequence tag (components_view fields.now)) octets.now slot.new used) }
 {
-    let inside = opened(tag, octets)?;
-    if levels == 0 {
-        return None;
-    }
     let Ok(taken) = take_slots(alloc, fields, slot) else {
         return None;
     };
     let mut slots = taken;
-    let used = read_components(alloc, fields, levels - 1, inside.octets, &mut slots)?;
-    fill(slot, Value::Fields(slots));
-    inside.close(octets, used)
-}
-
-// Reads the encodings of components at the front, in order of declaration, and returns how many octets they have.
-#[cycle(reading)]
-fn read_components(
-    alloc: Global,
-    fields: &[Field],
-    levels: usize,
-    octets: &[u8],
-    slots: &mut Vec<Option<Value>>,
-) -> Option<usize>
-    requires good { AllByRecursion IsGoodComponent (map field_view fields.now) }
-    requires slots { length slots.old.items ≡ length fields.now }
-    ensures { IfSome result (λ used. AreComponentsRead levels (map field_view fields.now) octets.now slots.new.items used) }
-{
     let mut at = 0;
     for (place, field) in fields.iter().enumerate() {
         at += read_component(alloc, field, levels, &octets[at..], &mut slots[place])?;
     }
+    fill(slot, Value::Fields(slots));
     Some(at)
 }
 

@@ -2,67 +2,45 @@
 
 ghost use Rattle.std.specs.Prelude.{map, IfSome};
 ghost use Rattle.std.specs.List.{AllByRecursion};
+ghost use Rattle.octets.specs.declared.tag.Tag.{Tag};
 ghost use Rattle.types.specs.Shape.{Shape};
 ghost use Rattle.types.specs.View.{field_view, components_view};
-ghost use Rattle.encoding_parts.specs.Parts.{IsGoodType, IsGoodComponent};
+ghost use Rattle.encoding_parts.specs.Parts.{IsGoodComponent};
 ghost use Rattle.encoding_parts.specs.HeldParts.{parts_view};
-ghost use Rattle.berslice.specs.Reading.{IsRead, AreSetComponentsOf, AreMembersRead, IsMemberRead};
+ghost use Rattle.berslice.specs.Reading.{AreContentsRead, AreSetComponentsOf, IsMemberRead};
 
-use crate::heads::{Inside, opened};
+use crate::heads::Inside;
 use crate::reading::{fill, read_one};
 use encoding_parts::{HeldParts, SetComponents, set_components_of};
-use octets::{Head, Tag, read_identifier};
+use octets::{Head, read_identifier};
 use std::alloc::Global;
 use types::{Field, Value};
 
-// Reads a SET with these components at the front into the slot. They come in any order.
+// Reads the encodings of components up to the end, in any order, into the slot, and returns how many octets they have.
 #[cycle(reading)]
-#[inline(never)]
-pub fn read_set(
+pub fn read_members(
     alloc: Global,
-    tag: Tag,
     fields: &[Field],
     levels: usize,
-    octets: &[u8],
+    inside: &Inside<'_>,
     slot: &mut Option<Value>,
 ) -> Option<usize>
-    requires { IsGoodType (Shape.set tag (components_view fields.now)) }
-    ensures { IfSome result (λ used. IsRead levels (Shape.set tag (components_view fields.now)) octets.now slot.new used) }
+    requires { AllByRecursion IsGoodComponent (map field_view fields.now) }
+    ensures { IfSome result (λ used. (tag : Tag) → AreContentsRead levels (Shape.set tag (components_view fields.now)) inside.now.octets.now slot.new used) }
 {
-    let inside = opened(tag, octets)?;
-    if levels == 0 {
-        return None;
-    }
     let Ok(each) = set_components_of(alloc, fields) else {
         return None;
     };
     let behind = 0;
     let mut held_parts = HeldParts::Set(SetComponents { each, behind });
-    let used = read_members(alloc, fields, levels - 1, &inside, &mut held_parts)?;
+    let mut at = 0;
+    while !inside.ends(at) {
+        at += read_member(alloc, fields, levels, &inside.octets[at..], &mut held_parts)?;
+    }
     let Ok(value) = held_parts.into_value(inside.definite, false) else {
         return None;
     };
     fill(slot, value);
-    inside.close(octets, used)
-}
-
-// Reads the encodings of components up to the end, and returns how many octets they have.
-#[cycle(reading)]
-fn read_members(
-    alloc: Global,
-    fields: &[Field],
-    levels: usize,
-    inside: &Inside<'_>,
-    held_parts: &mut HeldParts<'_>,
-) -> Option<usize>
-    requires good { AllByRecursion IsGoodComponent (map field_view fields.now) }
-    requires none { AreMembersRead levels (map field_view fields.now) inside.now.octets.now (parts_view held_parts.old) 0 }
-    ensures { IfSome result (λ used. AreMembersRead levels (map field_view fields.now) inside.now.octets.now (parts_view held_parts.new) used) }
-{
-    let mut at = 0;
-    while !inside.ends(at) {
-        at += read_member(alloc, fields, levels, &inside.octets[at..], held_parts)?;
-    }
     Some(at)
 }
 

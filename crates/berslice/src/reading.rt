@@ -6,16 +6,16 @@ ghost use Rattle.types.specs.Encoding.{IsAccepted};
 ghost use Rattle.types.specs.Shape.{Shape};
 ghost use Rattle.types.specs.View.{ty_view, value_view, alternatives_view};
 ghost use Rattle.encoding_parts.specs.Parts.{IsGoodType};
-ghost use Rattle.berslice.specs.Reading.{IsRead};
+ghost use Rattle.berslice.specs.Reading.{AreContentsRead, IsRead};
 
 use crate::MAX_NESTED;
-use crate::components::read_sequence;
-use crate::heads::opened;
+use crate::components::read_components;
+use crate::heads::{Inside, opened};
 use crate::items::read_list;
 use crate::leaf::read_leaf;
-use crate::members::read_set;
-use encoding_parts::{by_tag, clear, put_chosen, take_chosen};
-use octets::{Head, MAX_ENCODING, Tag, read_identifier};
+use crate::members::read_members;
+use encoding_parts::{by_tag, clear, leaf_tag, put_chosen, take_chosen};
+use octets::{Head, MAX_ENCODING, read_identifier};
 use std::alloc::Global;
 use types::{Alternative, Ty, Value};
 
@@ -55,48 +55,57 @@ pub fn read_one(
     requires { IsGoodType (ty_view ty.now) }
     ensures { IfSome result (λ used. IsRead levels (ty_view ty.now) octets.now slot.new used) }
 {
+    if let Some(tag) = leaf_tag(ty) {
+        return read_leaf(alloc, ty, tag, octets, slot);
+    }
     match ty {
-        Ty::Boolean(tag)
-        | Ty::Integer(tag)
-        | Ty::Enumerated(tag, _)
-        | Ty::Null(tag)
-        | Ty::Oid(tag)
-        | Ty::RelativeOid(tag)
-        | Ty::Bits(tag)
-        | Ty::NamedBits(tag, _)
-        | Ty::Octets(tag)
-        | Ty::Text(tag, _)
-        | Ty::Time(tag, _) => read_leaf(alloc, ty, *tag, octets, slot),
-        Ty::Sequence(tag, fields) => read_sequence(alloc, *tag, fields, levels, octets, slot),
         Ty::SequenceOf(tag, inner) | Ty::SetOf(tag, inner) => {
             read_list(alloc, *tag, inner, levels, octets, slot)
         }
-        Ty::Explicit(tag, inner) => read_explicit(alloc, *tag, inner, levels, octets, slot),
         Ty::Choice(alternatives) => read_chosen(alloc, alternatives, levels, octets, slot),
-        Ty::Set(tag, fields) => read_set(alloc, *tag, fields, levels, octets, slot),
+        _ => read_constructed(alloc, ty, levels, octets, slot),
     }
 }
 
-// Reads the encoding under an explicit tag at the front into the slot.
+// Reads a SEQUENCE or SET at the front, or an encoding under an explicit tag, into the slot.
 #[cycle(reading)]
 #[inline(never)]
-fn read_explicit(
+fn read_constructed(
     alloc: Global,
-    tag: Tag,
-    inner: &Ty,
+    ty: &Ty,
     levels: usize,
     octets: &[u8],
     slot: &mut Option<Value>,
 ) -> Option<usize>
-    requires { IsGoodType (Shape.explicit tag (ty_view inner.now)) }
-    ensures { IfSome result (λ used. IsRead levels (Shape.explicit tag (ty_view inner.now)) octets.now slot.new used) }
+    requires { IsGoodType (ty_view ty.now) }
+    ensures { IfSome result (λ used. IsRead levels (ty_view ty.now) octets.now slot.new used) }
 {
-    let inside = opened(tag, octets)?;
+    let inside = opened(ty.tag()?, octets)?;
     if levels == 0 {
         return None;
     }
-    let used = read_one(alloc, inner, levels - 1, inside.octets, slot)?;
+    let used = read_inside(alloc, ty, levels - 1, &inside, slot)?;
     inside.close(octets, used)
+}
+
+// Reads the contents octets of one into the slot, and returns how many they are.
+#[cycle(reading)]
+fn read_inside(
+    alloc: Global,
+    ty: &Ty,
+    levels: usize,
+    inside: &Inside<'_>,
+    slot: &mut Option<Value>,
+) -> Option<usize>
+    requires { IsGoodType (ty_view ty.now) }
+    ensures { IfSome result (λ used. AreContentsRead levels (ty_view ty.now) inside.now.octets.now slot.new used) }
+{
+    match ty {
+        Ty::Sequence(_, fields) => read_components(alloc, fields, levels, inside.octets, slot),
+        Ty::Set(_, fields) => read_members(alloc, fields, levels, inside, slot),
+        Ty::Explicit(_, inner) => read_one(alloc, inner, levels, inside.octets, slot),
+        _ => None,
+    }
 }
 
 // Reads an encoding of one of the alternatives at the front into the slot: tags tell them apart.

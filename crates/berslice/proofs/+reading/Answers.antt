@@ -9,12 +9,13 @@ use Rattle.types.specs.declared.ty.Field as field
 use Rattle.types.specs.Form.{IsConstructed}
 use Rattle.types.specs.Shape.{Shape}
 use Rattle.types.specs.View.{ty_view, value_view, field_view, components_view}
+use Rattle.types.proofs.ViewLemmas.{ty-Sequence, ty-Set, ty-Explicit}
 use Rattle.encoding_parts.specs.Parts.{IsDue, IsGoodType}
 use Rattle.encoding_parts.specs.HeldParts.{parts_view}
 use Rattle.berslice.specs.Heads.{IsOpened}
-use Rattle.berslice.specs.Reading.{IsRead, IsComponentRead, AreComponentsRead, AreMoreItemsRead}
+use Rattle.berslice.specs.Reading.{IsRead, AreContentsRead, IsComponentRead, AreComponentsRead, AreMoreItemsRead}
 use Rattle.berslice.specs.Renewed.{new_items}
-use Rattle.berslice.proofs.ReadingLemmas.{both_of, read_some, explicit_read, sequence_read, sequence_of_read, set_of_read, no_more_items, one_item_more, item_behind, all_items, no_components, component_read, all_components, component_stands, good_components, good_component, good_alternative, chosen_read, no_members, member_behind, member_read, member_some, field_type, due_field, set_read, good_members}
+use Rattle.berslice.proofs.ReadingLemmas.{both_of, IfSome-map, read_some, explicit_contents, sequence_contents, constructed_read, sequence_of_read, set_of_read, no_more_items, one_item_more, item_behind, all_items, no_components, component_read, all_components, component_stands, good_components, good_component, good_alternative, chosen_read, no_members, member_behind, member_read, member_some, field_type, due_field, set_contents, good_members}
 use Rattle.berslice.proofs.+reading.Goals as goal
 
 pub reading::read_alternative-read_one-requires : goal.reading::read_alternative-read_one-requires
@@ -39,7 +40,7 @@ components::read_component-returns-in-Some t c =
     component_stands c.args.levels c.args.field.now c.args.octets.now c.read_one.new.slot c.drop_default.new.slot c.in-Some.used c.in-Some.ensures c.drop_default.ensures
 
 pub components::read_components-loop-place-init : goal.components::read_components-loop-place-init
-components::read_components-loop-place-init t c = (no_components c.args.levels c.args.octets.now [] refl, c.requires.slots)
+components::read_components-loop-place-init t c = (no_components c.args.levels c.args.octets.now [] refl, c.in-Ok.ensures)
 
 pub components::read_components-slice_bounds-read_component-count :
     goal.components::read_components-slice_bounds-read_component-count
@@ -54,7 +55,7 @@ components::read_components-read_component-requires t c =
     let fields = c.args.fields.now in
     let bound : c.loop-place.place < length fields = c.loop-place-test.true in
     let is = c.index-fields-place.is in
-    (search (rules, node.the_lemmas, field.the_lemmas, bound, is), good_component fields c.loop-place.place c.index-fields-place.result bound is c.requires.good)
+    (search (rules, node.the_lemmas, field.the_lemmas, bound, is), good_component fields c.loop-place.place c.index-fields-place.result bound is c.requires)
 
 pub components::read_components-loop-place-preserved : goal.components::read_components-loop-place-preserved
 components::read_components-loop-place-preserved t c =
@@ -73,17 +74,26 @@ components::read_components-loop-place-preserved t c =
     (subst (λ l. AreComponentsRead c.args.levels (map field_view (take (i + 1) fields)) octets l (at + used)) (sym filled) more, length-set slots i slot ∙ c.loop-place.invariant.1)
 
 pub components::read_components-returns : goal.components::read_components-returns
-components::read_components-returns t c =
-    all_components c.args.levels c.args.fields.now c.loop-place.place c.args.octets.now c.loop-place.slots.items c.loop-place.at c.loop-place-test.false c.loop-place.invariant.1 c.loop-place.invariant.0
-
-pub reading::read_explicit-returns : goal.reading::read_explicit-returns
-reading::read_explicit-returns t c =
+components::read_components-returns t c = λ tag.
+    let levels = c.args.levels in
+    let fields = c.args.fields.now in
     let octets = c.args.octets.now in
-    let type = ty_view c.args.inner.now in
+    let slots = c.loop-place.slots in
+    let at = c.loop-place.at in
+    let read = all_components levels fields c.loop-place.place octets slots.items at c.loop-place-test.false c.loop-place.invariant.1 c.loop-place.invariant.0 in
+    subst (λ slot. AreContentsRead levels (Shape.sequence tag (components_view fields)) octets slot at) (sym c.fill.ensures) (sequence_contents levels tag fields octets slots at read)
+
+pub reading::read_constructed-returns : goal.reading::read_constructed-returns
+reading::read_constructed-returns t c =
+    let octets = c.args.octets.now in
+    let type = ty_view c.args.ty.now in
     let inside = c.in_ok-inside.inside in
-    both_of (λ n. n ≤ length octets) (λ n. (tag : Tag) → IsOpened tag octets inside → IsConstructed ber tag (take c.in_ok-used.used inside.octets.now) (take n octets)) (λ n. IsRead c.args.levels (Shape.explicit c.args.tag type) octets c.read_one.new.slot n)
+    let used = c.in_ok-used.used in
+    let slot = c.read_inside.new.slot in
+    let tag = c.in_ok-tag.field-0 in
+    both_of (λ n. n ≤ length octets) (λ n. (tag : Tag) → IsOpened tag octets inside → IsConstructed ber tag (take used inside.octets.now) (take n octets)) (λ n. IsRead c.args.levels type octets slot n)
     c.close.result c.close.ensures.there c.close.ensures.value
-    (λ n there whole. explicit_read c.args.levels c.args.tag type octets inside.octets.now c.read_one.new.slot c.in_ok-used.used n c.requires (search rules) c.in_ok-used.ensures there (whole c.args.tag c.in_ok-inside.ensures))
+    (λ n there whole. constructed_read c.args.levels tag type octets inside.octets.now slot used n c.requires (search rules) c.in_ok-tag.ensures.value c.in_ok-used.ensures there (whole tag c.in_ok-inside.ensures))
 
 pub items::read_item-nonzero_div-octets : goal.items::read_item-nonzero_div-octets
 items::read_item-nonzero_div-octets t c = read_some c.args.levels (ty_view c.args.inner.now) c.args.octets.now c.read_among.new.slot c.in_ok-used.used c.in_ok-used.ensures
@@ -164,20 +174,6 @@ items::read_list-returns-clause-set t c =
     (λ n there whole. subst (λ slot. IsRead c.args.levels (Shape.set_of c.args.tag type) octets slot n) (sym c.fill.ensures)
     (set_of_read c.args.levels c.args.tag type octets inside.octets.now items used n c.requires.usable (search rules) read there (whole c.args.tag c.in_ok-inside.ensures)))
 
-pub components::read_sequence-read_components-requires : goal.components::read_sequence-read_components-requires
-components::read_sequence-read_components-requires t c = (search rules, (good_components c.args.tag c.args.fields.now c.requires, c.in-Ok.ensures))
-
-pub components::read_sequence-returns : goal.components::read_sequence-returns
-components::read_sequence-returns t c =
-    let octets = c.args.octets.now in
-    let shape = Shape.sequence c.args.tag (components_view c.args.fields.now) in
-    let inside = c.in_ok-inside.inside in
-    let slots = c.read_components.new.slots in
-    both_of (λ n. n ≤ length octets) (λ n. (tag : Tag) → IsOpened tag octets inside → IsConstructed ber tag (take c.in_ok-used.used inside.octets.now) (take n octets)) (λ n. IsRead c.args.levels shape octets c.fill.new.slot n)
-    c.close.result c.close.ensures.there c.close.ensures.value
-    (λ n there whole. subst (λ slot. IsRead c.args.levels shape octets slot n) (sym c.fill.ensures)
-    (sequence_read c.args.levels c.args.tag c.args.fields.now octets inside.octets.now slots c.in_ok-used.used n c.requires (search rules) c.in_ok-used.ensures there (whole c.args.tag c.in_ok-inside.ensures)))
-
 pub members::read_member-read_one-requires : goal.members::read_member-read_one-requires
 members::read_member-read_one-requires t c =
     let fields = c.args.fields.now in
@@ -221,19 +217,50 @@ members::read_members-loop-alloc-preserved t c =
     let read = member_behind c.args.levels octets at c.in_ok-at.field-0 old new c.in_ok-at.ensures in
     member_read c.args.levels (map field_view c.args.fields.now) octets old new at c.in_ok-at.field-0 c.loop-alloc.invariant read
 
-pub members::read_set-read_members-requires : goal.members::read_set-read_members-requires
-members::read_set-read_members-requires t c =
-    let set_components = c.in-Ok.each.items in
-    (search rules, (good_members c.args.tag c.args.fields.now c.requires, no_members (c.args.levels - 1) c.args.tag c.args.fields.now c.in_ok-inside.inside.octets.now set_components c.in-Ok.ensures.components c.in-Ok.ensures.vacant))
+pub members::read_members-loop-alloc-init : goal.members::read_members-loop-alloc-init
+members::read_members-loop-alloc-init t c =
+    no_members c.args.levels c.args.fields.now c.args.inside.now.octets.now c.in-Ok.each.items c.in-Ok.ensures.components c.in-Ok.ensures.vacant
 
-pub members::read_set-returns : goal.members::read_set-returns
-members::read_set-returns t c =
-    let octets = c.args.octets.now in
-    let shape = Shape.set c.args.tag (components_view c.args.fields.now) in
-    let inside = c.in_ok-inside.inside in
-    let parts = parts_view c.read_members.new.held_parts in
-    let v = c.in-Ok-into_value.value in
-    both_of (λ n. n ≤ length octets) (λ n. (tag : Tag) → IsOpened tag octets inside → IsConstructed ber tag (take c.in_ok-used.used inside.octets.now) (take n octets)) (λ n. IsRead c.args.levels shape octets c.fill.new.slot n)
-    c.close.result c.close.ensures.there c.close.ensures.value
-    (λ n there whole. subst (λ slot. IsRead c.args.levels shape octets slot n) (sym c.fill.ensures)
-    (set_read c.args.levels c.args.tag (map field_view c.args.fields.now) octets inside.octets.now parts v c.in_ok-used.used n c.requires (search rules) c.in_ok-used.ensures c.in-Ok-into_value.ensures.value there (whole c.args.tag c.in_ok-inside.ensures)))
+pub members::read_members-returns : goal.members::read_members-returns
+members::read_members-returns t c = λ tag.
+    let levels = c.args.levels in
+    let fields = c.args.fields.now in
+    let octets = c.args.inside.now.octets.now in
+    let at = c.loop-alloc.at in
+    let parts = parts_view c.loop-alloc.held_parts in
+    subst (λ slot. AreContentsRead levels (Shape.set tag (components_view fields)) octets slot at) (sym c.fill.ensures)
+    (set_contents levels tag (map field_view fields) octets parts c.in-Ok-into_value.value at c.loop-alloc.invariant c.in-Ok-into_value.ensures.value)
+
+pub reading::read_inside-read_components-requires : goal.reading::read_inside-read_components-requires
+reading::read_inside-read_components-requires t c =
+    let same : ty_view c.args.ty.now ≡ Shape.sequence c.in-Sequence.field-0 (components_view c.deref.result.now) = ap ty_view c.in-Sequence.is ∙ (ty-Sequence c.in-Sequence.field-0 c.in-Sequence.fields ∙ ap (λ l. Shape.sequence c.in-Sequence.field-0 (components_view l)) (sym c.deref.ensures.value)) in
+    (search (rules, node.the_lemmas), good_components c.in-Sequence.field-0 c.deref.result.now (subst IsGoodType same c.requires))
+
+pub reading::read_inside-read_members-requires : goal.reading::read_inside-read_members-requires
+reading::read_inside-read_members-requires t c =
+    let same : ty_view c.args.ty.now ≡ Shape.set c.in-Set.field-0 (components_view c.deref-in-Set.result.now) = ap ty_view c.in-Set.is ∙ (ty-Set c.in-Set.field-0 c.in-Set.fields ∙ ap (λ l. Shape.set c.in-Set.field-0 (components_view l)) (sym c.deref-in-Set.ensures.value)) in
+    (search (rules, node.the_lemmas), good_members c.in-Set.field-0 c.deref-in-Set.result.now (subst IsGoodType same c.requires))
+
+pub reading::read_inside-returns-in-Sequence : goal.reading::read_inside-returns-in-Sequence
+reading::read_inside-returns-in-Sequence t c =
+    let octets = c.args.inside.now.octets.now in
+    let slot = c.read_components.new.slot in
+    let same : ty_view c.args.ty.now ≡ Shape.sequence c.in-Sequence.field-0 (components_view c.deref.result.now) = ap ty_view c.in-Sequence.is ∙ (ty-Sequence c.in-Sequence.field-0 c.in-Sequence.fields ∙ ap (λ l. Shape.sequence c.in-Sequence.field-0 (components_view l)) (sym c.deref.ensures.value)) in
+    IfSome-map c.read_components.result _ (λ used. AreContentsRead c.args.levels (ty_view c.args.ty.now) octets slot used)
+    (λ used h. subst (λ shape. AreContentsRead c.args.levels shape octets slot used) (sym same) (h c.in-Sequence.field-0)) c.read_components.ensures
+
+pub reading::read_inside-returns-in-Set : goal.reading::read_inside-returns-in-Set
+reading::read_inside-returns-in-Set t c =
+    let octets = c.args.inside.now.octets.now in
+    let slot = c.read_members.new.slot in
+    let same : ty_view c.args.ty.now ≡ Shape.set c.in-Set.field-0 (components_view c.deref-in-Set.result.now) = ap ty_view c.in-Set.is ∙ (ty-Set c.in-Set.field-0 c.in-Set.fields ∙ ap (λ l. Shape.set c.in-Set.field-0 (components_view l)) (sym c.deref-in-Set.ensures.value)) in
+    IfSome-map c.read_members.result _ (λ used. AreContentsRead c.args.levels (ty_view c.args.ty.now) octets slot used)
+    (λ used h. subst (λ shape. AreContentsRead c.args.levels shape octets slot used) (sym same) (h c.in-Set.field-0)) c.read_members.ensures
+
+pub reading::read_inside-returns-in-Explicit : goal.reading::read_inside-returns-in-Explicit
+reading::read_inside-returns-in-Explicit t c =
+    let octets = c.args.inside.now.octets.now in
+    let slot = c.read_one.new.slot in
+    let same : ty_view c.args.ty.now ≡ Shape.explicit c.in-Explicit.field-0 (ty_view c.deref-in-Explicit.result.now) = ap ty_view c.in-Explicit.is ∙ (ty-Explicit c.in-Explicit.field-0 c.in-Explicit.inner ∙ ap (λ l. Shape.explicit c.in-Explicit.field-0 (ty_view l)) (sym c.deref-in-Explicit.ensures)) in
+    IfSome-map c.read_one.result _ (λ used. AreContentsRead c.args.levels (ty_view c.args.ty.now) octets slot used)
+    (λ used h. subst (λ shape. AreContentsRead c.args.levels shape octets slot used) (sym same) (explicit_contents c.args.levels c.in-Explicit.field-0 (ty_view c.deref-in-Explicit.result.now) octets slot used h)) c.read_one.ensures
