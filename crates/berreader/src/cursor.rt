@@ -1,7 +1,7 @@
 //! Where a reader stands in a value, and the steps by which it goes on, from one part or segment to the
 //! next. A step is one of the nest, or one in the constructed string that has begun in it.
 
-ghost use Rattle.std.specs.Prelude.{◌≡◌, ◌↔◌, IsTrue, Some, None, [], IfOk, IfErr, OnOk};
+ghost use Rattle.std.specs.Prelude.{◌≡◌, Some, None, [], IfOk, IfErr, OnOk};
 ghost use Rattle.types.specs.View.{ty_view};
 ghost use Rattle.encoding_parts.specs.Refuses.{Refuses};
 ghost use Rattle.berreader.specs.Stack.{layers_of, IsCounted};
@@ -9,6 +9,7 @@ ghost use Rattle.berreader.specs.Cut.{IsCut};
 ghost use Rattle.berreader.specs.Cursor.{taken_of, CanFinish, AreTaken, IsSoundCursor, IsStep};
 
 use crate::nest::{Nest, OpenString};
+use crate::stack::Stack;
 use std::alloc::Global;
 use types::{Refusal, Ty, Value};
 
@@ -30,10 +31,12 @@ impl<'a> Cursor<'a> {
         ensures taken { result.nest.taken ≡ 0 }
         ensures string { result.string ≡ None }
     {
-        Cursor {
-            nest: Nest::new(alloc, ty),
-            string: None,
-        }
+        let nest = Nest {
+            ty,
+            layers: Stack::new(alloc),
+            taken: 0,
+        };
+        Cursor { nest, string: None }
     }
 
     // Takes what stands next, and answers how many octets it has: in a string that has begun, and the
@@ -112,12 +115,5 @@ impl<'a> Cursor<'a> {
             Some(string) => string.segments.taken,
             None => self.nest.taken,
         }
-    }
-
-    // Whether no octet of the value has been taken.
-    pub fn is_fresh(&self) -> bool
-        ensures { IsTrue result ↔ (self.now.nest.taken ≡ 0) × (self.now.string ≡ None) }
-    {
-        self.nest.taken == 0 && self.string.is_none()
     }
 }

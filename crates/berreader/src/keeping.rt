@@ -9,7 +9,8 @@ use octets::{Head, Length, read_identifier, read_length};
 use types::{Refusal, Value};
 
 impl Pieces<'_> {
-    // Takes a piece behind octets that are kept, until none are. A call of its own, since mostly none are.
+    // Takes a piece, behind those octets that are kept until none are. A call of its own, so that a value that is read at
+    // once pays nothing for it.
     #[inline(never)]
     pub fn take_on(&mut self, piece: &[u8], whole: &mut Option<Value>) -> Result<usize, Refusal>
         requires accepts { self.old.refused ≡ None }

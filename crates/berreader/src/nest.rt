@@ -3,9 +3,8 @@
 
 ghost use Rattle.std.specs.Prelude.{◌≡◌, ◌≢◌, ◌≤◌, ◌++◌, ℕ, List, [], take, length, IfOk, IfErr, OnOk, OnErr, None};
 ghost use Rattle.types.specs.Refusal.{IsFinal, IsOfReading};
-ghost use Rattle.types.specs.View.{ty_view};
 ghost use Rattle.encoding_parts.specs.Refuses.{Refuses};
-ghost use Rattle.berreader.specs.Stack.{layers_of, IsCounted};
+ghost use Rattle.berreader.specs.Stack.{layers_of};
 ghost use Rattle.berreader.specs.Cut.{IsNestCut};
 ghost use Rattle.berreader.specs.Nest.{CanFinish, EndsInside, IsEndHere, IsEndInside, IsSoundNest, IsStep};
 ghost use Rattle.berreader.specs.Strings.{IsClosed, IsFound, IsSoundString, IsString};
@@ -57,20 +56,6 @@ pub struct OpenString<'a> {
 }
 
 impl<'a> Nest<'a> {
-    // Nothing has been taken of a value of the type.
-    pub fn new(alloc: Global, ty: &'a Ty) -> Nest<'a>
-        ensures ty { ty_view result.ty.now ≡ ty_view ty.now }
-        ensures layers { layers_of result.layers ≡ [] }
-        ensures counted { IsCounted result.layers }
-        ensures taken { result.taken ≡ 0 }
-    {
-        Nest {
-            ty,
-            layers: Stack::new(alloc),
-            taken: 0,
-        }
-    }
-
     // Takes what stands next, and answers how many octets it has: the end of the innermost open encoding, a
     // part without parts, or the identifier octets and length octets of another. A constructed string is begun
     // in `string`: its identifier octets and length octets are counted, and the nest stays before them. A

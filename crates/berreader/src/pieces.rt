@@ -1,18 +1,17 @@
 //! The octets of a value that come in pieces.
 
-ghost use Rattle.std.specs.Prelude.{◌≡◌, ◌↔◌, ◌⊎◌, IsTrue, ◌+◌, ◌<◌, ◌≤◌, ◌++◌, ℕ, List, Some, None, [], length, IfOk, IfErr, IsOk, IsErr, OnOk};
+ghost use Rattle.std.specs.Prelude.{◌≡◌, ◌↔◌, ◌⊎◌, IsTrue, ◌+◌, ◌<◌, ◌≤◌, ◌++◌, ℕ, List, Some, None, [], length, IfOk, IfErr, IsErr, OnOk};
 ghost use Rattle.octets.specs.declared.TheConstants.{MAX_ENCODING};
 ghost use Rattle.types.specs.Refusal.{IsFinal};
-ghost use Rattle.types.specs.View.{ty_view};
-ghost use Rattle.berreader.specs.Stack.{layers_of, IsCounted};
+ghost use Rattle.berreader.specs.Stack.{layers_of};
 ghost use Rattle.berreader.specs.Cursor.{taken_of};
-ghost use Rattle.berreader.specs.Feeding.{GoesOn, HasBeenFed, HasValue, IsFed, IsFinished, IsFresh, IsGoingOn, IsOfFeeding, IsSoundPieces, IsSoundReader, IsTakenWhole, shape_of};
+ghost use Rattle.berreader.specs.Feeding.{GoesOn, HasBeenFed, HasValue, IsFed, IsGoingOn, IsOfFeeding, IsSoundPieces, IsTakenWhole, shape_of};
 
 use crate::cursor::Cursor;
-use berslice::{MAX_NESTED, read_whole};
+use berslice::MAX_NESTED;
 use octets::MAX_ENCODING;
 use std::alloc::Global;
-use types::{Refusal, Ty, Value};
+use types::{Refusal, Value};
 
 /// A value whose octets come in pieces.
 #[derive(Debug, Drop)]
@@ -27,54 +26,9 @@ pub struct Pieces<'a> {
 }
 
 impl<'a> Pieces<'a> {
-    // No octet has come of a value of the type.
-    pub fn new(alloc: Global, ty: &'a Ty) -> Pieces<'a>
-        ensures shape { shape_of result ≡ ty_view ty.now }
-        ensures fresh { IsFresh result }
-        ensures counted { IsCounted result.cursor.nest.layers }
-    {
-        Pieces {
-            alloc,
-            cursor: Cursor::new(alloc, ty),
-            pending: Vec::new(alloc),
-            refused: None,
-        }
-    }
-
-    // Takes a piece, and returns how many octets of it were taken: all of them, unless a value is whole, which
-    // is put into `whole`, in the room of what that held. Nothing is said of `whole` where it is refused.
-    pub fn feed(&mut self, piece: &[u8], whole: &mut Option<Value>) -> Result<usize, Refusal>
-        requires sound { IsSoundReader self.old }
-        ensures sound { IsSoundReader self.new }
-        ensures shape { OnOk result (shape_of self.new ≡ shape_of self.old) }
-        ensures there { IfOk result (λ used. used ≤ length piece.now) }
-        ensures value { IfOk result (λ used. (octets : List ℕ) → HasBeenFed self.old octets → IsFed self.old self.new octets piece.now whole.new used) }
-        ensures empty { piece.now ≡ [] → self.old.refused ≡ None → (result ≡ Ok 0) × (whole.new ≡ None) × (self.new ≡ self.old) }
-        ensures never { self.old.refused ≡ None → IfErr result (λ refusal. IsFinal refusal → (octets more : List ℕ) →
-            HasBeenFed self.old octets → ¬ HasValue (shape_of self.old) ((octets ++ piece.now) ++ more)) }
-        ensures refused { IfErr result (λ refusal. self.new.refused ≡ Some refusal) }
-        ensures again { (refusal : Refusal) → self.old.refused ≡ Some refusal → result ≡ Err refusal }
-        ensures numbers { IfErr result IsOfFeeding }
-    {
-        if let Some(refusal) = self.refused {
-            return Err(refusal);
-        }
-        if piece.is_empty() {
-            *whole = None;
-            return Ok(0);
-        }
-        match self.take(piece, whole) {
-            Ok(used) => Ok(used),
-            Err(refusal) => {
-                self.refuse(refusal);
-                Err(refusal)
-            }
-        }
-    }
-
     // Keeps the refusal, and nothing else. A call of its own, since most pieces are not refused.
     #[inline(never)]
-    fn refuse(&mut self, refusal: Refusal)
+    pub fn refuse(&mut self, refusal: Refusal)
         ensures refused { self.new.refused ≡ Some refusal }
         ensures layers { layers_of self.new.cursor.nest.layers ≡ [] }
         ensures string { self.new.cursor.string ≡ None }
@@ -84,49 +38,15 @@ impl<'a> Pieces<'a> {
         self.refused = Some(refusal);
     }
 
-    // Whether no value is begun.
-    pub fn finish(&self) -> Result<(), Refusal>
-        ensures exact { IsOk result ↔ IsFinished self.now }
-        ensures refused { IfErr result (λ refusal. (self.now.refused ≡ Some refusal) ⊎ ((self.now.refused ≡ None) × (refusal ≡ Refusal.Truncated))) }
+    // Whether no octet of a value has been taken, and none are kept.
+    pub fn is_fresh(&self) -> bool
+        ensures { IsTrue result ↔ (self.now.cursor.nest.taken ≡ 0) × (self.now.cursor.string ≡ None) × (self.now.pending.items ≡ []) }
     {
-        if let Some(refusal) = self.refused {
-            return Err(refusal);
-        }
-        if self.cursor.is_fresh() && self.keeps_none() {
-            Ok(())
-        } else {
-            Err(Refusal::Truncated)
-        }
+        let cursor = &self.cursor;
+        cursor.nest.taken == 0 && cursor.string.is_none() && self.pending.is_empty()
     }
 
-    // Takes a piece behind those octets that are kept, which mostly are none. A value that is whole in the piece may be
-    // read at once.
-    fn take(&mut self, piece: &[u8], whole: &mut Option<Value>) -> Result<usize, Refusal>
-        requires accepts { self.old.refused ≡ None }
-        requires sound { IsSoundPieces self.old }
-        ensures going_on { OnOk result (IsGoingOn self.old self.new) }
-        ensures there { IfOk result (λ used. used ≤ length piece.now) }
-        ensures value { IfOk result (λ used. (octets : List ℕ) → HasBeenFed self.old octets → IsFed self.old self.new octets piece.now whole.new used) }
-        ensures never { IfErr result (λ refusal. IsFinal refusal → (octets more : List ℕ) →
-            HasBeenFed self.old octets → ¬ HasValue (shape_of self.old) ((octets ++ piece.now) ++ more)) }
-        ensures numbers { IfErr result IsOfFeeding }
-    {
-        if !self.keeps_none() {
-            *whole = None;
-            return self.take_on(piece, whole);
-        }
-        if self.cursor.is_fresh() {
-            if let Some(used) = read_whole(self.alloc, self.cursor.nest.ty, piece, whole) {
-                return Ok(used);
-            }
-        }
-        *whole = None;
-        self.take_rest(piece, whole)
-    }
-
-    // Takes octets, where none are kept, or there are none to take. A call of its own, so that a value that is read
-    // at once pays nothing for it.
-    #[inline(never)]
+    // Takes octets, where none are kept, or there are none to take.
     pub fn take_rest(&mut self, octets: &[u8], whole: &mut Option<Value>) -> Result<usize, Refusal>
         requires accepts { self.old.refused ≡ None }
         requires sound { IsSoundPieces self.old }

@@ -1,6 +1,8 @@
 //! Reads values from octets that come in pieces.
 
+use crate::cursor::Cursor;
 use crate::pieces::Pieces;
+use berslice::read_whole;
 use encoding_parts::clear;
 use std::alloc::Global;
 use std::marker::Model;
@@ -60,7 +62,12 @@ impl<'a> Reader<'a> {
         ensures well_formed { IsWellFormed (ty_view ty.now) }
     {
         Reader {
-            pieces: Pieces::new(alloc, ty.as_type()),
+            pieces: Pieces {
+                alloc,
+                cursor: Cursor::new(alloc, ty.as_type()),
+                pending: Vec::new(alloc),
+                refused: None,
+            },
         }
     }
 
@@ -119,10 +126,26 @@ impl<'a> Reader<'a> {
         ensures again { (refusal : Refusal) → self.old.refused ≡ Some refusal → result ≡ Err refusal }
         ensures numbers { IfErr result IsOfFeeding }
     {
-        let used = match self.pieces.feed(piece, slot) {
+        let pieces = &mut self.pieces;
+        if let Some(refusal) = pieces.refused {
+            clear(slot);
+            return Err(refusal);
+        }
+        if piece.is_empty() {
+            clear(slot);
+            return Ok(0);
+        }
+        if pieces.is_fresh() {
+            if let Some(used) = read_whole(pieces.alloc, pieces.cursor.nest.ty, piece, slot) {
+                return Ok(used);
+            }
+        }
+        clear(slot);
+        let used = match pieces.take_on(piece, slot) {
             Ok(used) => used,
             Err(refusal) => {
                 clear(slot);
+                pieces.refuse(refusal);
                 return Err(refusal);
             }
         };
@@ -134,6 +157,13 @@ impl<'a> Reader<'a> {
         ensures exact { IsOk result ↔ IsFinished self.now }
         ensures refused { IfErr result (λ refusal. (self.now.refused ≡ Some refusal) ⊎ ((self.now.refused ≡ None) × (refusal ≡ Refusal.Truncated))) }
     {
-        self.pieces.finish()
+        if let Some(refusal) = self.pieces.refused {
+            return Err(refusal);
+        }
+        if self.pieces.is_fresh() {
+            Ok(())
+        } else {
+            Err(Refusal::Truncated)
+        }
     }
 }

@@ -1,25 +1,54 @@
-use Rattle.std.proofs.Common.{◌≡◌, ◌≤◌, ◌+◌, ◌++◌, List, ℕ, None, length, subst}
+use Rattle.std.proofs.Common.{◌≡◌, ◌≤◌, ◌+◌, ◌++◌, List, ℕ, [], None, length, refl, rules, sym, subst}
 use Rattle.std.specs.Prelude.{IfSome}
 use Rattle.types.specs.Refusal.{IsFinal}
 use Rattle.types.specs.View.{value_view}
 use Rattle.types.specs.Weight.{weight_of}
 use Rattle.berreader.specs.declared.pieces.Pieces.{Pieces}
-use Rattle.berreader.specs.Feeding.{HasBeenFed, HasValue, shape_of}
+use Rattle.berreader.specs.Feeding.{HasBeenFed, HasValue, IsFed, IsFinished, shape_of}
 use Rattle.berreader.specs.Weight.{most_weight}
+use Rattle.berreader.proofs.CursorLemmas.{no_octets}
+use Rattle.berreader.proofs.CutLemmas.{none_is_more}
+use Rattle.berreader.proofs.FreshLemmas.{fed_at_once}
 use Rattle.berreader.proofs.HeldLemmas.{held_light, slot_light}
 use Rattle.berreader.proofs.reader.Reader.feed_into.Goals as goal
 
+pub returns-then-is_empty-clause-held : goal.returns-then-is_empty-clause-held
+returns-then-is_empty-clause-held c = λ octets fed. held_light c.self.inside.pieces octets fed
+
+pub returns-then-is_empty-clause-value : goal.returns-then-is_empty-clause-value
+returns-then-is_empty-clause-value c =
+    let now = c.self.inside.pieces in
+    let piece = c.args.piece.now in
+    let size : length piece ≡ 0 = first_of (search rules, cc) in
+    let none : piece ≡ [] = no_octets piece size in
+    subst (λ (old : Pieces). (octets : List ℕ) → HasBeenFed old octets → IsFed old now octets piece c.clear-then-is_empty.new.slot 0) c.self.view_is
+    (λ octets fed. subst (λ s. IsFed now now octets piece s 0) (sym c.clear-then-is_empty.ensures) (none_is_more now octets piece (c.self.invariant.sound fed.accepts).cursor none fed))
+
+pub returns-in-Some-read_whole-clause-value : goal.returns-in-Some-read_whole-clause-value
+returns-in-Some-read_whole-clause-value c =
+    let now = c.self.inside.pieces in
+    let piece = c.args.piece.now in
+    let read = c.in-Some-read_whole in
+    let fresh = c.is_fresh.ensures.0 c.if-is_fresh.true in
+    let done : now.refused ≡ None → IsFinished now = λ accepts. record { accepts = accepts; taken = fresh.0; string = fresh.1; kept = fresh.2 } in
+    subst (λ (old : Pieces). (octets : List ℕ) → HasBeenFed old octets → IsFed old now octets piece c.read_whole.new.whole read.used) c.self.view_is
+    (λ octets fed. fed_at_once now octets piece c.read_whole.new.whole read.used (done fed.accepts) fed read.ensures.there read.ensures.value (read.ensures.some.0 refl))
+
+pub returns-in-Some-read_whole-clause-light : goal.returns-in-Some-read_whole-clause-light
+returns-in-Some-read_whole-clause-light c =
+    slot_light c.args.self.now c.self.inside.pieces c.args.piece.now c.read_whole.new.whole c.in-Some-read_whole.used (returns-in-Some-read_whole-clause-value c)
+
 pub returns-clause-light : goal.returns-clause-light
 returns-clause-light c =
-    subst (λ (old : Pieces). IfSome c.feed.new.whole (λ value. (octets : List ℕ) → HasBeenFed old octets → weight_of (value_view value) ≤ most_weight (shape_of old) (length octets + c.in-Ok.used))) c.self.view_is
-    (slot_light c.self.inside.pieces c.feed.new.self c.args.piece.now c.feed.new.whole c.in-Ok.used c.in-Ok.ensures.value)
+    subst (λ (old : Pieces). IfSome c.take_on.new.whole (λ value. (octets : List ℕ) → HasBeenFed old octets → weight_of (value_view value) ≤ most_weight (shape_of old) (length octets + c.in-Ok.used))) c.self.view_is
+    (slot_light c.self.inside.pieces c.take_on.new.self c.args.piece.now c.take_on.new.whole c.in-Ok.used c.in-Ok.ensures.value)
 
 pub returns-clause-held : goal.returns-clause-held
-returns-clause-held c = λ octets fed. held_light c.feed.new.self octets fed
+returns-clause-held c = λ octets fed. held_light c.take_on.new.self octets fed
 
 pub returns-in-Err-clause-held : goal.returns-in-Err-clause-held
-returns-in-Err-clause-held c = λ octets fed. held_light c.feed.new.self octets fed
+returns-in-Err-clause-held c = λ octets fed. held_light _ octets fed
 
 pub returns-in-Err-clause-never : goal.returns-in-Err-clause-never
-returns-in-Err-clause-never c =
-    subst (λ (old : Pieces). old.refused ≡ None → IsFinal c.in-Err.refusal → (octets more : List ℕ) → HasBeenFed old octets → HasValue (shape_of old) ((octets ++ c.args.piece.now) ++ more) → ⊥) c.self.view_is c.in-Err.ensures.never
+returns-in-Err-clause-never c = λ _.
+    subst (λ (old : Pieces). IsFinal c.in-Err.refusal → (octets more : List ℕ) → HasBeenFed old octets → HasValue (shape_of old) ((octets ++ c.args.piece.now) ++ more) → ⊥) c.self.view_is c.in-Err.ensures.never
