@@ -17,13 +17,13 @@ pub mod FieldLemmas
 pub mod PresentLemmas
 pub mod ComponentLemmas
 pub mod SequenceLemmas
-pub mod ListLemmas
 pub mod NeighbourLemmas
-pub mod OrderedLemmas
+pub mod ItemLemmas
 pub mod ChosenLemmas
 pub mod EndingLemmas
 pub mod EndingInstances
 pub mod AloneLemmas
+pub mod ConstructedLemmas
 pub mod BegunLemmas
 pub mod MemberLemmas
 pub mod DueLemmas

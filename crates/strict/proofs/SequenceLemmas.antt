@@ -20,12 +20,10 @@ use Rattle.encoding_parts.specs.Parts.{IsGoodType, IsGoodComponent}
 use Rattle.encoding_parts.proofs.PartsOpenLemmas.{components_good}
 use Rattle.strict.specs.declared.canonical.Canonical.{Canonical}
 use Rattle.strict.specs.Canonical.{rule_of}
-use Rattle.strict.specs.declared.head.Inside.{Inside}
-use Rattle.strict.specs.Head.{HasConstructed, IsOpened, Fills, mark, EndsHere}
-use Rattle.strict.specs.Reading.{IsRead, HasPart}
+use Rattle.strict.specs.Head.{Fills, mark, EndsHere}
+use Rattle.strict.specs.Inside.{HasInside, IsInsideRead}
 use Rattle.strict.specs.Components.{HasPresent, IsPresentRead, HasComponents, AreComponentsRead}
 use Rattle.strict.proofs.PartLemmas.{ends_here}
-use Rattle.strict.proofs.InsideLemmas.{closed}
 use Rattle.strict.proofs.FrontLemmas.{IsStandingKnown, begins_tag}
 use Rattle.strict.proofs.ComponentLemmas.{none_stands, that_one, it_stands}
 
@@ -126,12 +124,8 @@ pub good_components : (tag : Tag) (fields : List Field) → IsGoodType (Shape.se
 good_components tag fields good = components_good (map field_view fields) good.within.1 good.tags.1 good.defaults.1 good.defaults.0
 
 -- what can stand inside a SEQUENCE
-pub components_inside : (rule : Rule) (tag : Tag) (components : List ComponentView) (room : ℕ) (octets more : List ℕ) (inside : Inside) → IsOpened rule tag room octets inside → HasPart rule (Shape.sequence tag (components_of components)) room (octets ++ more)
-    → HasComponents rule components inside.definite inside.room (drop inside.start octets ++ more)
-components_inside rule tag components room octets more inside o h =
-    let c : HasConstructed rule tag room (octets ++ more) = record { contents = concat (standing h.encoding.encodings); part = h.part; rest = h.rest; whole = h.encoding.whole; fits = h.fits; parts = h.parts } in
-    let only = o.only more c in
-    record { slots = h.encoding.slots; encodings = h.encoding.encodings; rest = h.rest; each = h.encoding.each; fills = only.0; parts = only.1 }
+pub components_inside : (rule : Rule) (tag : Tag) (components : List ComponentView) (definite : Bool) (room : ℕ) (octets : List ℕ) → HasInside rule (Shape.sequence tag (components_of components)) definite room octets → HasComponents rule components definite room octets
+components_inside rule tag components definite room octets h = record { slots = h.encoding.slots; encodings = h.encoding.encodings; rest = h.rest; each = h.encoding.each; fills = h.fills; parts = h.parts }
 
 -- behind all components it ends
 nothing_of : (rule : Rule) (definite : Bool) (room : ℕ) (octets rest : List ℕ) (slots : Slots) (encodings : List (Option (List ℕ))) → AreSlotEncodings rule no_component slots encodings → Fills definite room (concat (standing encodings)) → octets ≡ concat (standing encodings) ++ (mark definite ++ rest) → EndsHere definite room octets
@@ -153,12 +147,17 @@ all_read rule fields i definite room octets slots at past many read =
     let first = subst₂ (λ xs ys. AreComponentsRead rule (map field_view xs) (map field_view ys) definite room octets (take i slots) at) (take_all i fields past) (drop_all i fields past) read in
     subst (λ l. AreComponentsRead rule (map field_view fields) [] definite room octets l at) (take_all i slots (omega (arith, past, many))) first
 
-pub sequence_read : (rule : Rule) (tag : Tag) (fields : List Field) (room : ℕ) (octets : List ℕ) (inside : Inside) (slots : Vec (Option Value) Global) (used whole : ℕ) → IsOpened rule tag room octets inside
-    → AreComponentsRead rule (map field_view fields) [] inside.definite inside.room (drop inside.start octets) slots.items used → EndsHere inside.definite (inside.room - used) (drop used (drop inside.start octets))
-    → whole ≡ inside.start + used + length (mark inside.definite) → IsRead rule (Shape.sequence tag (components_view fields)) room octets (Some (value.Fields slots)) whole
-sequence_read rule tag fields room octets inside slots used whole o read ends is =
-    let k = closed rule tag room octets inside used o read.there read.within ends in
+-- they are the contents octets of a SEQUENCE
+pub sequence_read : (rule : Rule) (tag : Tag) (fields : List Field) (definite : Bool) (room : ℕ) (octets : List ℕ) (slots : Vec (Option Value) Global) (used : ℕ) → AreComponentsRead rule (map field_view fields) [] definite room octets slots.items used
+    → EndsHere definite (room - used) (drop used octets) → IsInsideRead rule (Shape.sequence tag (components_view fields)) definite room octets (Some (value.Fields slots)) used
+sequence_read rule tag fields definite room octets slots used read ends =
     let shape = Shape.sequence tag (components_view fields) in
-    let n = inside.start + used + length (mark inside.definite) in
-    let encodes : IsEncoding rule shape (Val.fields (slots_view slots.items)) (take n octets) = record { slots = slots_view slots.items; is = refl; encodings = read.encodings; each = read.each; whole = subst (λ x. IsConstructed rule tag x (take n octets)) read.joined k.made } in
-    subst (λ m. IsRead rule shape room octets (Some (value.Fields slots)) m) (sym is) (k.there, k.fits, subst (λ v. IsEncoding rule shape v (take n octets)) (sym (value-Fields slots)) encodes)
+    record {
+      there = read.there;
+      within = read.within;
+      ends = ends;
+      makes = λ own whole is made.
+          let same : tag ≡ own = cc is in
+          let encodes : IsEncoding rule shape (Val.fields (slots_view slots.items)) whole = record { slots = slots_view slots.items; is = refl; encodings = read.encodings; each = read.each; whole = subst₂ (λ t x. IsConstructed rule t x whole) (sym same) read.joined made } in
+          subst (λ v. IsEncoding rule shape v whole) (sym (value-Fields slots)) encodes;
+    }

@@ -1,6 +1,6 @@
 -- Lemmas on the components of a SET that were read.
 use Rattle.std.proofs.Common.{◌≡◌, ◌↔◌, ℕ, zero, suc, ◌+◌, ◌-◌, inl, inr, List, [], ◌∷◌, ◌++◌, Bool, true, Option, Some, None, IsTrue, IsPermutation, AllPairs, MatchOption, Vec, Global, length, take, drop, map, option_map, set, refl, sym, ◌∙◌, ap, subst, subst₂, arith}
-use Rattle.std.specs.List.{AllByRecursion, concat}
+use Rattle.std.specs.List.{AllByRecursion}
 use Rattle.std.proofs.Math.Seq.{take-add}
 use Rattle.std.proofs.lemmas.List.{length-drop, drop-drop}
 use Rattle.std.proofs.lemmas.List.Sorted.{IsPermutation-refl, IsPermutation-sym, IsPermutation-trans, IsPermutation-cons, IsPermutation-swap, IsPermutation-to_front}
@@ -28,14 +28,12 @@ use Rattle.encoding_parts.specs.Parts.{IsGoodType, IsGoodComponent}
 use Rattle.encoding_parts.proofs.PartsOpenLemmas.{components_good}
 use Rattle.strict.specs.declared.canonical.Canonical.{Canonical}
 use Rattle.strict.specs.Canonical.{rule_of}
-use Rattle.strict.specs.declared.head.Inside.{Inside}
-use Rattle.strict.specs.Head.{HasConstructed, IsOpened, mark, EndsHere}
-use Rattle.strict.specs.Reading.{IsRead, HasPart}
+use Rattle.strict.specs.Head.{EndsHere}
+use Rattle.strict.specs.Inside.{HasInside, IsInsideRead}
 use Rattle.strict.specs.Components.{IsFront, IsPresentRead}
 use Rattle.strict.specs.Members.{IsBegunAt, IsOrderTagOf, IsEmptyAt, AreMembersLeft, AreMembersCome, AreFilled, ComesBehind, ComesUpTo, HasMembers, AreMembersRead}
 use Rattle.strict.proofs.FrontLemmas.{canonical_of}
 use Rattle.strict.proofs.PartLemmas.{concat_last}
-use Rattle.strict.proofs.InsideLemmas.{closed}
 use Rattle.strict.proofs.ComponentLemmas.{may_of_absent}
 use Rattle.strict.proofs.SequenceLemmas.{absent_stands}
 use Rattle.strict.proofs.MemberLemmas.{IsComponentAt}
@@ -178,24 +176,29 @@ filled_slots rule (c ∷ cs) (None ∷ slots) (None ∷ encodings) h filled = (a
 filled_slots rule (c ∷ cs) (Some v ∷ slots) (Some octets ∷ encodings) h filled = (h.0.0, h.0.1, filled_slots rule cs slots encodings h.1 filled)
 filled_slots rule cs slots encodings h filled = elim h [ ]
 
-pub set_read : (rule : Rule) (tag : Tag) (fields : List Field) (room : ℕ) (octets : List ℕ) (inside : Inside) (slots : Vec (Option Value) Global) (last : Option Tag) (used whole : ℕ) → IsOpened rule tag room octets inside
-    → AreFilled (map field_view fields) slots.items → AreMembersRead rule (map field_view fields) slots.items last inside.definite inside.room (drop inside.start octets) used → EndsHere inside.definite (inside.room - used) (drop used (drop inside.start octets))
-    → whole ≡ inside.start + used + length (mark inside.definite) → IsRead rule (Shape.set tag (components_view fields)) room octets (Some (value.Fields slots)) whole
-set_read rule tag fields room octets inside slots last used whole o filled read ends is =
-    let k = closed rule tag room octets inside used o read.there read.within ends in
+-- they are the contents octets of a SET
+pub set_read : (rule : Rule) (tag : Tag) (fields : List Field) (definite : Bool) (room : ℕ) (octets : List ℕ) (slots : Vec (Option Value) Global) (last : Option Tag) (used : ℕ) → AreFilled (map field_view fields) slots.items
+    → AreMembersRead rule (map field_view fields) slots.items last definite room octets used → EndsHere definite (room - used) (drop used octets) → IsInsideRead rule (Shape.set tag (components_view fields)) definite room octets (Some (value.Fields slots)) used
+set_read rule tag fields definite room octets slots last used filled read ends =
     let shape = Shape.set tag (components_view fields) in
-    let n = inside.start + used + length (mark inside.definite) in
-    let encodes : IsEncoding rule shape (Val.fields (slots_view slots.items)) (take n octets) = record {
-      slots = slots_view slots.items;
-      is = refl;
-      encodings = read.encodings;
-      each = filled_slots rule (map field_view fields) slots.items read.encodings read.each filled;
-      order = read.order;
-      permutes = read.permutes;
-      ascends = λ canonical. read.ascends;
-      whole = subst (λ x. IsConstructed rule tag x (take n octets)) read.joined k.made;
-    } in
-    subst (λ m. IsRead rule shape room octets (Some (value.Fields slots)) m) (sym is) (k.there, k.fits, subst (λ v. IsEncoding rule shape v (take n octets)) (sym (value-Fields slots)) encodes)
+    record {
+      there = read.there;
+      within = read.within;
+      ends = ends;
+      makes = λ own whole is made.
+          let same : tag ≡ own = cc is in
+          let encodes : IsEncoding rule shape (Val.fields (slots_view slots.items)) whole = record {
+            slots = slots_view slots.items;
+            is = refl;
+            encodings = read.encodings;
+            each = filled_slots rule (map field_view fields) slots.items read.encodings read.each filled;
+            order = read.order;
+            permutes = read.permutes;
+            ascends = λ canonical. read.ascends;
+            whole = subst₂ (λ t x. IsConstructed rule t x whole) (sym same) read.joined made;
+          } in
+          subst (λ v. IsEncoding rule shape v whole) (sym (value-Fields slots)) encodes;
+    }
 
 -- what can stand inside a SET
 members_left : (rule : Canonical) (cs : List ComponentView) (slots : Slots) (encodings : List (Option (List ℕ))) → AreSlotEncodings (rule_of rule) (components_of cs) slots encodings → AreMembersLeft (rule_of rule) cs (map (λ c. None) cs) encodings
@@ -210,13 +213,11 @@ all_first : (rule : Rule) (cs : List ComponentView) (order : List (List ℕ)) �
 all_first rule cs [] = tt
 all_first rule cs (e ∷ order) = (tt, all_first rule cs order)
 
-pub members_inside : (rule : Canonical) (tag : Tag) (cs : List ComponentView) (room : ℕ) (octets more : List ℕ) (inside : Inside) → IsOpened (rule_of rule) tag room octets inside → HasPart (rule_of rule) (Shape.set tag (components_of cs)) room (octets ++ more)
-    → HasMembers (rule_of rule) cs (map (λ c. None) cs) None inside.definite inside.room (drop inside.start octets ++ more)
-members_inside rule tag cs room octets more inside o h =
+pub members_inside : (rule : Canonical) (tag : Tag) (cs : List ComponentView) (definite : Bool) (room : ℕ) (octets : List ℕ) → HasInside (rule_of rule) (Shape.set tag (components_of cs)) definite room octets
+    → HasMembers (rule_of rule) cs (map (λ c. None) cs) None definite room octets
+members_inside rule tag cs definite room octets h =
     let e = h.encoding in
-    let c : HasConstructed (rule_of rule) tag room (octets ++ more) = record { contents = concat e.order; part = h.part; rest = h.rest; whole = e.whole; fits = h.fits; parts = h.parts } in
-    let only = o.only more c in
-    record { encodings = e.encodings; each = members_left rule cs e.slots e.encodings e.each; order = e.order; permutes = e.permutes; ascends = e.ascends (canonical_of rule); behind = all_first (rule_of rule) cs e.order; rest = h.rest; fills = only.0; parts = only.1 }
+    record { encodings = e.encodings; each = members_left rule cs e.slots e.encodings e.each; order = e.order; permutes = e.permutes; ascends = e.ascends (canonical_of rule); behind = all_first (rule_of rule) cs e.order; rest = h.rest; fills = h.fills; parts = h.parts }
 
 pub good_members : (tag : Tag) (fields : List Field) → IsGoodType (Shape.set tag (components_view fields)) → AllByRecursion IsGoodComponent (map field_view fields)
 good_members tag fields good = components_good (map field_view fields) good.within.1 good.tags.1 good.defaults.1 good.defaults.0

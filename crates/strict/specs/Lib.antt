@@ -6,6 +6,7 @@ pub mod Leaf
 pub mod Begun
 pub mod Segments
 pub mod Reading
+pub mod Inside
 pub mod Items
 pub mod Components
 pub mod Members

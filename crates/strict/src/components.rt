@@ -1,77 +1,48 @@
 //! SEQUENCEs: components in order of declaration (X.690 8.9 and 11.5).
 
-ghost use Rattle.std.specs.Prelude.{◌≡◌, ◌-◌, ◌<◌, ◌≤◌, [], length, map, drop, IfOk, IfErr};
+ghost use Rattle.std.specs.Prelude.{◌<◌, ◌≤◌, length, map, IfOk, IfErr};
 ghost use Rattle.std.specs.List.{AllByRecursion};
 ghost use Rattle.octets.specs.declared.TheConstants.{MAX_ENCODING};
+ghost use Rattle.octets.specs.declared.tag.Tag.{Tag};
 ghost use Rattle.types.specs.FirstTags.{RunsAreDistinct};
 ghost use Rattle.types.specs.Shape.{Shape};
 ghost use Rattle.types.specs.View.{components_view, field_view};
-ghost use Rattle.encoding_parts.specs.Parts.{IsGoodType, IsGoodComponent};
+ghost use Rattle.encoding_parts.specs.Parts.{IsGoodComponent};
 ghost use Rattle.strict.specs.Canonical.{rule_of};
 ghost use Rattle.strict.specs.Bars.{RefusesStrictly};
-ghost use Rattle.strict.specs.Head.{EndsHere, AreFewer};
-ghost use Rattle.strict.specs.Reading.{IsRead, RefusesPart};
-ghost use Rattle.strict.specs.Components.{HasPresent, IsPresentRead, HasComponents, AreComponentsRead, IsComponentRead, HasComponentFirst};
+ghost use Rattle.strict.specs.Head.{AreFewer};
+ghost use Rattle.strict.specs.Inside.{IsInsideRead};
+ghost use Rattle.strict.specs.Components.{HasPresent, IsPresentRead, HasComponents, IsComponentRead, HasComponentFirst};
 
 use crate::canonical::Canonical;
 use crate::fronts::{front_tag, is_left_out, is_next, is_spelt_out, left_over, not_next};
-use crate::head::{Inside, opened, refusal_inside};
+use crate::head::Inside;
 use crate::parts::read_one;
 use encoding_parts::{clear, take_slots};
-use octets::{MAX_ENCODING, Tag};
+use octets::MAX_ENCODING;
 use std::alloc::Global;
 use types::{Field, Refusal, Value, may_be_absent};
 
-// Reads a SEQUENCE with these components at the front into the slot.
+// Reads the encodings of components at the front up to the end into the slot, and returns how many octets they have.
 #[cycle(reading)]
-#[inline(never)]
-pub fn read_sequence(
-    alloc: Global,
-    rule: Canonical,
-    tag: Tag,
-    fields: &[Field],
-    room: usize,
-    octets: &[u8],
-    slot: &mut Option<Value>,
-) -> Result<usize, Refusal>
-    requires good { IsGoodType (Shape.sequence tag (components_view fields.now)) }
-    requires room { room ≤ MAX_ENCODING }
-    ensures value { IfOk result (λ used. IsRead (rule_of rule) (Shape.sequence tag (components_view fields.now)) room octets.now slot.new used) }
-    ensures refused { IfErr result (RefusesPart rule (Shape.sequence tag (components_view fields.now)) room octets.now) }
-{
-    let inside = opened(rule, tag, room, octets)?;
-    let behind = &octets[inside.start..];
-    let Ok(taken) = take_slots(alloc, fields, slot) else {
-        return Err(Refusal::NoMemory);
-    };
-    let mut slots = taken;
-    match read_components(alloc, rule, fields, &inside, behind, &mut slots) {
-        Ok(used) => {
-            *slot = Some(Value::Fields(slots));
-            Ok(inside.close(used))
-        }
-        Err(refusal) => Err(refusal_inside(rule, inside.room, refusal)),
-    }
-}
-
-// Reads the encodings of components at the front up to the end, and returns how many octets they have.
-#[cycle(reading)]
-fn read_components(
+pub fn read_components(
     alloc: Global,
     rule: Canonical,
     fields: &[Field],
     inside: &Inside,
     octets: &[u8],
-    slots: &mut Vec<Option<Value>>,
+    slot: &mut Option<Value>,
 ) -> Result<usize, Refusal>
     requires good { AllByRecursion IsGoodComponent (map field_view fields.now) }
     requires runs { RunsAreDistinct (components_view fields.now) }
     requires room { inside.now.room ≤ MAX_ENCODING }
-    requires slots { length slots.old.items ≡ length fields.now }
-    ensures value { IfOk result (λ used. AreComponentsRead (rule_of rule) (map field_view fields.now) [] inside.now.definite inside.now.room octets.now slots.new.items used
-        × EndsHere inside.now.definite (inside.now.room - used) (drop used octets.now)) }
+    ensures value { IfOk result (λ used. (tag : Tag) → IsInsideRead (rule_of rule) (Shape.sequence tag (components_view fields.now)) inside.now.definite inside.now.room octets.now slot.new used) }
     ensures refused { IfErr result (RefusesStrictly (HasComponents (rule_of rule) (map field_view fields.now) inside.now.definite inside.now.room) (AreFewer inside.now.definite inside.now.room) octets.now) }
 {
+    let Ok(taken) = take_slots(alloc, fields, slot) else {
+        return Err(Refusal::NoMemory);
+    };
+    let mut slots = taken;
     let mut at = 0;
     for (place, field) in fields.iter().enumerate() {
         at += read_component(
@@ -87,8 +58,11 @@ fn read_components(
         )?;
     }
     match front_tag(inside.definite, inside.room - at, &octets[at..])? {
-        Some(tag) => Err(left_over(tag, slots)),
-        None => Ok(at),
+        Some(tag) => Err(left_over(tag, &slots)),
+        None => {
+            *slot = Some(Value::Fields(slots));
+            Ok(at)
+        }
     }
 }
 

@@ -1,8 +1,8 @@
 //! Values of contents octets, put where they belong: a value is large to hand on.
 
-ghost use Rattle.std.specs.Prelude.{◌≡◌, IsTrue, IfSome, MatchOption};
+ghost use Rattle.std.specs.Prelude.{IsTrue, IfSome, MatchOption};
 ghost use Rattle.octets.specs.Rule.{der};
-ghost use Rattle.types.specs.Leaf.{tag_of, IsLeaf};
+ghost use Rattle.types.specs.Leaf.{IsLeaf};
 ghost use Rattle.types.specs.View.{ty_view, value_view};
 ghost use Rattle.encoding_parts.specs.Contents.{IsFilled};
 ghost use Rattle.strict.specs.declared.canonical.Canonical.{Canonical};
@@ -12,8 +12,7 @@ ghost use Rattle.strict.specs.Reading.{IsRead};
 
 use crate::short::short_primitive;
 use crate::values::{has_zeros_unused, read_truth, read_value};
-use encoding_parts::{fill, take_bits};
-use octets::Tag;
+use encoding_parts::{fill, leaf_tag, take_bits};
 use primitives::read_bits_in;
 use std::alloc::Global;
 use types::{Ty, Value};
@@ -39,33 +38,6 @@ pub fn read_shortly(
     }
 }
 
-// The tag of a type without parts.
-#[inline(always)]
-fn leaf_tag(ty: &Ty) -> Option<Tag>
-    ensures leaf { IfSome result (λ tag. IsLeaf (ty_view ty.now)) }
-    ensures tag { IfSome result (λ tag. tag_of (ty_view ty.now) ≡ tag) }
-{
-    match ty {
-        Ty::Boolean(tag)
-        | Ty::Integer(tag)
-        | Ty::Enumerated(tag, _)
-        | Ty::Null(tag)
-        | Ty::Oid(tag)
-        | Ty::RelativeOid(tag)
-        | Ty::Bits(tag)
-        | Ty::NamedBits(tag, _)
-        | Ty::Octets(tag)
-        | Ty::Text(tag, _)
-        | Ty::Time(tag, _) => Some(*tag),
-        Ty::Sequence(_, _)
-        | Ty::Set(_, _)
-        | Ty::SequenceOf(_, _)
-        | Ty::SetOf(_, _)
-        | Ty::Choice(_)
-        | Ty::Explicit(_, _) => None,
-    }
-}
-
 // Puts the value into the slot that the contents octets are of a type without parts, as CER and DER have them. Where
 // they are those of none, or memory runs out, it says no more. Of BOOLEAN and BIT STRING BER has others (X.690 11.1 and
 // 11.2): these stand apart, so that all other types are told apart once.
@@ -77,20 +49,7 @@ fn fill_canonical(alloc: Global, ty: &Ty, contents: &[u8], slot: &mut Option<Val
         Ty::Boolean(_) => fill_truth(contents, slot),
         Ty::Bits(_) => fill_bits(alloc, contents, slot),
         Ty::NamedBits(_, _) => fill_value(alloc, ty, contents, slot),
-        Ty::Integer(_)
-        | Ty::Enumerated(_, _)
-        | Ty::Null(_)
-        | Ty::Oid(_)
-        | Ty::RelativeOid(_)
-        | Ty::Octets(_)
-        | Ty::Text(_, _)
-        | Ty::Time(_, _)
-        | Ty::Sequence(_, _)
-        | Ty::Set(_, _)
-        | Ty::SequenceOf(_, _)
-        | Ty::SetOf(_, _)
-        | Ty::Choice(_)
-        | Ty::Explicit(_, _) => fill(alloc, ty, contents, slot),
+        _ => fill(alloc, ty, contents, slot),
     }
 }
 

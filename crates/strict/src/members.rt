@@ -1,92 +1,55 @@
 //! SETs: components in the order of their tags (X.690 8.11, 9.3 and 10.3).
 
-ghost use Rattle.std.specs.Prelude.{◌≡◌, ◌-◌, ◌≤◌, Option, None, map, drop, IfOk, IfErr};
+ghost use Rattle.std.specs.Prelude.{◌≤◌, None, map, IfOk, IfErr};
 ghost use Rattle.std.specs.List.{AllByRecursion};
 ghost use Rattle.octets.specs.declared.TheConstants.{MAX_ENCODING};
-ghost use Rattle.octets.specs.declared.tag.Tag.{Tag as TagOf};
+ghost use Rattle.octets.specs.declared.tag.Tag.{Tag};
 ghost use Rattle.types.specs.FirstTags.{AreDistinct, tags_of_components};
 ghost use Rattle.types.specs.Shape.{Shape};
 ghost use Rattle.types.specs.View.{field_view, components_view};
-ghost use Rattle.encoding_parts.specs.Parts.{IsGoodType, IsGoodComponent};
+ghost use Rattle.encoding_parts.specs.Parts.{IsGoodComponent};
 ghost use Rattle.strict.specs.Canonical.{rule_of};
 ghost use Rattle.strict.specs.Bars.{RefusesStrictly};
-ghost use Rattle.strict.specs.Head.{EndsHere, AreFewer};
-ghost use Rattle.strict.specs.Reading.{IsRead, RefusesPart};
-ghost use Rattle.strict.specs.Members.{HasMembers, AreMembersRead, AreFilled};
+ghost use Rattle.strict.specs.Head.{AreFewer};
+ghost use Rattle.strict.specs.Inside.{IsInsideRead};
+ghost use Rattle.strict.specs.Members.{HasMembers};
 
 use crate::canonical::Canonical;
 use crate::components::read_present;
 use crate::fronts::front_tag;
-use crate::head::{Inside, opened, refusal_inside};
+use crate::head::Inside;
 use crate::places::{are_filled, place_due};
 use crate::tags::{comes_behind, order_tag};
 use encoding_parts::empty_slots;
-use octets::{MAX_ENCODING, Tag};
+use octets::MAX_ENCODING;
 use std::alloc::Global;
 use types::{Field, Refusal, Value};
 
-// Reads a SET with these components at the front into the slot.
+// Reads the encodings of components at the front up to the end into the slot, and returns how many octets they have.
 #[cycle(reading)]
-#[inline(never)]
-pub fn read_set(
-    alloc: Global,
-    rule: Canonical,
-    tag: Tag,
-    fields: &[Field],
-    room: usize,
-    octets: &[u8],
-    slot: &mut Option<Value>,
-) -> Result<usize, Refusal>
-    requires good { IsGoodType (Shape.set tag (components_view fields.now)) }
-    requires room { room ≤ MAX_ENCODING }
-    ensures value { IfOk result (λ used. IsRead (rule_of rule) (Shape.set tag (components_view fields.now)) room octets.now slot.new used) }
-    ensures refused { IfErr result (RefusesPart rule (Shape.set tag (components_view fields.now)) room octets.now) }
-{
-    let inside = opened(rule, tag, room, octets)?;
-    let Ok(empty) = empty_slots(alloc, fields) else {
-        return Err(Refusal::NoMemory);
-    };
-    let mut slots = empty;
-    match read_members(
-        alloc,
-        rule,
-        fields,
-        &inside,
-        &octets[inside.start..],
-        &mut slots,
-    ) {
-        Ok(used) => {
-            *slot = Some(Value::Fields(slots));
-            Ok(inside.close(used))
-        }
-        Err(refusal) => Err(refusal_inside(rule, inside.room, refusal)),
-    }
-}
-
-// Reads the encodings of components at the front up to the end, and returns how many octets they have.
-#[cycle(reading)]
-fn read_members(
+pub fn read_members(
     alloc: Global,
     rule: Canonical,
     fields: &[Field],
     inside: &Inside,
     octets: &[u8],
-    slots: &mut Vec<Option<Value>>,
+    slot: &mut Option<Value>,
 ) -> Result<usize, Refusal>
     requires good { AllByRecursion IsGoodComponent (map field_view fields.now) }
     requires distinct { AreDistinct (tags_of_components (components_view fields.now)) }
     requires room { inside.now.room ≤ MAX_ENCODING }
-    requires none { slots.old.items ≡ map (λ c. None) (map field_view fields.now) }
-    ensures value { IfOk result (λ used. AreFilled (map field_view fields.now) slots.new.items
-        × ((last : Option TagOf) × AreMembersRead (rule_of rule) (map field_view fields.now) slots.new.items last inside.now.definite inside.now.room octets.now used)
-        × EndsHere inside.now.definite (inside.now.room - used) (drop used octets.now)) }
+    ensures value { IfOk result (λ used. (tag : Tag) → IsInsideRead (rule_of rule) (Shape.set tag (components_view fields.now)) inside.now.definite inside.now.room octets.now slot.new used) }
     ensures refused { IfErr result (RefusesStrictly (HasMembers (rule_of rule) (map field_view fields.now) (map (λ c. None) (map field_view fields.now)) None inside.now.definite inside.now.room) (AreFewer inside.now.definite inside.now.room) octets.now) }
 {
+    let Ok(empty) = empty_slots(alloc, fields) else {
+        return Err(Refusal::NoMemory);
+    };
+    let mut slots = empty;
     let mut at = 0;
     let mut behind = 0;
     let mut last = None;
     while let Some(tag) = front_tag(inside.definite, inside.room - at, &octets[at..])? {
-        let place = place_due(fields, slots, behind, tag)?;
+        let place = place_due(fields, &slots, behind, tag)?;
         let field = &fields[place];
         let order = order_tag(rule, &field.ty, tag);
         if !comes_behind(last, order) {
@@ -103,8 +66,9 @@ fn read_members(
         last = Some(order);
         behind = place + 1;
     }
-    if !are_filled(fields, slots) {
+    if !are_filled(fields, &slots) {
         return Err(Refusal::Missing);
     }
+    *slot = Some(Value::Fields(slots));
     Ok(at)
 }

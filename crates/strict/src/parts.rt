@@ -8,18 +8,19 @@ ghost use Rattle.encoding_parts.specs.Parts.{IsGoodType};
 ghost use Rattle.strict.specs.Canonical.{rule_of};
 ghost use Rattle.strict.specs.Bars.{RefusesStrictly};
 ghost use Rattle.strict.specs.Head.{EndsHere, AreFewer};
+ghost use Rattle.strict.specs.Inside.{HasParts, HasInside, IsInsideRead};
 ghost use Rattle.strict.specs.Reading.{IsRead, RefusesPart, HasAlone};
 
 use crate::canonical::Canonical;
-use crate::components::read_sequence;
+use crate::components::read_components;
 use crate::filling::read_shortly;
 use crate::fronts::front_tag;
 use crate::head::{Inside, opened, refusal_inside};
-use crate::items::{read_list, read_set_of};
+use crate::items::read_items;
 use crate::leaf::read_leaf;
-use crate::members::read_set;
+use crate::members::read_members;
 use encoding_parts::{by_tag, not_due, put_chosen, read_head_tag, take_chosen};
-use octets::{MAX_ENCODING, Tag};
+use octets::MAX_ENCODING;
 use std::alloc::Global;
 use types::{Alternative, Refusal, Ty, Value};
 
@@ -61,24 +62,65 @@ fn read_any(
     ensures value { IfOk result (λ used. IsRead (rule_of rule) (ty_view ty.now) room octets.now slot.new used) }
     ensures refused { IfErr result (RefusesPart rule (ty_view ty.now) room octets.now) }
 {
+    if ty.has_no_parts() {
+        let Some(tag) = ty.tag() else { unreachable!() };
+        return read_leaf(alloc, rule, ty, tag, room, octets, slot);
+    }
     match ty {
-        Ty::Boolean(tag)
-        | Ty::Integer(tag)
-        | Ty::Enumerated(tag, _)
-        | Ty::Null(tag)
-        | Ty::Oid(tag)
-        | Ty::RelativeOid(tag)
-        | Ty::Bits(tag)
-        | Ty::NamedBits(tag, _)
-        | Ty::Octets(tag)
-        | Ty::Text(tag, _)
-        | Ty::Time(tag, _) => read_leaf(alloc, rule, ty, *tag, room, octets, slot),
-        Ty::Sequence(tag, fields) => read_sequence(alloc, rule, *tag, fields, room, octets, slot),
-        Ty::Set(tag, fields) => read_set(alloc, rule, *tag, fields, room, octets, slot),
-        Ty::SequenceOf(tag, inner) => read_list(alloc, rule, *tag, inner, room, octets, slot),
-        Ty::SetOf(tag, inner) => read_set_of(alloc, rule, *tag, inner, room, octets, slot),
         Ty::Choice(alternatives) => read_chosen(alloc, rule, alternatives, room, octets, slot),
-        Ty::Explicit(tag, inner) => read_explicit(alloc, rule, *tag, inner, room, octets, slot),
+        _ => read_constructed(alloc, rule, ty, room, octets, slot),
+    }
+}
+
+// Reads an encoding of a type with parts: opens it, reads what is inside, and closes it or says why not.
+#[cycle(reading)]
+#[inline(never)]
+fn read_constructed(
+    alloc: Global,
+    rule: Canonical,
+    ty: &Ty,
+    room: usize,
+    octets: &[u8],
+    slot: &mut Option<Value>,
+) -> Result<usize, Refusal>
+    requires parts { HasParts (ty_view ty.now) }
+    requires good { IsGoodType (ty_view ty.now) }
+    requires room { room ≤ MAX_ENCODING }
+    ensures value { IfOk result (λ used. IsRead (rule_of rule) (ty_view ty.now) room octets.now slot.new used) }
+    ensures refused { IfErr result (RefusesPart rule (ty_view ty.now) room octets.now) }
+{
+    let Some(tag) = ty.tag() else { unreachable!() };
+    let inside = opened(rule, tag, room, octets)?;
+    let behind = &octets[inside.start..];
+    match read_inside(alloc, rule, ty, &inside, behind, slot) {
+        Ok(used) => Ok(inside.close(used)),
+        Err(refusal) => Err(refusal_inside(rule, inside.room, refusal)),
+    }
+}
+
+// Reads the contents octets up to their end into the slot, and returns how many they are.
+#[cycle(reading)]
+fn read_inside(
+    alloc: Global,
+    rule: Canonical,
+    ty: &Ty,
+    inside: &Inside,
+    octets: &[u8],
+    slot: &mut Option<Value>,
+) -> Result<usize, Refusal>
+    requires parts { HasParts (ty_view ty.now) }
+    requires good { IsGoodType (ty_view ty.now) }
+    requires room { inside.now.room ≤ MAX_ENCODING }
+    ensures value { IfOk result (λ used. IsInsideRead (rule_of rule) (ty_view ty.now) inside.now.definite inside.now.room octets.now slot.new used) }
+    ensures refused { IfErr result (RefusesStrictly (HasInside (rule_of rule) (ty_view ty.now) inside.now.definite inside.now.room) (AreFewer inside.now.definite inside.now.room) octets.now) }
+{
+    match ty {
+        Ty::Sequence(_, fields) => read_components(alloc, rule, fields, inside, octets, slot),
+        Ty::Set(_, fields) => read_members(alloc, rule, fields, inside, octets, slot),
+        Ty::SequenceOf(_, inner) => read_items(alloc, rule, inner, false, inside, octets, slot),
+        Ty::SetOf(_, inner) => read_items(alloc, rule, inner, true, inside, octets, slot),
+        Ty::Explicit(_, inner) => read_alone(alloc, rule, inner, inside, octets, slot),
+        _ => unreachable!(),
     }
 }
 
@@ -109,31 +151,6 @@ fn read_chosen(
         Ok(used)
     } else {
         Err(Refusal::NoMemory)
-    }
-}
-
-// Reads an encoding under an explicit tag into the slot: inside is the value's own.
-#[cycle(reading)]
-#[inline(never)]
-fn read_explicit(
-    alloc: Global,
-    rule: Canonical,
-    tag: Tag,
-    inner: &Ty,
-    room: usize,
-    octets: &[u8],
-    slot: &mut Option<Value>,
-) -> Result<usize, Refusal>
-    requires good { IsGoodType (Shape.explicit tag (ty_view inner.now)) }
-    requires room { room ≤ MAX_ENCODING }
-    ensures value { IfOk result (λ used. IsRead (rule_of rule) (Shape.explicit tag (ty_view inner.now)) room octets.now slot.new used) }
-    ensures refused { IfErr result (RefusesPart rule (Shape.explicit tag (ty_view inner.now)) room octets.now) }
-{
-    let inside = opened(rule, tag, room, octets)?;
-    let behind = &octets[inside.start..];
-    match read_alone(alloc, rule, inner, &inside, behind, slot) {
-        Ok(used) => Ok(inside.close(used)),
-        Err(refusal) => Err(refusal_inside(rule, inside.room, refusal)),
     }
 }
 

@@ -29,20 +29,7 @@ pub fn read_value(alloc: Global, ty: &Ty, contents: &[u8]) -> Result<Value, Refu
     match ty {
         Ty::Boolean(_) => read_truth(contents),
         Ty::Bits(_) | Ty::NamedBits(_, _) => read_bit_string(alloc, ty, contents),
-        Ty::Integer(_)
-        | Ty::Enumerated(_, _)
-        | Ty::Null(_)
-        | Ty::Oid(_)
-        | Ty::RelativeOid(_)
-        | Ty::Octets(_)
-        | Ty::Text(_, _)
-        | Ty::Time(_, _)
-        | Ty::Sequence(_, _)
-        | Ty::Set(_, _)
-        | Ty::SequenceOf(_, _)
-        | Ty::SetOf(_, _)
-        | Ty::Choice(_)
-        | Ty::Explicit(_, _) => read_contents(alloc, ty, contents),
+        _ => read_contents(alloc, ty, contents),
     }
 }
 

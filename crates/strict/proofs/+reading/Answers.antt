@@ -4,6 +4,7 @@ use Rattle.std.specs.Cmp.Lexicographic.{slice_cmp}
 use Rattle.std.specs.List.{concat}
 use Rattle.std.proofs.lemmas.List.{take_rest, take_more_set, length-set, length-drop}
 use Rattle.octets.specs.declared.TheConstants.{MAX_ENCODING}
+use Rattle.types.specs.Leaf.{IsLeaf}
 use Rattle.types.specs.Shape.{Shape}
 use Rattle.types.specs.View.{ty_view, value_view, field_view, components_view, alternative_view, alternatives_view}
 use Rattle.types.specs.Conforms.{MayBeAbsent}
@@ -11,14 +12,19 @@ use Rattle.types.specs.Encoding.{standing}
 use Rattle.types.specs.declared.ty.Ty as node
 use Rattle.types.specs.declared.ty.Field as field
 use Rattle.types.specs.declared.ty.Alternative as alternative
+use Rattle.octets.proofs.ResultLemmas.{IfOk-map, IfErr-map}
 use Rattle.types.proofs.LimitLemmas.{alternative_type}
+use Rattle.types.proofs.ViewLemmas.{ty-Sequence, ty-Set, ty-SequenceOf, ty-SetOf, ty-Explicit}
+use Rattle.encoding_parts.specs.HeldParts.{IsNode}
 use Rattle.encoding_parts.specs.Parts.{IsGoodType, IsSlotOf}
 use Rattle.strict.specs.Canonical.{rule_of}
 use Rattle.strict.specs.Begun.{IsBegun}
-use Rattle.strict.specs.Head.{EndsHere, IsEndKnown}
+use Rattle.strict.specs.Head.{EndsHere, IsEndKnown, AreFewer}
 use Rattle.strict.specs.Reading.{IsRead, HasPart}
 use Rattle.strict.specs.Components.{IsFront, HasComponents, AreComponentsRead}
-use Rattle.strict.specs.Items.{AreItemsRead, AreOrderedRead, between}
+use Rattle.strict.specs.Bars.{RefusesStrictly}
+use Rattle.strict.specs.Inside.{HasInside, IsInsideRead}
+use Rattle.strict.specs.Items.{AreItemsRead, between}
 use Rattle.strict.proofs.BarsLemmas.{refused_of, refused_for_good, refused_by, refused_behind, refused_named, refused_through}
 use Rattle.strict.proofs.PartLemmas.{read_some}
 use Rattle.strict.proofs.FieldLemmas.{field_type, field_requirement, run_at, first_of, whole_of}
@@ -26,14 +32,18 @@ use Rattle.strict.proofs.FrontLemmas.{IsStandingKnown, front_known, nothing_begi
 use Rattle.strict.proofs.PresentLemmas.{part_of_present, none_spelt_out}
 use Rattle.strict.proofs.ComponentLemmas.{ends_or_begins, none_stands}
 use Rattle.strict.proofs.SequenceLemmas.{absent_read, stands_read, present_stands, none_read, component_more, good_components, components_inside, all_read, ends_behind_all, sequence_read}
-use Rattle.strict.proofs.ListLemmas.{item_or_end, item_stands, item_read, items_inside, list_read}
-use Rattle.strict.proofs.OrderedLemmas.{ordered_or_end, ordered_stands, none_ordered, ordered_read, none_out_of_order, set_of_read, ordered_inside}
+use Rattle.strict.proofs.ItemLemmas.{item_or_end, item_stands, no_items, item_read, none_out_of_order, list_read, items_inside}
+use Rattle.strict.proofs.ConstructedLemmas.{parts_of_others, node_of_parts, can_of_parts, constructed_of, inside_of, constructed_read}
 use Rattle.strict.proofs.ChosenLemmas.{tag_of_part, choice_of_part, this_at, none_there, good_at, chosen_read}
 use Rattle.strict.proofs.AloneLemmas.{alone_inside, ends_alone, explicit_read, part_alone}
 use Rattle.strict.proofs.EndingLemmas.{fewer_behind, begun_short, item_behind, begun_constructed, begun_around, begun_chosen}
 use Rattle.strict.proofs.+reading.Goals as goal
+use Rattle.strict.proofs.SetLemmas.{members_inside, good_members}
 use Rattle.strict.proofs.+reading.Answers.Members as set
 mod Members
+
+pub items::read_items-loop-items-init : goal.items::read_items-loop-items-init
+items::read_items-loop-items-init t c = no_items (rule_of c.args.rule) (ty_view c.args.inner.now) c.args.ordered c.args.inside.now.definite c.args.inside.now.room c.args.octets.now c.clear.new.self.items (search rules)
 
 pub items::read_items-returns-in_err-ends-clause-refused : goal.items::read_items-returns-in_err-ends-clause-refused
 items::read_items-returns-in_err-ends-clause-refused t c =
@@ -42,10 +52,11 @@ items::read_items-returns-in_err-ends-clause-refused t c =
     let type = ty_view c.args.inner.now in
     let d = c.args.inside.now.definite in
     let room = c.args.inside.now.room in
-    let at = c.loop-item.at in
-    let read = c.loop-item.invariant in
+    let at = c.loop-items.at in
+    let read = c.loop-items.invariant in
+    let last = between octets c.loop-items.before at in
     refused_through c.from_residual.result c.from_residual.ensures.1
-    (refused_behind at c.in_err-ends.ensures.refused (λ more h. item_or_end rule type d (room - at) (drop at octets ++ more) c.requires.good (read.forth more h)) (λ k. fewer_behind d room at octets read.within read.there k))
+    (refused_behind at c.in_err-ends.ensures.refused (λ more h. item_or_end rule type c.args.ordered d (room - at) last (drop at octets ++ more) c.requires.good (read.forth more h)) (λ k. fewer_behind d room at octets read.within read.there k))
 
 pub items::read_items-returns-in_err-used-clause-refused : goal.items::read_items-returns-in_err-used-clause-refused
 items::read_items-returns-in_err-used-clause-refused t c =
@@ -54,117 +65,71 @@ items::read_items-returns-in_err-used-clause-refused t c =
     let type = ty_view c.args.inner.now in
     let d = c.args.inside.now.definite in
     let room = c.args.inside.now.room in
-    let at = c.loop-item.at in
-    let read = c.loop-item.invariant in
+    let at = c.loop-items.at in
+    let read = c.loop-items.invariant in
+    let last = between octets c.loop-items.before at in
     let inner = take (length octets - at) (drop at octets) in
     let off : c.in_ok-ends.field-0 ≡ false = search rules in
     let known : IsEndKnown false d (room - at) inner = subst (λ b. IsEndKnown b d (room - at) inner) off c.in_ok-ends.ensures.value in
     refused_through c.from_residual-in_err-used.result c.from_residual-in_err-used.ensures.1
     (refused_behind at c.in_err-used.ensures.refused (λ more h.
     let goes : EndsHere d (room - at) (drop at octets ++ more) → ⊥ = subst (λ x. EndsHere d (room - at) (x ++ more) → ⊥) (take_rest octets at) (known more) in
-    item_stands rule type d (room - at) (drop at octets ++ more) goes (read.forth more h))
+    item_stands rule type c.args.ordered d (room - at) last (drop at octets ++ more) goes (read.forth more h))
     (λ k. item_behind c.args.rule type d room at octets read.within read.there k))
 
-pub items::read_items-loop-item-smaller : goal.items::read_items-loop-item-smaller
-items::read_items-loop-item-smaller t c =
-    let octets = c.args.octets.now in
-    let type = ty_view c.args.inner.now in
-    let at = c.loop-item.at in
-    let read = subst (λ x. IsRead (rule_of c.args.rule) type (c.args.inside.now.room - at) x c.read_one.new.slot c.in_ok-used.used) (take_rest octets at) c.in_ok-used.ensures.value in
-    let some = read_some (rule_of c.args.rule) type (c.args.inside.now.room - at) (drop at octets) c.read_one.new.slot c.in_ok-used.used c.requires.good read in
-    omega (arith, some, read.0, length-drop at octets, c.loop-item.invariant.there)
-
-pub items::read_items-loop-item-preserved : goal.items::read_items-loop-item-preserved
-items::read_items-loop-item-preserved t c =
-    let octets = c.args.octets.now in
-    let rule = rule_of c.args.rule in
-    let type = ty_view c.args.inner.now in
-    let room = c.args.inside.now.room in
-    let at = c.loop-item.at in
-    let used = c.in_ok-used.used in
-    let v = c.in-Some.value in
-    let read : IsRead rule type (room - at) (drop at octets) (Some v) used = subst₂ (λ x s. IsRead rule type (room - at) x s used) (take_rest octets at) c.in-Some.is c.in_ok-used.ensures.value in
-    let more = item_read rule type c.args.inside.now.definite room octets c.loop-item.items.items v at used c.requires.good c.loop-item.invariant read in
-    subst (λ l. AreItemsRead rule type c.args.inside.now.definite room octets l (at + used)) (sym (c.push_reserved.ensures.items ∙ ap (λ l. l ++ (v ∷ [])) c.reserve.ensures.items)) more
-
-pub items::read_ordered-loop-item-init : goal.items::read_ordered-loop-item-init
-items::read_ordered-loop-item-init t c = none_ordered (rule_of c.args.rule) (ty_view c.args.inner.now) c.args.inside.now.definite c.args.inside.now.room c.args.octets.now c.args.items.now.items c.requires.none
-
-pub items::read_ordered-returns-in_err-ends-clause-refused : goal.items::read_ordered-returns-in_err-ends-clause-refused
-items::read_ordered-returns-in_err-ends-clause-refused t c =
+pub items::read_items-returns-then-is_out_of_order-clause-refused : goal.items::read_items-returns-then-is_out_of_order-clause-refused
+items::read_items-returns-then-is_out_of_order-clause-refused t c = refused_for_good (tt, tt) (λ more h.
     let octets = c.args.octets.now in
     let rule = rule_of c.args.rule in
     let type = ty_view c.args.inner.now in
     let d = c.args.inside.now.definite in
     let room = c.args.inside.now.room in
-    let at = c.loop-item.at in
-    let read = c.loop-item.invariant in
-    let last = between octets c.loop-item.before at in
-    refused_through c.from_residual.result c.from_residual.ensures.1
-    (refused_behind at c.in_err-ends.ensures.refused (λ more h. ordered_or_end rule type d (room - at) last (drop at octets ++ more) c.requires.good (read.forth more h)) (λ k. fewer_behind d room at octets read.within read.there k))
-
-pub items::read_ordered-returns-in_err-used-clause-refused : goal.items::read_ordered-returns-in_err-used-clause-refused
-items::read_ordered-returns-in_err-used-clause-refused t c =
-    let octets = c.args.octets.now in
-    let rule = rule_of c.args.rule in
-    let type = ty_view c.args.inner.now in
-    let d = c.args.inside.now.definite in
-    let room = c.args.inside.now.room in
-    let at = c.loop-item.at in
-    let read = c.loop-item.invariant in
-    let last = between octets c.loop-item.before at in
-    let inner = take (length octets - at) (drop at octets) in
-    let off : c.in_ok-ends.field-0 ≡ false = search rules in
-    let known : IsEndKnown false d (room - at) inner = subst (λ b. IsEndKnown b d (room - at) inner) off c.in_ok-ends.ensures.value in
-    refused_through c.from_residual-in_err-used.result c.from_residual-in_err-used.ensures.1
-    (refused_behind at c.in_err-used.ensures.refused (λ more h.
-    let goes : EndsHere d (room - at) (drop at octets ++ more) → ⊥ = subst (λ x. EndsHere d (room - at) (x ++ more) → ⊥) (take_rest octets at) (known more) in
-    ordered_stands rule type d (room - at) last (drop at octets ++ more) goes (read.forth more h))
-    (λ k. item_behind c.args.rule type d room at octets read.within read.there k))
-
-pub items::read_ordered-returns-then-comes_before-clause-refused : goal.items::read_ordered-returns-then-comes_before-clause-refused
-items::read_ordered-returns-then-comes_before-clause-refused t c = refused_for_good (tt, tt) (λ more h.
-    let octets = c.args.octets.now in
-    let rule = rule_of c.args.rule in
-    let type = ty_view c.args.inner.now in
-    let d = c.args.inside.now.definite in
-    let room = c.args.inside.now.room in
-    let at = c.loop-item.at in
-    let before = c.loop-item.before in
+    let at = c.loop-items.at in
+    let before = c.loop-items.before in
     let used = c.in_ok-used.used in
     let v = c.in-Some.value in
     let read : IsRead rule type (room - at) (drop at octets) (Some v) used = subst₂ (λ x s. IsRead rule type (room - at) x s used) (take_rest octets at) c.in-Some.is c.in_ok-used.ensures.value in
     let size : (at + used) - at ≡ used = omega arith in
-    let told : c.comes_before.result ≡ is_lt (slice_cmp nat_cmp (take used (drop at octets)) (between octets before at)) = subst (λ n. c.comes_before.result ≡ is_lt (slice_cmp nat_cmp (take n (drop at octets)) (between octets before at))) size c.comes_before.ensures in
-    none_out_of_order rule type d room octets more c.loop-item.items.items v before at used c.requires.good c.loop-item.invariant read (sym told ∙ c.if-comes_before.true) h)
+    let told = subst (λ n. c.is_out_of_order.result ≡ true → (c.args.ordered ≡ true) × (is_lt (slice_cmp nat_cmp (take n (drop at octets)) (between octets before at)) ≡ true)) size c.is_out_of_order.ensures.0 c.if-is_out_of_order.true in
+    none_out_of_order rule type c.args.ordered d room octets more c.loop-items.items.items v before at used c.requires.good c.loop-items.invariant read told.0 told.1 h)
 
-pub items::read_ordered-loop-item-smaller : goal.items::read_ordered-loop-item-smaller
-items::read_ordered-loop-item-smaller t c =
+pub items::read_items-loop-items-smaller : goal.items::read_items-loop-items-smaller
+items::read_items-loop-items-smaller t c =
     let octets = c.args.octets.now in
     let rule = rule_of c.args.rule in
     let type = ty_view c.args.inner.now in
     let room = c.args.inside.now.room in
-    let at = c.loop-item.at in
+    let at = c.loop-items.at in
     let read = subst (λ x. IsRead rule type (room - at) x c.read_one.new.slot c.in_ok-used.used) (take_rest octets at) c.in_ok-used.ensures.value in
     let some = read_some rule type (room - at) (drop at octets) c.read_one.new.slot c.in_ok-used.used c.requires.good read in
-    omega (arith, some, read.0, length-drop at octets, c.loop-item.invariant.there)
+    omega (arith, some, read.0, length-drop at octets, c.loop-items.invariant.there)
 
-pub items::read_ordered-loop-item-preserved : goal.items::read_ordered-loop-item-preserved
-items::read_ordered-loop-item-preserved t c =
+pub items::read_items-loop-items-preserved : goal.items::read_items-loop-items-preserved
+items::read_items-loop-items-preserved t c =
     let octets = c.args.octets.now in
     let rule = rule_of c.args.rule in
     let type = ty_view c.args.inner.now in
     let d = c.args.inside.now.definite in
     let room = c.args.inside.now.room in
-    let at = c.loop-item.at in
-    let before = c.loop-item.before in
+    let at = c.loop-items.at in
+    let before = c.loop-items.before in
     let used = c.in_ok-used.used in
     let v = c.in-Some.value in
     let read : IsRead rule type (room - at) (drop at octets) (Some v) used = subst₂ (λ x s. IsRead rule type (room - at) x s used) (take_rest octets at) c.in-Some.is c.in_ok-used.ensures.value in
     let size : (at + used) - at ≡ used = omega arith in
-    let told : c.comes_before.result ≡ is_lt (slice_cmp nat_cmp (take used (drop at octets)) (between octets before at)) = subst (λ n. c.comes_before.result ≡ is_lt (slice_cmp nat_cmp (take n (drop at octets)) (between octets before at))) size c.comes_before.ensures in
-    let more = ordered_read rule type d room octets c.loop-item.items.items v before at used c.requires.good c.loop-item.invariant read (sym told ∙ c.if-comes_before.false) in
-    subst (λ l. AreOrderedRead rule type d room octets l at (at + used)) (sym (c.push_reserved.ensures.items ∙ ap (λ l. l ++ (v ∷ [])) c.reserve.ensures.items)) more
+    let told = subst (λ n. c.is_out_of_order.result ≡ false → c.args.ordered ≡ true → is_lt (slice_cmp nat_cmp (take n (drop at octets)) (between octets before at)) ≡ false) size c.is_out_of_order.ensures.1 c.if-is_out_of_order.false in
+    let more = item_read rule type c.args.ordered d room octets c.loop-items.items.items v before at used c.requires.good c.loop-items.invariant read told in
+    subst (λ l. AreItemsRead rule type c.args.ordered d room octets l at (at + used)) (sym (c.push_reserved.ensures.items ∙ ap (λ l. l ++ (v ∷ [])) c.reserve.ensures.items)) more
+
+pub items::read_items-returns-clause-value : goal.items::read_items-returns-clause-value
+items::read_items-returns-clause-value t c = λ tag.
+    let octets = c.args.octets.now in
+    let d = c.args.inside.now.definite in
+    let room = c.args.inside.now.room in
+    let at = c.loop-items.at in
+    let on : c.in_ok-ends.field-0 ≡ true = search rules in
+    let ends : EndsHere d (room - at) (drop at octets) = subst₂ (λ b x. IsEndKnown b d (room - at) x) on (take_rest octets at) c.in_ok-ends.ensures.value in
+    list_read c.args.rule c.args.ordered tag (ty_view c.args.inner.now) d room octets c.loop-items.items c.loop-items.before at c.loop-items.invariant ends
 
 pub parts::read_chosen-returns-in_err-tag-clause-refused : goal.parts::read_chosen-returns-in_err-tag-clause-refused
 parts::read_chosen-returns-in_err-tag-clause-refused t c =
@@ -179,72 +144,6 @@ parts::read_chosen-returns-in_err-tag-clause-refused t c =
     (λ same. inl (why.cut (ap Err same)))
     (λ final more h. let k = tag_of_part (rule_of rule) shape room (octets ++ more) c.requires.good h in why.never final more k.tag k.within k.head)
     why.numbers)
-
-pub items::read_list-returns-in-Ok-clause-value : goal.items::read_list-returns-in-Ok-clause-value
-items::read_list-returns-in-Ok-clause-value t c =
-    let octets = c.args.octets.now in
-    let rule = rule_of c.args.rule in
-    let type = ty_view c.args.inner.now in
-    let inside = c.in_ok-inside.inside in
-    let used = c.in-Ok.used in
-    let items = c.read_items.new.items in
-    let read = subst (λ x. AreItemsRead rule type inside.definite inside.room x items.items used × EndsHere inside.definite (inside.room - used) (drop used x)) (take_rest octets inside.start) c.in-Ok.ensures.value in
-    list_read rule c.args.tag type c.args.room octets inside items used c.close.result c.in_ok-inside.ensures.value read.0 read.1 c.close.ensures
-
-pub items::read_list-returns-in-Err-clause-refused : goal.items::read_list-returns-in-Err-clause-refused
-items::read_list-returns-in-Err-clause-refused t c =
-    let octets = c.args.octets.now in
-    let rule = c.args.rule in
-    let tag = c.args.tag in
-    let room = c.args.room in
-    let type = ty_view c.args.inner.now in
-    let inside = c.in_ok-inside.inside in
-    let opened = c.in_ok-inside.ensures.value in
-    refused_named c.refusal_inside.ensures
-    (refused_behind inside.start c.in-Err.ensures.refused (λ more h. items_inside (rule_of rule) tag type room octets more inside opened h) (λ k. begun_around rule (Shape.sequence_of tag (ty_view c.args.inner.now)) tag room octets inside (refl, refl) tt opened k))
-
-pub items::read_list-returns-in_err-inside-clause-refused : goal.items::read_list-returns-in_err-inside-clause-refused
-items::read_list-returns-in_err-inside-clause-refused t c =
-    let octets = c.args.octets.now in
-    let rule = c.args.rule in
-    let tag = c.args.tag in
-    let room = c.args.room in
-    refused_through c.from_residual.result c.from_residual.ensures.1
-    (refused_by c.in_err-inside.ensures.refused (λ more h. record { contents = concat h.encoding.encodings; part = h.part; rest = h.rest; whole = h.encoding.whole; fits = h.fits; parts = h.parts })
-    (λ k. begun_constructed rule (Shape.sequence_of tag (ty_view c.args.inner.now)) tag room octets (refl, refl) tt k))
-
-pub items::read_set_of-returns-in-Ok-clause-value : goal.items::read_set_of-returns-in-Ok-clause-value
-items::read_set_of-returns-in-Ok-clause-value t c =
-    let octets = c.args.octets.now in
-    let rule = rule_of c.args.rule in
-    let type = ty_view c.args.inner.now in
-    let inside = c.in_ok-inside.inside in
-    let used = c.in-Ok.used in
-    let items = c.read_ordered.new.items in
-    let read = subst (λ x. (before : ℕ) × AreOrderedRead rule type inside.definite inside.room x items.items before used × EndsHere inside.definite (inside.room - used) (drop used x)) (take_rest octets inside.start) c.in-Ok.ensures.value in
-    set_of_read c.args.rule c.args.tag type c.args.room octets inside items read.0 used c.close.result c.in_ok-inside.ensures.value read.1 read.2 c.close.ensures
-
-pub items::read_set_of-returns-in-Err-clause-refused : goal.items::read_set_of-returns-in-Err-clause-refused
-items::read_set_of-returns-in-Err-clause-refused t c =
-    let octets = c.args.octets.now in
-    let rule = c.args.rule in
-    let tag = c.args.tag in
-    let room = c.args.room in
-    let type = ty_view c.args.inner.now in
-    let inside = c.in_ok-inside.inside in
-    let opened = c.in_ok-inside.ensures.value in
-    refused_named c.refusal_inside.ensures
-    (refused_behind inside.start c.in-Err.ensures.refused (λ more h. ordered_inside rule tag type room octets more inside opened h) (λ k. begun_around rule (Shape.set_of tag (ty_view c.args.inner.now)) tag room octets inside (refl, refl) tt opened k))
-
-pub items::read_set_of-returns-in_err-inside-clause-refused : goal.items::read_set_of-returns-in_err-inside-clause-refused
-items::read_set_of-returns-in_err-inside-clause-refused t c =
-    let octets = c.args.octets.now in
-    let rule = c.args.rule in
-    let tag = c.args.tag in
-    let room = c.args.room in
-    refused_through c.from_residual.result c.from_residual.ensures.1
-    (refused_by c.in_err-inside.ensures.refused (λ more h. record { contents = concat h.encoding.order; part = h.part; rest = h.rest; whole = h.encoding.whole; fits = h.fits; parts = h.parts })
-    (λ k. begun_constructed rule (Shape.set_of tag (ty_view c.args.inner.now)) tag room octets (refl, refl) tt k))
 
 pub parts::read_chosen-returns-in_default-clause-refused : goal.parts::read_chosen-returns-in_default-clause-refused
 parts::read_chosen-returns-in_default-clause-refused t c = record {
@@ -314,71 +213,9 @@ parts::read_alone-returns-in-Some-clause-refused t c = refused_for_good (tt, tt)
     let front : IsFront (Some c.in-Some.field-0) d (room - used) inner = subst (λ f. IsFront f d (room - used) inner) c.in-Some.is c.in_ok-front_tag.ensures.value in
     front.1 more (subst (λ x. EndsHere d (room - used) (x ++ more)) (sym (take_rest octets used)) (ends_alone rule type d room octets more c.read_one.new.slot used c.requires.good c.in_ok-used.ensures.value h)))
 
-pub parts::read_explicit-returns-in-Ok-clause-value : goal.parts::read_explicit-returns-in-Ok-clause-value
-parts::read_explicit-returns-in-Ok-clause-value t c =
-    let octets = c.args.octets.now in
-    let rule = rule_of c.args.rule in
-    let type = ty_view c.args.inner.now in
-    let inside = c.in_ok-inside.inside in
-    let used = c.in-Ok.used in
-    let slot = c.read_alone.new.slot in
-    let read = subst (λ x. IsRead rule type inside.room x slot used × EndsHere inside.definite (inside.room - used) (drop used x)) (take_rest octets inside.start) c.in-Ok.ensures.value in
-    explicit_read rule c.args.tag type c.args.room octets inside slot used c.close.result c.in_ok-inside.ensures.value read.0 read.1 c.close.ensures
-
-pub parts::read_explicit-returns-in-Err-clause-refused : goal.parts::read_explicit-returns-in-Err-clause-refused
-parts::read_explicit-returns-in-Err-clause-refused t c =
-    let octets = c.args.octets.now in
-    let rule = c.args.rule in
-    let tag = c.args.tag in
-    let room = c.args.room in
-    let type = ty_view c.args.inner.now in
-    let inside = c.in_ok-inside.inside in
-    let opened = c.in_ok-inside.ensures.value in
-    refused_named c.refusal_inside.ensures
-    (refused_behind inside.start c.in-Err.ensures.refused (λ more h. alone_inside (rule_of rule) tag type room octets more inside opened h) (λ k. begun_around rule (Shape.explicit tag (ty_view c.args.inner.now)) tag room octets inside (refl, refl) tt opened k))
-
-pub components::read_sequence-read_components-requires : goal.components::read_sequence-read_components-requires
-components::read_sequence-read_components-requires t c =
-    let fields = c.args.fields.now in
-    let within : c.in_ok-inside.inside.room ≤ MAX_ENCODING = omega (arith, c.in_ok-inside.ensures.value.fits, c.requires.room) in
-    (search (rules, node.the_lemmas), (good_components c.args.tag fields c.requires.good, (c.requires.good.tags.0.1, (within, c.in-Ok.ensures))))
-
-pub components::read_sequence-returns-in-Ok-read_components-clause-value : goal.components::read_sequence-returns-in-Ok-read_components-clause-value
-components::read_sequence-returns-in-Ok-read_components-clause-value t c =
-    let octets = c.args.octets.now in
-    let rule = rule_of c.args.rule in
-    let components = map field_view c.args.fields.now in
-    let inside = c.in_ok-inside.inside in
-    let used = c.in-Ok-read_components.used in
-    let slots = c.read_components.new.slots in
-    let read = subst (λ x. AreComponentsRead rule components [] inside.definite inside.room x slots.items used × EndsHere inside.definite (inside.room - used) (drop used x)) (take_rest octets inside.start) c.in-Ok-read_components.ensures.value in
-    sequence_read rule c.args.tag c.args.fields.now c.args.room octets inside slots used c.close.result c.in_ok-inside.ensures.value read.0 read.1 c.close.ensures
-
-pub components::read_sequence-returns-in-Err-clause-refused : goal.components::read_sequence-returns-in-Err-clause-refused
-components::read_sequence-returns-in-Err-clause-refused t c =
-    let octets = c.args.octets.now in
-    let rule = c.args.rule in
-    let tag = c.args.tag in
-    let room = c.args.room in
-    let components = map field_view c.args.fields.now in
-    let inside = c.in_ok-inside.inside in
-    let opened = c.in_ok-inside.ensures.value in
-    refused_named c.refusal_inside.ensures
-    (refused_behind inside.start c.in-Err.ensures.refused (λ more h. components_inside (rule_of rule) tag components room octets more inside opened h) (λ k. begun_around rule (Shape.sequence tag (components_view c.args.fields.now)) tag room octets inside (refl, refl) tt opened k))
-
-pub components::read_sequence-returns-in_err-inside-clause-refused : goal.components::read_sequence-returns-in_err-inside-clause-refused
-components::read_sequence-returns-in_err-inside-clause-refused t c =
-    let octets = c.args.octets.now in
-    let rule = c.args.rule in
-    let tag = c.args.tag in
-    let room = c.args.room in
-    refused_through c.from_residual.result c.from_residual.ensures.1
-    (refused_by c.in_err-inside.ensures.refused (λ more h. record { contents = concat (standing h.encoding.encodings); part = h.part; rest = h.rest; whole = h.encoding.whole; fits = h.fits; parts = h.parts })
-    (λ k. begun_constructed rule (Shape.sequence tag (components_view c.args.fields.now)) tag room octets (refl, refl) tt k))
-
 pub components::read_components-loop-place-init : goal.components::read_components-loop-place-init
 components::read_components-loop-place-init t c =
-    (none_read (rule_of c.args.rule) (map field_view c.args.fields.now) c.args.inside.now.definite c.args.inside.now.room c.args.octets.now [] refl, c.requires.slots)
+    (none_read (rule_of c.args.rule) (map field_view c.args.fields.now) c.args.inside.now.definite c.args.inside.now.room c.args.octets.now [] refl, c.in-Ok.ensures)
 
 pub components::read_components-read_component-requires : goal.components::read_components-read_component-requires
 components::read_components-read_component-requires t c =
@@ -476,7 +313,8 @@ components::read_components-returns-in-None-clause-value t c =
     let room = c.args.inside.now.room in
     let at = c.loop-place.at in
     let ends : EndsHere d (room - at) (drop at octets) = subst₂ (λ f x. IsFront f d (room - at) x) c.in-None.is (take_rest octets at) c.in_ok-tag.ensures.value in
-    (all_read (rule_of c.args.rule) c.args.fields.now c.loop-place.place d room octets c.loop-place.slots.items at c.loop-place-test.false c.loop-place.invariant.1 c.loop-place.invariant.0, ends)
+    let read = all_read (rule_of c.args.rule) c.args.fields.now c.loop-place.place d room octets c.loop-place.slots.items at c.loop-place-test.false c.loop-place.invariant.1 c.loop-place.invariant.0 in
+    λ tag. sequence_read (rule_of c.args.rule) tag c.args.fields.now d room octets c.loop-place.slots at read ends
 
 pub components::read_component-returns-then-is_left_out-clause-value : goal.components::read_component-returns-then-is_left_out-clause-value
 components::read_component-returns-then-is_left_out-clause-value t c = λ others runs goods.
@@ -562,8 +400,8 @@ components::read_present-returns-then-is_spelt_out-clause-refused t c = refused_
     let read = subst (λ t. IsRead rule t room octets slot c.in_ok-used.used) same c.in_ok-used.ensures.value in
     none_spelt_out rule view room octets more slot c.in_ok-used.used c.requires.good read spelt h)
 
-pub members::read_members-loop-tag-init : goal.members::read_members-loop-tag-init
-members::read_members-loop-tag-init = set.members::read_members-loop-tag-init
+pub members::read_members-loop-slots-init : goal.members::read_members-loop-slots-init
+members::read_members-loop-slots-init = set.members::read_members-loop-slots-init
 
 pub members::read_members-returns-in_err-tag-clause-refused : goal.members::read_members-returns-in_err-tag-clause-refused
 members::read_members-returns-in_err-tag-clause-refused = set.members::read_members-returns-in_err-tag-clause-refused
@@ -598,39 +436,175 @@ members::read_members-returns-in_err-at-clause-refused = set.members::read_membe
 pub members::read_members-overflow_add-behind : goal.members::read_members-overflow_add-behind
 members::read_members-overflow_add-behind = set.members::read_members-overflow_add-behind
 
-pub members::read_members-loop-tag-smaller : goal.members::read_members-loop-tag-smaller
-members::read_members-loop-tag-smaller = set.members::read_members-loop-tag-smaller
+pub members::read_members-loop-slots-smaller : goal.members::read_members-loop-slots-smaller
+members::read_members-loop-slots-smaller = set.members::read_members-loop-slots-smaller
 
-pub members::read_members-loop-tag-preserved : goal.members::read_members-loop-tag-preserved
-members::read_members-loop-tag-preserved = set.members::read_members-loop-tag-preserved
+pub members::read_members-loop-slots-preserved : goal.members::read_members-loop-slots-preserved
+members::read_members-loop-slots-preserved = set.members::read_members-loop-slots-preserved
 
 pub members::read_members-are_filled-requires : goal.members::read_members-are_filled-requires
 members::read_members-are_filled-requires = set.members::read_members-are_filled-requires
 
+pub members::read_members-returns-clause-value : goal.members::read_members-returns-clause-value
+members::read_members-returns-clause-value = set.members::read_members-returns-clause-value
+
 pub members::read_members-returns-then-not-are_filled-clause-refused : goal.members::read_members-returns-then-not-are_filled-clause-refused
 members::read_members-returns-then-not-are_filled-clause-refused = set.members::read_members-returns-then-not-are_filled-clause-refused
 
-pub members::read_set-read_members-requires : goal.members::read_set-read_members-requires
-members::read_set-read_members-requires = set.members::read_set-read_members-requires
+pub parts::read_any-read_constructed-requires : goal.parts::read_any-read_constructed-requires
+parts::read_any-read_constructed-requires t c =
+    let no_leaf : IsLeaf (ty_view c.args.ty.now) → ⊥ = λ leaf. let told : false ≡ true = sym c.if-has_no_parts.false ∙ c.has_no_parts.ensures.1 leaf in absurd cc in
+    let own : IsNode (ty_view c.args.ty.now) = search (rules, node.the_lemmas, c.in_default-ty.not-Choice) in
+    (search (rules, node.the_lemmas), (parts_of_others (ty_view c.args.ty.now) no_leaf own, (c.requires.good, c.requires.room)))
 
-pub members::read_set-returns-in-Ok-read_members-clause-value : goal.members::read_set-returns-in-Ok-read_members-clause-value
-members::read_set-returns-in-Ok-read_members-clause-value = set.members::read_set-returns-in-Ok-read_members-clause-value
+pub parts::read_inside-read_components-requires : goal.parts::read_inside-read_components-requires
+parts::read_inside-read_components-requires t c =
+    let same : ty_view c.args.ty.now ≡ Shape.sequence c.in-Sequence.field-0 (components_view c.deref.result.now) = ap ty_view c.in-Sequence.is ∙ (ty-Sequence c.in-Sequence.field-0 c.in-Sequence.fields ∙ ap (λ l. Shape.sequence c.in-Sequence.field-0 (components_view l)) (sym c.deref.ensures.value)) in
+    let good = subst IsGoodType same c.requires.good in
+    (search (rules, node.the_lemmas), (good_components c.in-Sequence.field-0 c.deref.result.now good, (good.tags.0.1, c.requires.room)))
 
-pub members::read_set-returns-in-Err-clause-refused : goal.members::read_set-returns-in-Err-clause-refused
-members::read_set-returns-in-Err-clause-refused = set.members::read_set-returns-in-Err-clause-refused
+pub parts::read_inside-read_members-requires : goal.parts::read_inside-read_members-requires
+parts::read_inside-read_members-requires t c =
+    let same : ty_view c.args.ty.now ≡ Shape.set c.in-Set.field-0 (components_view c.deref-in-Set.result.now) = ap ty_view c.in-Set.is ∙ (ty-Set c.in-Set.field-0 c.in-Set.fields ∙ ap (λ l. Shape.set c.in-Set.field-0 (components_view l)) (sym c.deref-in-Set.ensures.value)) in
+    let good = subst IsGoodType same c.requires.good in
+    (search (rules, node.the_lemmas), (good_members c.in-Set.field-0 c.deref-in-Set.result.now good, (good.tags.0.1, c.requires.room)))
 
-pub members::read_set-returns-in_err-inside-clause-refused : goal.members::read_set-returns-in_err-inside-clause-refused
-members::read_set-returns-in_err-inside-clause-refused = set.members::read_set-returns-in_err-inside-clause-refused
-
-pub parts::read_explicit-returns-in_err-inside-clause-refused : goal.parts::read_explicit-returns-in_err-inside-clause-refused
-parts::read_explicit-returns-in_err-inside-clause-refused t c =
+pub parts::read_constructed-returns-in_err-inside-clause-refused : goal.parts::read_constructed-returns-in_err-inside-clause-refused
+parts::read_constructed-returns-in_err-inside-clause-refused t c =
     let octets = c.args.octets.now in
     let rule = c.args.rule in
-    let tag = c.args.tag in
+    let type = ty_view c.args.ty.now in
     let room = c.args.room in
+    let tag = c.in-Some.tag in
     refused_through c.from_residual.result c.from_residual.ensures.1
-    (refused_by c.in_err-inside.ensures.refused (λ more h. record { contents = h.encoding.inner; part = h.part; rest = h.rest; whole = h.encoding.whole; fits = h.fits; parts = h.parts })
-    (λ k. begun_constructed rule (Shape.explicit tag (ty_view c.args.inner.now)) tag room octets (refl, refl) tt k))
+    (refused_by c.in_err-inside.ensures.refused (λ more h. constructed_of (rule_of rule) type tag room (octets ++ more) c.requires.parts c.in-Some.ensures.value h)
+    (λ k. begun_constructed rule type tag room octets (node_of_parts type tag c.requires.parts c.in-Some.ensures.value) (can_of_parts rule type c.requires.parts) k))
+
+pub parts::read_constructed-returns-in-Ok-clause-value : goal.parts::read_constructed-returns-in-Ok-clause-value
+parts::read_constructed-returns-in-Ok-clause-value t c =
+    let octets = c.args.octets.now in
+    let rule = rule_of c.args.rule in
+    let type = ty_view c.args.ty.now in
+    let inside = c.in_ok-inside.inside in
+    let used = c.in-Ok.used in
+    let slot = c.read_inside.new.slot in
+    let read = subst (λ x. IsInsideRead rule type inside.definite inside.room x slot used) (take_rest octets inside.start) c.in-Ok.ensures.value in
+    constructed_read rule type c.in-Some.tag c.args.room octets inside slot used c.close.result c.in-Some.ensures.value c.in_ok-inside.ensures.value read c.close.ensures
+
+pub parts::read_constructed-returns-in-Err-clause-refused : goal.parts::read_constructed-returns-in-Err-clause-refused
+parts::read_constructed-returns-in-Err-clause-refused t c =
+    let octets = c.args.octets.now in
+    let rule = c.args.rule in
+    let type = ty_view c.args.ty.now in
+    let room = c.args.room in
+    let tag = c.in-Some.tag in
+    let own = c.in-Some.ensures.value in
+    let parts = c.requires.parts in
+    let inside = c.in_ok-inside.inside in
+    let opened = c.in_ok-inside.ensures.value in
+    refused_named c.refusal_inside.ensures
+    (refused_behind inside.start c.in-Err.ensures.refused (λ more h. inside_of (rule_of rule) type tag room octets more inside parts own opened h)
+    (λ k. begun_around rule type tag room octets inside (node_of_parts type tag parts own) (can_of_parts rule type parts) opened k))
+
+pub parts::read_inside-returns-in-Sequence-clause-value : goal.parts::read_inside-returns-in-Sequence-clause-value
+parts::read_inside-returns-in-Sequence-clause-value t c =
+    let octets = c.args.octets.now in
+    let rule = c.args.rule in
+    let d = c.args.inside.now.definite in
+    let room = c.args.inside.now.room in
+    let same : ty_view c.args.ty.now ≡ Shape.sequence c.in-Sequence.field-0 (components_view c.deref.result.now) = ap ty_view c.in-Sequence.is ∙ (ty-Sequence c.in-Sequence.field-0 c.in-Sequence.fields ∙ ap (λ l. Shape.sequence c.in-Sequence.field-0 (components_view l)) (sym c.deref.ensures.value)) in
+    IfOk-map c.read_components.result _ (λ used. IsInsideRead (rule_of rule) (ty_view c.args.ty.now) d room octets c.read_components.new.slot used)
+    (λ used h. subst (λ shape. IsInsideRead (rule_of rule) shape d room octets c.read_components.new.slot used) (sym same) (h c.in-Sequence.field-0)) c.read_components.ensures.value
+
+pub parts::read_inside-returns-in-Sequence-clause-refused : goal.parts::read_inside-returns-in-Sequence-clause-refused
+parts::read_inside-returns-in-Sequence-clause-refused t c =
+    let octets = c.args.octets.now in
+    let rule = c.args.rule in
+    let d = c.args.inside.now.definite in
+    let room = c.args.inside.now.room in
+    let same : ty_view c.args.ty.now ≡ Shape.sequence c.in-Sequence.field-0 (components_view c.deref.result.now) = ap ty_view c.in-Sequence.is ∙ (ty-Sequence c.in-Sequence.field-0 c.in-Sequence.fields ∙ ap (λ l. Shape.sequence c.in-Sequence.field-0 (components_view l)) (sym c.deref.ensures.value)) in
+    IfErr-map c.read_components.result _ (RefusesStrictly (HasInside (rule_of rule) (ty_view c.args.ty.now) d room) (AreFewer d room) octets)
+    (λ refusal h. refused_by h (λ more k. components_inside (rule_of rule) c.in-Sequence.field-0 (map field_view c.deref.result.now) d room (octets ++ more) (subst (λ shape. HasInside (rule_of rule) shape d room (octets ++ more)) same k)) (λ k. k)) c.read_components.ensures.refused
+
+pub parts::read_inside-returns-in-Set-clause-value : goal.parts::read_inside-returns-in-Set-clause-value
+parts::read_inside-returns-in-Set-clause-value t c =
+    let octets = c.args.octets.now in
+    let rule = c.args.rule in
+    let d = c.args.inside.now.definite in
+    let room = c.args.inside.now.room in
+    let same : ty_view c.args.ty.now ≡ Shape.set c.in-Set.field-0 (components_view c.deref-in-Set.result.now) = ap ty_view c.in-Set.is ∙ (ty-Set c.in-Set.field-0 c.in-Set.fields ∙ ap (λ l. Shape.set c.in-Set.field-0 (components_view l)) (sym c.deref-in-Set.ensures.value)) in
+    IfOk-map c.read_members.result _ (λ used. IsInsideRead (rule_of rule) (ty_view c.args.ty.now) d room octets c.read_members.new.slot used)
+    (λ used h. subst (λ shape. IsInsideRead (rule_of rule) shape d room octets c.read_members.new.slot used) (sym same) (h c.in-Set.field-0)) c.read_members.ensures.value
+
+pub parts::read_inside-returns-in-Set-clause-refused : goal.parts::read_inside-returns-in-Set-clause-refused
+parts::read_inside-returns-in-Set-clause-refused t c =
+    let octets = c.args.octets.now in
+    let rule = c.args.rule in
+    let d = c.args.inside.now.definite in
+    let room = c.args.inside.now.room in
+    let same : ty_view c.args.ty.now ≡ Shape.set c.in-Set.field-0 (components_view c.deref-in-Set.result.now) = ap ty_view c.in-Set.is ∙ (ty-Set c.in-Set.field-0 c.in-Set.fields ∙ ap (λ l. Shape.set c.in-Set.field-0 (components_view l)) (sym c.deref-in-Set.ensures.value)) in
+    IfErr-map c.read_members.result _ (RefusesStrictly (HasInside (rule_of rule) (ty_view c.args.ty.now) d room) (AreFewer d room) octets)
+    (λ refusal h. refused_by h (λ more k. members_inside rule c.in-Set.field-0 (map field_view c.deref-in-Set.result.now) d room (octets ++ more) (subst (λ shape. HasInside (rule_of rule) shape d room (octets ++ more)) same k)) (λ k. k)) c.read_members.ensures.refused
+
+pub parts::read_inside-returns-in-SequenceOf-clause-value : goal.parts::read_inside-returns-in-SequenceOf-clause-value
+parts::read_inside-returns-in-SequenceOf-clause-value t c =
+    let octets = c.args.octets.now in
+    let rule = c.args.rule in
+    let d = c.args.inside.now.definite in
+    let room = c.args.inside.now.room in
+    let same : ty_view c.args.ty.now ≡ Shape.sequence_of c.in-SequenceOf.field-0 (ty_view c.deref-in-SequenceOf.result.now) = ap ty_view c.in-SequenceOf.is ∙ (ty-SequenceOf c.in-SequenceOf.field-0 c.in-SequenceOf.inner ∙ ap (λ l. Shape.sequence_of c.in-SequenceOf.field-0 (ty_view l)) (sym c.deref-in-SequenceOf.ensures)) in
+    IfOk-map c.read_items.result _ (λ used. IsInsideRead (rule_of rule) (ty_view c.args.ty.now) d room octets c.read_items.new.slot used)
+    (λ used h. subst (λ shape. IsInsideRead (rule_of rule) shape d room octets c.read_items.new.slot used) (sym same) (h c.in-SequenceOf.field-0)) c.read_items.ensures.value
+
+pub parts::read_inside-returns-in-SequenceOf-clause-refused : goal.parts::read_inside-returns-in-SequenceOf-clause-refused
+parts::read_inside-returns-in-SequenceOf-clause-refused t c =
+    let octets = c.args.octets.now in
+    let rule = c.args.rule in
+    let d = c.args.inside.now.definite in
+    let room = c.args.inside.now.room in
+    let same : ty_view c.args.ty.now ≡ Shape.sequence_of c.in-SequenceOf.field-0 (ty_view c.deref-in-SequenceOf.result.now) = ap ty_view c.in-SequenceOf.is ∙ (ty-SequenceOf c.in-SequenceOf.field-0 c.in-SequenceOf.inner ∙ ap (λ l. Shape.sequence_of c.in-SequenceOf.field-0 (ty_view l)) (sym c.deref-in-SequenceOf.ensures)) in
+    IfErr-map c.read_items.result _ (RefusesStrictly (HasInside (rule_of rule) (ty_view c.args.ty.now) d room) (AreFewer d room) octets)
+    (λ refusal h. refused_by h (λ more k. items_inside rule false c.in-SequenceOf.field-0 (ty_view c.deref-in-SequenceOf.result.now) d room (octets ++ more) (subst (λ shape. HasInside (rule_of rule) shape d room (octets ++ more)) same k)) (λ k. k)) c.read_items.ensures.refused
+
+pub parts::read_inside-returns-in-SetOf-clause-value : goal.parts::read_inside-returns-in-SetOf-clause-value
+parts::read_inside-returns-in-SetOf-clause-value t c =
+    let octets = c.args.octets.now in
+    let rule = c.args.rule in
+    let d = c.args.inside.now.definite in
+    let room = c.args.inside.now.room in
+    let same : ty_view c.args.ty.now ≡ Shape.set_of c.in-SetOf.field-0 (ty_view c.deref-in-SetOf.result.now) = ap ty_view c.in-SetOf.is ∙ (ty-SetOf c.in-SetOf.field-0 c.in-SetOf.inner ∙ ap (λ l. Shape.set_of c.in-SetOf.field-0 (ty_view l)) (sym c.deref-in-SetOf.ensures)) in
+    IfOk-map c.read_items-in-SetOf.result _ (λ used. IsInsideRead (rule_of rule) (ty_view c.args.ty.now) d room octets c.read_items-in-SetOf.new.slot used)
+    (λ used h. subst (λ shape. IsInsideRead (rule_of rule) shape d room octets c.read_items-in-SetOf.new.slot used) (sym same) (h c.in-SetOf.field-0)) c.read_items-in-SetOf.ensures.value
+
+pub parts::read_inside-returns-in-SetOf-clause-refused : goal.parts::read_inside-returns-in-SetOf-clause-refused
+parts::read_inside-returns-in-SetOf-clause-refused t c =
+    let octets = c.args.octets.now in
+    let rule = c.args.rule in
+    let d = c.args.inside.now.definite in
+    let room = c.args.inside.now.room in
+    let same : ty_view c.args.ty.now ≡ Shape.set_of c.in-SetOf.field-0 (ty_view c.deref-in-SetOf.result.now) = ap ty_view c.in-SetOf.is ∙ (ty-SetOf c.in-SetOf.field-0 c.in-SetOf.inner ∙ ap (λ l. Shape.set_of c.in-SetOf.field-0 (ty_view l)) (sym c.deref-in-SetOf.ensures)) in
+    IfErr-map c.read_items-in-SetOf.result _ (RefusesStrictly (HasInside (rule_of rule) (ty_view c.args.ty.now) d room) (AreFewer d room) octets)
+    (λ refusal h. refused_by h (λ more k. items_inside rule true c.in-SetOf.field-0 (ty_view c.deref-in-SetOf.result.now) d room (octets ++ more) (subst (λ shape. HasInside (rule_of rule) shape d room (octets ++ more)) same k)) (λ k. k)) c.read_items-in-SetOf.ensures.refused
+
+pub parts::read_inside-returns-in-Explicit-clause-value : goal.parts::read_inside-returns-in-Explicit-clause-value
+parts::read_inside-returns-in-Explicit-clause-value t c =
+    let octets = c.args.octets.now in
+    let rule = c.args.rule in
+    let d = c.args.inside.now.definite in
+    let room = c.args.inside.now.room in
+    let same : ty_view c.args.ty.now ≡ Shape.explicit c.in-Explicit.field-0 (ty_view c.deref-in-Explicit.result.now) = ap ty_view c.in-Explicit.is ∙ (ty-Explicit c.in-Explicit.field-0 c.in-Explicit.inner ∙ ap (λ l. Shape.explicit c.in-Explicit.field-0 (ty_view l)) (sym c.deref-in-Explicit.ensures)) in
+    IfOk-map c.read_alone.result _ (λ used. IsInsideRead (rule_of rule) (ty_view c.args.ty.now) d room octets c.read_alone.new.slot used)
+    (λ used h. subst (λ shape. IsInsideRead (rule_of rule) shape d room octets c.read_alone.new.slot used) (sym same) (explicit_read (rule_of rule) c.in-Explicit.field-0 (ty_view c.deref-in-Explicit.result.now) d room octets c.read_alone.new.slot used h.0 h.1)) c.read_alone.ensures.value
+
+pub parts::read_inside-returns-in-Explicit-clause-refused : goal.parts::read_inside-returns-in-Explicit-clause-refused
+parts::read_inside-returns-in-Explicit-clause-refused t c =
+    let octets = c.args.octets.now in
+    let rule = c.args.rule in
+    let d = c.args.inside.now.definite in
+    let room = c.args.inside.now.room in
+    let same : ty_view c.args.ty.now ≡ Shape.explicit c.in-Explicit.field-0 (ty_view c.deref-in-Explicit.result.now) = ap ty_view c.in-Explicit.is ∙ (ty-Explicit c.in-Explicit.field-0 c.in-Explicit.inner ∙ ap (λ l. Shape.explicit c.in-Explicit.field-0 (ty_view l)) (sym c.deref-in-Explicit.ensures)) in
+    IfErr-map c.read_alone.result _ (RefusesStrictly (HasInside (rule_of rule) (ty_view c.args.ty.now) d room) (AreFewer d room) octets)
+    (λ refusal h. refused_by h (λ more k. alone_inside (rule_of rule) c.in-Explicit.field-0 (ty_view c.deref-in-Explicit.result.now) d room (octets ++ more) (subst (λ shape. HasInside (rule_of rule) shape d room (octets ++ more)) same k)) (λ k. k)) c.read_alone.ensures.refused
 
 pub parts::read_alone-returns-in_err-used-clause-refused : goal.parts::read_alone-returns-in_err-used-clause-refused
 parts::read_alone-returns-in_err-used-clause-refused t c =

@@ -1,7 +1,7 @@
 use Rattle.std.proofs.Common.{◌≡◌, length, map, take, drop, ◌-◌}
 use Rattle.types.specs.View.{ty_view, field_view}
 use Rattle.strict.specs.Canonical.{rule_of}
-use Rattle.strict.specs.Items.{AreOrderedRead, AreItemsRead}
+use Rattle.strict.specs.Items.{AreItemsRead}
 use Rattle.strict.specs.Components.{AreComponentsRead}
 use Rattle.strict.specs.Members.{AreMembersRead}
 use Rattle.strict.proofs.+reading.Given as goal
@@ -11,20 +11,14 @@ invariant-components::read_components-loop-place l =
     AreComponentsRead (rule_of l.rule) (map field_view (take l.place l.fields)) (map field_view (drop l.place l.fields)) l.inside.definite l.inside.room l.octets (take l.place l.slots.items) l.at
     × (length l.slots.items ≡ length l.fields)
 
-abbrev pub invariant-items::read_items-loop-item : goal.invariant-items::read_items-loop-item
-invariant-items::read_items-loop-item l = AreItemsRead (rule_of l.rule) (ty_view l.inner) l.inside.definite l.inside.room l.octets l.items.items l.at
+abbrev pub invariant-items::read_items-loop-items : goal.invariant-items::read_items-loop-items
+invariant-items::read_items-loop-items l = AreItemsRead (rule_of l.rule) (ty_view l.inner) l.ordered l.inside.definite l.inside.room l.octets l.items.items l.before l.at
 
-abbrev pub decreases-items::read_items-loop-item : goal.decreases-items::read_items-loop-item
-decreases-items::read_items-loop-item l = length l.octets - l.at
+abbrev pub decreases-items::read_items-loop-items : goal.decreases-items::read_items-loop-items
+decreases-items::read_items-loop-items l = length l.octets - l.at
 
-abbrev pub invariant-items::read_ordered-loop-item : goal.invariant-items::read_ordered-loop-item
-invariant-items::read_ordered-loop-item l = AreOrderedRead (rule_of l.rule) (ty_view l.inner) l.inside.definite l.inside.room l.octets l.items.items l.before l.at
+abbrev pub invariant-members::read_members-loop-slots : goal.invariant-members::read_members-loop-slots
+invariant-members::read_members-loop-slots l = AreMembersRead (rule_of l.rule) (map field_view l.fields) l.slots.items l.last l.inside.definite l.inside.room l.octets l.at
 
-abbrev pub decreases-items::read_ordered-loop-item : goal.decreases-items::read_ordered-loop-item
-decreases-items::read_ordered-loop-item l = length l.octets - l.at
-
-abbrev pub invariant-members::read_members-loop-tag : goal.invariant-members::read_members-loop-tag
-invariant-members::read_members-loop-tag l = AreMembersRead (rule_of l.rule) (map field_view l.fields) l.slots.items l.last l.inside.definite l.inside.room l.octets l.at
-
-abbrev pub decreases-members::read_members-loop-tag : goal.decreases-members::read_members-loop-tag
-decreases-members::read_members-loop-tag l = length l.octets - l.at
+abbrev pub decreases-members::read_members-loop-slots : goal.decreases-members::read_members-loop-slots
+decreases-members::read_members-loop-slots l = length l.octets - l.at

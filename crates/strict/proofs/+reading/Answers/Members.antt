@@ -1,30 +1,26 @@
 -- What is answered of the readers of a SET.
-use Rattle.std.proofs.Common.{rules, ◌≡◌, ◌-◌, ◌≤◌, ◌++◌, ℕ, List, Option, Some, None, length, map, take, drop, true, false, sym, ap, ◌∙◌, subst, subst₂, arith, refl}
-use Rattle.std.specs.List.{concat}
+use Rattle.std.proofs.Common.{rules, ◌≡◌, ◌-◌, ◌++◌, ℕ, List, Option, Some, None, length, map, take, drop, true, false, sym, ap, ◌∙◌, subst, subst₂, arith}
 use Rattle.std.proofs.lemmas.List.{take_rest, length-drop, length-map}
-use Rattle.octets.specs.declared.TheConstants.{MAX_ENCODING}
-use Rattle.octets.specs.declared.tag.Tag.{Tag}
 use Rattle.types.specs.declared.value.Value.{Value}
-use Rattle.types.specs.Shape.{Shape}
-use Rattle.types.specs.View.{field_view, components_view}
+use Rattle.types.specs.View.{field_view}
 use Rattle.types.specs.declared.ty.Ty as node
 use Rattle.types.specs.declared.ty.Field as field
 use Rattle.encoding_parts.specs.Parts.{IsGoodType, IsGoodComponent}
 use Rattle.strict.specs.Canonical.{rule_of}
 use Rattle.strict.specs.Head.{EndsHere}
 use Rattle.strict.specs.Components.{IsFront, IsPresentRead}
-use Rattle.strict.specs.Members.{IsBegunAt, IsEmptyAt, IsOrderTagOf, HasMembers, AreMembersRead, AreFilled}
-use Rattle.strict.proofs.BarsLemmas.{refused_for_good, refused_by, refused_behind, refused_named, refused_through}
+use Rattle.strict.specs.Members.{IsBegunAt, IsEmptyAt, IsOrderTagOf, HasMembers, AreFilled}
+use Rattle.strict.proofs.BarsLemmas.{refused_for_good, refused_behind, refused_through}
 use Rattle.strict.proofs.PartLemmas.{read_some}
 use Rattle.strict.proofs.FieldLemmas.{field_type}
 use Rattle.strict.proofs.BegunLemmas.{begun_within}
 use Rattle.strict.proofs.DueLemmas.{members_begin, members_filled, none_goes_on, is_due, present_due, none_before, begun_at, component_all}
-use Rattle.strict.proofs.SetLemmas.{come_length, no_members, member_more, set_read, members_inside, good_members}
-use Rattle.strict.proofs.EndingLemmas.{fewer_behind, less_behind, begun_constructed, begun_around}
+use Rattle.strict.proofs.SetLemmas.{come_length, no_members, member_more, set_read}
+use Rattle.strict.proofs.EndingLemmas.{fewer_behind, less_behind}
 use Rattle.strict.proofs.+reading.Goals as goal
 
-pub members::read_members-loop-tag-init : goal.members::read_members-loop-tag-init
-members::read_members-loop-tag-init t c = no_members (rule_of c.args.rule) (map field_view c.args.fields.now) c.args.inside.now.definite c.args.inside.now.room c.args.octets.now c.args.slots.now.items c.requires.none
+pub members::read_members-loop-slots-init : goal.members::read_members-loop-slots-init
+members::read_members-loop-slots-init t c = no_members (rule_of c.args.rule) (map field_view c.args.fields.now) c.args.inside.now.definite c.args.inside.now.room c.args.octets.now c.in-Ok.empty.items c.in-Ok.ensures
 
 pub members::read_members-returns-in_err-tag-clause-refused : goal.members::read_members-returns-in_err-tag-clause-refused
 members::read_members-returns-in_err-tag-clause-refused t c =
@@ -34,18 +30,18 @@ members::read_members-returns-in_err-tag-clause-refused t c =
     let cs = map field_view fields in
     let d = c.args.inside.now.definite in
     let room = c.args.inside.now.room in
-    let at = c.loop-tag.at in
-    let slots = c.loop-tag.slots.items in
-    let last = c.loop-tag.last in
-    let read = c.loop-tag.invariant in
+    let at = c.loop-slots.at in
+    let slots = c.loop-slots.slots.items in
+    let last = c.loop-slots.last in
+    let read = c.loop-slots.invariant in
     refused_through c.from_residual.result c.from_residual.ensures.1
     (refused_behind at c.in_err-tag.ensures.refused (λ more h. members_begin rule cs slots last d (room - at) (drop at octets ++ more) c.requires.good (read.forth more h)) (λ k. fewer_behind d room at octets read.within read.there k))
 
 pub members::read_members-place_due-requires-clause-slots : goal.members::read_members-place_due-requires-clause-slots
 members::read_members-place_due-requires-clause-slots t c =
     let fields = c.args.fields.now in
-    let read = c.loop-tag.invariant in
-    ap length c.deref.ensures.value ∙ (come_length (rule_of c.args.rule) (map field_view fields) c.loop-tag.slots.items read.encodings read.each ∙ length-map fields field_view)
+    let read = c.loop-slots.invariant in
+    ap length c.deref.ensures.value ∙ (come_length (rule_of c.args.rule) (map field_view fields) c.loop-slots.slots.items read.encodings read.each ∙ length-map fields field_view)
 
 pub members::read_members-returns-in_err-place-clause-refused : goal.members::read_members-returns-in_err-place-clause-refused
 members::read_members-returns-in_err-place-clause-refused t c =
@@ -55,10 +51,10 @@ members::read_members-returns-in_err-place-clause-refused t c =
     let cs = map field_view fields in
     let d = c.args.inside.now.definite in
     let room = c.args.inside.now.room in
-    let at = c.loop-tag.at in
-    let slots = c.loop-tag.slots.items in
-    let last = c.loop-tag.last in
-    let read = c.loop-tag.invariant in
+    let at = c.loop-slots.at in
+    let slots = c.loop-slots.slots.items in
+    let last = c.loop-slots.last in
+    let read = c.loop-slots.invariant in
     let tag = c.in-Some.tag in
     let front : IsFront (Some tag) d (room - at) (drop at octets) = subst₂ (λ f x. IsFront f d (room - at) x) c.in-Some.is (take_rest octets at) c.in_ok-tag.ensures.value in
     let none = subst (λ (l : List (Option Value)). (place : ℕ) → IsBegunAt cs place tag → IsEmptyAt l place → ⊥) c.deref.ensures.value c.in_err-place.ensures.never in
@@ -92,10 +88,10 @@ members::read_members-returns-then-not-comes_behind-clause-refused t c = refused
     let cs = map field_view fields in
     let d = c.args.inside.now.definite in
     let room = c.args.inside.now.room in
-    let at = c.loop-tag.at in
-    let slots = c.loop-tag.slots.items in
-    let last = c.loop-tag.last in
-    let read = c.loop-tag.invariant in
+    let at = c.loop-slots.at in
+    let slots = c.loop-slots.slots.items in
+    let last = c.loop-slots.last in
+    let read = c.loop-slots.invariant in
     let tag = c.in-Some.tag in
     let front : IsFront (Some tag) d (room - at) (drop at octets) = subst₂ (λ f x. IsFront f d (room - at) x) c.in-Some.is (take_rest octets at) c.in_ok-tag.ensures.value in
     let place = c.in_ok-place.place in
@@ -114,8 +110,8 @@ members::read_members-index_mut-requires t c =
     let rule = rule_of c.args.rule in
     let fields = c.args.fields.now in
     let cs = map field_view fields in
-    let slots = c.loop-tag.slots.items in
-    let read = c.loop-tag.invariant in
+    let slots = c.loop-slots.slots.items in
+    let read = c.loop-slots.invariant in
     let tag = c.in-Some.tag in
     let place = c.in_ok-place.place in
     let begun : IsBegunAt cs place tag = c.in_ok-place.ensures.value.0 in
@@ -144,10 +140,10 @@ members::read_members-returns-in_err-at-clause-refused t c =
     let cs = map field_view fields in
     let d = c.args.inside.now.definite in
     let room = c.args.inside.now.room in
-    let at = c.loop-tag.at in
-    let slots = c.loop-tag.slots.items in
-    let last = c.loop-tag.last in
-    let read = c.loop-tag.invariant in
+    let at = c.loop-slots.at in
+    let slots = c.loop-slots.slots.items in
+    let last = c.loop-slots.last in
+    let read = c.loop-slots.invariant in
     let tag = c.in-Some.tag in
     let front : IsFront (Some tag) d (room - at) (drop at octets) = subst₂ (λ f x. IsFront f d (room - at) x) c.in-Some.is (take_rest octets at) c.in_ok-tag.ensures.value in
     let place = c.in_ok-place.place in
@@ -164,15 +160,15 @@ members::read_members-returns-in_err-at-clause-refused t c =
 pub members::read_members-overflow_add-behind : goal.members::read_members-overflow_add-behind
 members::read_members-overflow_add-behind t c = search (rules, begun_within c.args.fields.now c.in_ok-place.place c.in-Some.tag c.in_ok-place.ensures.value.0)
 
-pub members::read_members-loop-tag-smaller : goal.members::read_members-loop-tag-smaller
-members::read_members-loop-tag-smaller t c =
+pub members::read_members-loop-slots-smaller : goal.members::read_members-loop-slots-smaller
+members::read_members-loop-slots-smaller t c =
     let octets = c.args.octets.now in
     let rule = rule_of c.args.rule in
     let fields = c.args.fields.now in
     let cs = map field_view fields in
     let room = c.args.inside.now.room in
-    let at = c.loop-tag.at in
-    let read = c.loop-tag.invariant in
+    let at = c.loop-slots.at in
+    let read = c.loop-slots.invariant in
     let tag = c.in-Some.tag in
     let place = c.in_ok-place.place in
     let begun : IsBegunAt cs place tag = c.in_ok-place.ensures.value.0 in
@@ -185,18 +181,18 @@ members::read_members-loop-tag-smaller t c =
     let some = read_some rule view.type (room - at) (drop at octets) c.read_present.new.slot used good.type one.0 in
     omega (arith, some, one.0.0, length-drop at octets, read.there)
 
-pub members::read_members-loop-tag-preserved : goal.members::read_members-loop-tag-preserved
-members::read_members-loop-tag-preserved t c =
+pub members::read_members-loop-slots-preserved : goal.members::read_members-loop-slots-preserved
+members::read_members-loop-slots-preserved t c =
     let octets = c.args.octets.now in
     let rule = rule_of c.args.rule in
     let fields = c.args.fields.now in
     let cs = map field_view fields in
     let d = c.args.inside.now.definite in
     let room = c.args.inside.now.room in
-    let at = c.loop-tag.at in
-    let slots = c.loop-tag.slots.items in
-    let last = c.loop-tag.last in
-    let read = c.loop-tag.invariant in
+    let at = c.loop-slots.at in
+    let slots = c.loop-slots.slots.items in
+    let last = c.loop-slots.last in
+    let read = c.loop-slots.invariant in
     let inner = take (length octets - at) (drop at octets) in
     let all : inner ≡ drop at octets = take_rest octets at in
     let tag = c.in-Some.tag in
@@ -218,8 +214,8 @@ members::read_members-loop-tag-preserved t c =
 pub members::read_members-are_filled-requires : goal.members::read_members-are_filled-requires
 members::read_members-are_filled-requires t c =
     let fields = c.args.fields.now in
-    let read = c.loop-tag.invariant in
-    ap length c.deref-2.ensures.value ∙ (come_length (rule_of c.args.rule) (map field_view fields) c.loop-tag.slots.items read.encodings read.each ∙ length-map fields field_view)
+    let read = c.loop-slots.invariant in
+    ap length c.deref-2.ensures.value ∙ (come_length (rule_of c.args.rule) (map field_view fields) c.loop-slots.slots.items read.encodings read.each ∙ length-map fields field_view)
 
 pub members::read_members-returns-then-not-are_filled-clause-refused : goal.members::read_members-returns-then-not-are_filled-clause-refused
 members::read_members-returns-then-not-are_filled-clause-refused t c = refused_for_good (tt, tt) (λ more h.
@@ -229,51 +225,26 @@ members::read_members-returns-then-not-are_filled-clause-refused t c = refused_f
     let cs = map field_view fields in
     let d = c.args.inside.now.definite in
     let room = c.args.inside.now.room in
-    let at = c.loop-tag.at in
-    let slots = c.loop-tag.slots.items in
-    let last = c.loop-tag.last in
-    let read = c.loop-tag.invariant in
-    let none : c.in_ok-tag.field-0 ≡ None = c.in_default.is in
+    let at = c.loop-slots.at in
+    let slots = c.loop-slots.slots.items in
+    let last = c.loop-slots.last in
+    let read = c.loop-slots.invariant in
+    let none : c.in_ok-tag.field-0 ≡ None = c.in_default-2.is in
     let ends : EndsHere d (room - at) (drop at octets) = subst₂ (λ f x. IsFront f d (room - at) x) none (take_rest octets at) c.in_ok-tag.ensures.value in
     let filled = members_filled rule cs slots last d (room - at) (drop at octets) more c.requires.good ends (read.forth more h) in
     let yes : c.are_filled.result ≡ true = c.are_filled.ensures.1 (subst (λ (l : List (Option Value)). AreFilled cs l) (sym c.deref-2.ensures.value) filled) in
     search (rules, yes))
 
-pub members::read_set-read_members-requires : goal.members::read_set-read_members-requires
-members::read_set-read_members-requires t c =
-    let fields = c.args.fields.now in
-    let within : c.in_ok-inside.inside.room ≤ MAX_ENCODING = omega (arith, c.in_ok-inside.ensures.value.fits, c.requires.room) in
-    (search (rules, node.the_lemmas), (good_members c.args.tag fields c.requires.good, (c.requires.good.tags.0.1, (within, c.in-Ok.ensures))))
-
-pub members::read_set-returns-in-Ok-read_members-clause-value : goal.members::read_set-returns-in-Ok-read_members-clause-value
-members::read_set-returns-in-Ok-read_members-clause-value t c =
+pub members::read_members-returns-clause-value : goal.members::read_members-returns-clause-value
+members::read_members-returns-clause-value t c = λ tag.
     let octets = c.args.octets.now in
     let rule = rule_of c.args.rule in
-    let cs = map field_view c.args.fields.now in
-    let inside = c.in_ok-inside.inside in
-    let used = c.in-Ok-read_members.used in
-    let slots = c.read_members.new.slots in
-    let read = subst (λ x. AreFilled cs slots.items × ((last : Option Tag) × AreMembersRead rule cs slots.items last inside.definite inside.room x used) × EndsHere inside.definite (inside.room - used) (drop used x)) (take_rest octets inside.start) c.in-Ok-read_members.ensures.value in
-    set_read rule c.args.tag c.args.fields.now c.args.room octets inside slots read.1.0 used c.close.result c.in_ok-inside.ensures.value read.0 read.1.1 read.2 c.close.ensures
-
-pub members::read_set-returns-in-Err-clause-refused : goal.members::read_set-returns-in-Err-clause-refused
-members::read_set-returns-in-Err-clause-refused t c =
-    let octets = c.args.octets.now in
-    let rule = c.args.rule in
-    let tag = c.args.tag in
-    let room = c.args.room in
-    let components = map field_view c.args.fields.now in
-    let inside = c.in_ok-inside.inside in
-    let opened = c.in_ok-inside.ensures.value in
-    refused_named c.refusal_inside.ensures
-    (refused_behind inside.start c.in-Err.ensures.refused (λ more h. members_inside rule tag components room octets more inside opened h) (λ k. begun_around rule (Shape.set tag (components_view c.args.fields.now)) tag room octets inside (refl, refl) tt opened k))
-
-pub members::read_set-returns-in_err-inside-clause-refused : goal.members::read_set-returns-in_err-inside-clause-refused
-members::read_set-returns-in_err-inside-clause-refused t c =
-    let octets = c.args.octets.now in
-    let rule = c.args.rule in
-    let tag = c.args.tag in
-    let room = c.args.room in
-    refused_through c.from_residual.result c.from_residual.ensures.1
-    (refused_by c.in_err-inside.ensures.refused (λ more h. record { contents = concat h.encoding.order; part = h.part; rest = h.rest; whole = h.encoding.whole; fits = h.fits; parts = h.parts })
-    (λ k. begun_constructed rule (Shape.set tag (components_view c.args.fields.now)) tag room octets (refl, refl) tt k))
+    let fields = c.args.fields.now in
+    let d = c.args.inside.now.definite in
+    let room = c.args.inside.now.room in
+    let at = c.loop-slots.at in
+    let none : c.in_ok-tag.field-0 ≡ None = c.in_default-2.is in
+    let ends : EndsHere d (room - at) (drop at octets) = subst₂ (λ f x. IsFront f d (room - at) x) none (take_rest octets at) c.in_ok-tag.ensures.value in
+    let on : c.are_filled.result ≡ true = search rules in
+    let filled = subst (λ (l : List (Option Value)). AreFilled (map field_view fields) l) c.deref-2.ensures.value (c.are_filled.ensures.0 on) in
+    set_read rule tag fields d room octets c.loop-slots.slots c.loop-slots.last at filled c.loop-slots.invariant ends
