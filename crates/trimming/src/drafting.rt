@@ -4,7 +4,7 @@ use crate::node::State;
 use crate::trimmer::{Draft, Trimmer};
 use published::{Form, Place, Reference, Simple, Type};
 use std::alloc::{AllocError, Global};
-use syntax::{Expr, Group};
+use syntax::Expr;
 use trim_rules::{Cause, Root, in_profile, is_left_out_string, name_of_left_out};
 
 impl<'a> Trimmer<'a> {
@@ -23,13 +23,11 @@ impl<'a> Trimmer<'a> {
             Form::Simple(simple) => self.simple(alloc, ty.place, *simple),
             Form::Reference(reference) => self.reference(alloc, reference),
             Form::Tagged(tag, inner) => self.tagged(alloc, ty.place, tag, inner),
-            Form::List(group, components) => {
-                self.list(alloc, ty.place, group_of(*group), components)
-            }
+            Form::List(group, components) => self.list(alloc, ty.place, *group, components),
             Form::Of(group, _, inner) => {
                 let inner = self.draft(alloc, inner)?.expr;
                 let inner = Box::new(alloc, inner)?;
-                Ok(Draft::whole(Expr::Of(group_of(*group), inner)))
+                Ok(Draft::whole(Expr::Of(*group, inner)))
             }
             Form::Choice(alternatives) => self.choice(alloc, ty.place, alternatives),
             _ => self.other(alloc, ty),
@@ -112,13 +110,5 @@ impl<'a> Trimmer<'a> {
             Some(node) if node.state == State::Done => node.root,
             _ => Root::Other,
         }
-    }
-}
-
-/// The word that a list begins with.
-pub fn group_of(group: published::Group) -> Group {
-    match group {
-        published::Group::Sequence => Group::Sequence,
-        published::Group::Set => Group::Set,
     }
 }

@@ -1,6 +1,5 @@
 //! COMPONENTS OF (X.680 25.5).
 
-use crate::drafting::group_of;
 use crate::lists::has_tags;
 use crate::node::{Node, State};
 use crate::trimmer::Trimmer;
@@ -68,7 +67,7 @@ impl<'a> Trimmer<'a> {
             return Some(Cause::Within(node.word.name.as_str(), place));
         }
         match &node.body.form {
-            Form::List(group, components) if group_of(*group) == at.group => {
+            Form::List(group, components) if *group == at.group => {
                 self.cause_against_list(at, node, components)
             }
             _ => Some(Cause::ComponentsOf("a type that is no list of the same kind")),

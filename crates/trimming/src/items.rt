@@ -1,10 +1,10 @@
 //! ENUMERATED (X.680 clause 20).
 
 use crate::trimmer::{Draft, Trimmer};
-use published::{Item as Written, Items, Place, SignedNumber as WrittenNumber};
+use published::{Item as Written, Items, Place};
 use std::alloc::{AllocError, Global};
 use syntax::{Expr, Item, SignedNumber};
-use trim_rules::{Cause, MAX_PARTS, identifier, next_free};
+use trim_rules::{Cause, MAX_PARTS, Section, identifier, next_free};
 
 /// Items with their numbers.
 #[derive(Drop)]
@@ -49,12 +49,12 @@ impl<'a> Trimmer<'a> {
             used: self.written_numbers(alloc, &items.root)?,
             next: Some(0),
         };
-        if !self.number_root(alloc, &items.root, &mut root)? {
+        if !self.number_all(alloc, &items.root, Section::Root, &mut root)? {
             return Ok(None);
         }
         root.used = used_by(alloc, &root.items)?;
         root.next = Some(0);
-        if !self.number_additions(alloc, &items.additions, &mut root)? {
+        if !self.number_all(alloc, &items.additions, Section::Additions, &mut root)? {
             return Ok(None);
         }
         Ok(Some(root.items))
@@ -78,7 +78,7 @@ impl<'a> Trimmer<'a> {
     }
 
     // The number that is written behind an item.
-    fn written_number(&mut self, item: &'a Written) -> Option<WrittenNumber> {
+    fn written_number(&mut self, item: &'a Written) -> Option<SignedNumber> {
         match &item.number {
             Some(number) => self
                 .sources
@@ -87,12 +87,14 @@ impl<'a> Trimmer<'a> {
         }
     }
 
-    // Numbers the items of the root: those without a number get the successive numbers from 0 that are not
-    // written there. Whether each has one.
-    fn number_root(
+    // Numbers the items of the root or the additions. Those without a number get, in the root, the successive
+    // numbers from 0 that are not written there, and among additions the least one above the additions before
+    // them that the root does not have. Whether each has one.
+    fn number_all(
         &mut self,
         alloc: Global,
         items: &'a [Written],
+        section: Section,
         numbered: &mut Numbered,
     ) -> Result<bool, AllocError> {
         for item in items {
@@ -100,27 +102,8 @@ impl<'a> Trimmer<'a> {
             if item.number.is_some() && written.is_none() {
                 return Ok(false);
             }
-            if !numbered.add(alloc, item, written, written.is_none())? {
-                return Ok(false);
-            }
-        }
-        Ok(true)
-    }
-
-    // Numbers the additions: those without a number get the least one above the additions before them that
-    // the root does not have. Whether each has one.
-    fn number_additions(
-        &mut self,
-        alloc: Global,
-        items: &'a [Written],
-        numbered: &mut Numbered,
-    ) -> Result<bool, AllocError> {
-        for item in items {
-            let written = self.written_number(item);
-            if item.number.is_some() && written.is_none() {
-                return Ok(false);
-            }
-            if !numbered.add(alloc, item, written, true)? {
+            let goes_on = section != Section::Root || written.is_none();
+            if !numbered.add(alloc, item, written, goes_on)? {
                 return Ok(false);
             }
         }
@@ -135,13 +118,13 @@ impl Numbered {
         &mut self,
         alloc: Global,
         item: &Written,
-        written: Option<WrittenNumber>,
+        written: Option<SignedNumber>,
         goes_on: bool,
     ) -> Result<bool, AllocError> {
         let number = match written {
             Some(number) => number,
             None => match self.next.and_then(|from| next_free(&self.used, from)) {
-                Some(magnitude) => WrittenNumber {
+                Some(magnitude) => SignedNumber {
                     negative: false,
                     magnitude,
                 },
@@ -163,7 +146,7 @@ impl Numbered {
 }
 
 // The number behind one that is not negative.
-fn behind(number: WrittenNumber) -> Option<u128> {
+fn behind(number: SignedNumber) -> Option<u128> {
     if number.negative {
         None
     } else {

@@ -7,10 +7,10 @@ use crate::leaving::Mark;
 use crate::tagging::Label;
 use crate::trimmer::{Draft, Trimmer};
 use published::{
-    Component as Written, Components, Form, Place, Presence as WrittenPresence, TagMode, Type, Word,
+    Component as Written, Components, Form, Place, Presence as WrittenPresence, Type, Word,
 };
 use std::alloc::{AllocError, Global};
-use syntax::{Component, Expr, Group, Presence, TagClass};
+use syntax::{Component, Expr, Group, Presence, TagClass, TagMode};
 use trim_rules::{
     Additions, Cause, MAX_PARTS, Section, Standing, first_number, identifier, is_automatic,
     presence_of, standing_of, standing_of_addition,

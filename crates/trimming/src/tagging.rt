@@ -4,9 +4,9 @@ ghost use Rattle.std.specs.Prelude.{◌≡◌};
 ghost use Rattle.trimming.specs.Written.{mode_of};
 
 use crate::trimmer::{Draft, Trimmer};
-use published::{Place, SignedNumber, Tag, TagClass as WrittenClass, TagMode as WrittenMode, Type};
+use published::{Place, Tag, TagClass as WrittenClass, Type};
 use std::alloc::{AllocError, Global};
-use syntax::{Expr, Simple, TagClass, TagMode, TagPrefix};
+use syntax::{Expr, SignedNumber, Simple, TagClass, TagMode, TagPrefix};
 use trim_rules::{Cause, Keyword, Root, keyword_of};
 
 /// The greatest tag number of the profile.
@@ -22,7 +22,7 @@ pub struct Label {
     /// Its number.
     pub number: u32,
     /// Its keyword.
-    pub mode: WrittenMode,
+    pub mode: TagMode,
 }
 
 impl<'a> Trimmer<'a> {
@@ -90,7 +90,7 @@ impl<'a> Trimmer<'a> {
 
     // The keyword of a tag in front of a type that is this at its root, or why it has none.
     fn keyword_at(&self, label: Label, root: Root) -> Result<Keyword, Cause<'a>> {
-        if label.mode == WrittenMode::Unmarked && root == Root::Field {
+        if label.mode == TagMode::Unmarked && root == Root::Field {
             return Err(Cause::UnmarkedField);
         }
         match keyword_of(self.work.tagging, label.mode, root.is_open()) {

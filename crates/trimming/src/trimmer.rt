@@ -1,10 +1,10 @@
 //! The types that are reached, and the one that is being made.
 
 use crate::node::{Made, Node};
-use published::{Place, Tagging};
+use published::Place;
 use std::alloc::{AllocError, Global};
 use std::collections::BTreeMap;
-use syntax::{Expr, Simple};
+use syntax::{Expr, Simple, Tagging};
 use trim_rules::{Budget, Cause, Fault, Kind, Message, Naming, Request, Sources};
 
 /// The most types that are looked at.
