@@ -5,11 +5,12 @@ ghost use Rattle.view.specs.Status.{IsEnd};
 
 use crate::FileSystem;
 use crate::fault::Fault;
+use crate::files::read_piece;
 use cutting::{CutFault, Cutter, Outputs};
 use devices::Failed;
 use program::PrintedPath;
 use std::alloc::Global;
-use std::io::{ErrorKind, Read, Write};
+use std::io::{Read, Write};
 use std::string::String;
 
 // How many octets of the input are read at once.
@@ -117,11 +118,7 @@ fn cut_pieces<K: Outputs, R: Read>(
 ) -> Result<(), Fault> {
     let mut room = vec![in alloc; 0u8; PIECE]?;
     for _ in 0..u64::MAX {
-        let count = match input.read(room.as_mut_slice()) {
-            Ok(count) => count,
-            Err(error) if error.kind() == ErrorKind::Interrupted => continue,
-            Err(_) => return Err(Fault::CannotRead),
-        };
+        let count = read_piece(input, room.as_mut_slice())?;
         if count == 0 {
             break;
         }

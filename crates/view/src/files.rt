@@ -37,17 +37,25 @@ fn read_pieces<R: Read, V: Visit>(
 ) -> Result<(), Fault> {
     let mut room = vec![in alloc; 0u8; PIECE]?;
     for _ in 0..u64::MAX {
-        let count = match input.read(room.as_mut_slice()) {
-            Ok(count) => count,
-            Err(error) if error.kind() == ErrorKind::Interrupted => continue,
-            Err(_) => return Err(Fault::CannotRead),
-        };
+        let count = read_piece(input, room.as_mut_slice())?;
         if count == 0 {
             return Ok(());
         }
         take(values, room.get(..count).unwrap_or(&[]), visit)?;
     }
     Ok(())
+}
+
+/// Reads the next piece of an input into the room, and returns how many octets it has: none at the input's end.
+pub fn read_piece<R: Read>(input: &mut R, room: &mut [u8]) -> Result<usize, Fault> {
+    for _ in 0..u64::MAX {
+        match input.read(room) {
+            Ok(count) => return Ok(count),
+            Err(error) if error.kind() == ErrorKind::Interrupted => {}
+            Err(_) => return Err(Fault::CannotRead),
+        }
+    }
+    Ok(0)
 }
 
 fn take<V: Visit>(values: &mut Values<'_>, piece: &[u8], visit: &mut V) -> Result<(), Fault> {

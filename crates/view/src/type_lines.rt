@@ -85,17 +85,11 @@ fn put_fields(
     out: &mut String,
 ) -> Result<Size, NoMemory> {
     let mut size = LEAF;
+    let inner = level.saturating_add(1);
     for field in fields {
-        let behind = presence_text(alloc, field)?;
         let name = field.name.as_str();
-        let within = put_type(
-            alloc,
-            &field.ty,
-            name,
-            behind.as_str(),
-            level.saturating_add(1),
-            out,
-        )?;
+        let behind = presence_text(alloc, field)?;
+        let within = put_type(alloc, &field.ty, name, behind.as_str(), inner, out)?;
         size = beside(size, within);
     }
     size.levels = size.levels.saturating_add(1);
@@ -111,16 +105,10 @@ fn put_alternatives(
     out: &mut String,
 ) -> Result<Size, NoMemory> {
     let mut size = LEAF;
+    let inner = level.saturating_add(1);
     for alternative in alternatives {
         let name = alternative.name.as_str();
-        let within = put_type(
-            alloc,
-            &alternative.ty,
-            name,
-            "",
-            level.saturating_add(1),
-            out,
-        )?;
+        let within = put_type(alloc, &alternative.ty, name, "", inner, out)?;
         size = beside(size, within);
     }
     Ok(size)
