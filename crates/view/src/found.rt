@@ -1,5 +1,6 @@
 //! Where the octets of a value are refused, and why.
 
+use crate::fronts::Fronts;
 use crate::printing::{Style, put_line};
 use octets::NoMemory;
 use std::alloc::Global;
@@ -26,11 +27,12 @@ pub fn put_lines(
     octets: &[u8],
     base: u64,
     style: &Style<'_>,
+    fronts: &mut Fronts,
     out: &mut String,
 ) -> Result<(), NoMemory> {
     for _ in 0..=octets.len() {
         match walk.next_line(octets) {
-            Ok(true) => put_line(alloc, walk, octets, base, style, out)?,
+            Ok(true) => put_line(alloc, walk, octets, base, style, fronts, out)?,
             Ok(false) | Err(_) => return Ok(()),
         }
     }

@@ -13,6 +13,7 @@ mod fault_places;
 mod file_system;
 mod files;
 mod found;
+mod fronts;
 mod json_text;
 mod module_fault;
 mod module_faults;

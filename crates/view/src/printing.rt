@@ -1,12 +1,13 @@
 //! The printed lines of encodings.
 
 use crate::columns::{Columns, put_offset};
+use crate::fronts::Fronts;
 use engine::Canonical;
 use octets::NoMemory;
 use std::alloc::Global;
 use std::string::String;
 use types::Ty;
-use walking::{Line, NOTES, Notes, Walk, What, put_contents, put_string, spaced_name_of};
+use walking::{Line, NOTES, Notes, Walk, What, put_contents, put_string};
 
 // The most octets of a value that are shown, unless all are asked for.
 const MOST_SHOWN: usize = 32;
@@ -42,56 +43,29 @@ pub fn put_line(
     octets: &[u8],
     base: u64,
     style: &Style<'_>,
+    fronts: &mut Fronts,
     out: &mut String,
 ) -> Result<(), NoMemory> {
     let line = walk.line();
-    put_place(base, line, style.columns, out)?;
+    put_offset(base.saturating_add(line.at as u64), out)?;
     match line.what {
-        What::End => out.push_str("end of contents")?,
-        What::Parts | What::Leaf | What::Segment => put_name(walk, line, style, out)?,
-    }
-    match line.what {
+        What::End => put_end(line, style, out)?,
+        What::Parts => fronts.put(walk, style, out)?,
         What::Leaf | What::Segment => {
+            fronts.put(walk, style, out)?;
             put_value(alloc, line, line.contents_in(octets), style, out)?;
         }
-        What::Parts | What::End => {}
     }
     put_notes(line.notes, style.rule, out)?;
     out.push('\n')?;
     Ok(())
 }
 
-// Appends the offset, the depth, the lengths and the tag.
-fn put_place(
-    base: u64,
-    line: &Line<'_>,
-    columns: &Columns,
-    out: &mut String,
-) -> Result<(), NoMemory> {
-    put_offset(base.saturating_add(line.at as u64), out)?;
+// Appends what is told of end-of-contents octets.
+fn put_end(line: &Line<'_>, style: &Style<'_>, out: &mut String) -> Result<(), NoMemory> {
+    let columns = style.columns;
     columns.put_head(line.depth, line.head, line.contents, out)?;
-    columns.put_tag(line.part.tag, out)
-}
-
-// Appends the path, or the name of the type where that is empty, and the words that name the part's type, with spaces
-// behind them where a value follows.
-fn put_name(
-    walk: &Walk<'_>,
-    line: &Line<'_>,
-    style: &Style<'_>,
-    out: &mut String,
-) -> Result<(), NoMemory> {
-    let start = out.len();
-    walk.put_path(line.depth, Some(&line.part), out)?;
-    if out.len() == start {
-        out.push_str(style.name)?;
-        out.push_str(" ::=")?;
-    }
-    let name = spaced_name_of(line.part.node);
-    out.push_str(match line.what {
-        What::Leaf => name,
-        What::Parts | What::Segment | What::End => name.trim_end(),
-    })?;
+    out.push_str("[UNIVERSAL 0]    end of contents")?;
     Ok(())
 }
 
@@ -130,6 +104,7 @@ fn put_value(
         out.push_str(" segment  ")?;
         put_string(node, shown, out)?;
     } else {
+        out.push_str("  ")?;
         put_contents(alloc, node, shown, out)?;
     }
     if omitted > 0 {

@@ -6,6 +6,7 @@ use crate::columns::Columns;
 use crate::fault::Fault;
 use crate::files::read_values;
 use crate::found::find;
+use crate::fronts::Fronts;
 use crate::printing::Style;
 use crate::value_lines::ValueLines;
 use crate::values::Values;
@@ -123,6 +124,7 @@ impl<D: FileSystem> Showing<'_, D> {
             out,
             done: 0,
             walk: Walk::new(self.alloc, style.rule, self.ty),
+            fronts: Fronts::new(self.alloc),
             text: String::new(self.alloc),
         }
     }

@@ -1,6 +1,7 @@
 //! What is printed of each value. Lines are gathered, and written many at a time.
 
 use crate::found::put_lines;
+use crate::fronts::Fronts;
 use crate::json_text::{Layout, put_json};
 use crate::printing::Style;
 use crate::values::{Unwanted, Visit};
@@ -27,6 +28,8 @@ pub struct ValueLines<'a, W> {
     pub done: u64,
     /// The walk over each value.
     pub walk: Walk<'a>,
+    /// Texts of the parts in it.
+    pub fronts: Fronts,
     /// What is not written yet.
     pub text: String,
 }
@@ -52,6 +55,7 @@ impl<W: Write> ValueLines<'_, W> {
             octets,
             at,
             &self.style,
+            &mut self.fronts,
             &mut self.text,
         );
         self.gathered(before, put)

@@ -1,10 +1,11 @@
 //! Which part an identifier begins.
 
 use crate::open::{Due, Held};
+use crate::places::place_behind;
 use crate::{Part, Reason, Step, Stop, Stopped, Walk};
-use encoding_parts::{Kind, begins, is_node, node_of, not_due, segment_tag};
+use encoding_parts::{Kind, begins, by_tag, is_node, node_of, not_due, segment_tag};
 use octets::Tag;
-use types::{Refusal, Value};
+use types::{Refusal, Ty, Value};
 
 impl<'a> Walk<'a> {
     // Tells the part that begins with the tag, and returns its default.
@@ -24,10 +25,14 @@ impl<'a> Walk<'a> {
                 return Err(self.halt(Stop::outside(refusal, at, Reason::Words(words))));
             }
             self.line.part = segment_of(&top.part, tag);
+            self.line.place = None;
             return Ok(None);
         }
         match top.take_due(tag) {
-            Ok(due) => self.tell_part(due, tag),
+            Ok(due) => {
+                let place = place_behind(top.first_place, due.index);
+                self.tell_part(due, place, tag)
+            }
             Err(refusal) => {
                 let reason = why_not_due(refusal, tag, top.missing());
                 Err(self.halt(Stop::outside(refusal, at, reason)))
@@ -44,24 +49,31 @@ impl<'a> Walk<'a> {
             return Err(self.halt(Stop::outside(refusal, at, reason)));
         }
         let due = Due {
+            index: 0,
             step: Step::Whole,
             ty: self.ty,
             default: None,
         };
-        self.tell_part(due, tag)
+        self.tell_part(due, Some(0), tag)
     }
 
-    // Tells the part that is due, which begins with the tag, and returns its default.
-    fn tell_part(&mut self, due: Due<'a>, tag: Tag) -> Result<Option<&'a Value>, Stopped> {
-        let Due { step, ty, default } = due;
-        let node = if is_node(ty) {
-            Some(ty)
+    // Tells the part that is due, which begins with the tag and may have a number, and returns its default.
+    fn tell_part(
+        &mut self,
+        due: Due<'a>,
+        place: Option<usize>,
+        tag: Tag,
+    ) -> Result<Option<&'a Value>, Stopped> {
+        let Due {
+            step,
+            ty,
+            default,
+            ..
+        } = due;
+        let (node, place) = if is_node(ty) {
+            (ty, place)
         } else {
-            node_of(ty, tag)
-        };
-        let Some(node) = node else {
-            let at = self.taken;
-            return Err(self.halt(Stop::outside(Refusal::Identifier, at, Reason::NotDue(tag))));
+            self.chosen(ty, place, tag)?
         };
         self.line.part = Part {
             step,
@@ -69,7 +81,43 @@ impl<'a> Walk<'a> {
             node,
             tag,
         };
+        self.line.place = place;
         Ok(default)
+    }
+
+    // The alternative of a CHOICE that begins with the tag, with its number. An alternative of a CHOICE in a CHOICE has
+    // none.
+    #[inline(never)]
+    fn chosen(
+        &mut self,
+        ty: &'a Ty,
+        place: Option<usize>,
+        tag: Tag,
+    ) -> Result<(&'a Ty, Option<usize>), Stopped> {
+        let at = self.taken;
+        let Some(node) = node_of(ty, tag) else {
+            return Err(self.halt(Stop::outside(Refusal::Identifier, at, Reason::NotDue(tag))));
+        };
+        let Some(which) = which_alternative(ty, tag) else {
+            return Ok((node, None));
+        };
+        match self.places.first_in(place, ty) {
+            Ok(first) => Ok((node, place_behind(first, which))),
+            Err(_) => Err(self.halt(Stop::no_memory(at))),
+        }
+    }
+}
+
+// How many alternatives stand before the one that begins with the tag, if it is no CHOICE itself.
+fn which_alternative(ty: &Ty, tag: Tag) -> Option<usize> {
+    let Ty::Choice(alternatives) = ty else {
+        return None;
+    };
+    let (which, alternative) = by_tag(alternatives, tag)?;
+    if is_node(&alternative.ty) {
+        Some(which)
+    } else {
+        None
     }
 }
 

@@ -14,6 +14,7 @@ mod open;
 mod opening;
 mod order;
 mod part;
+mod places;
 mod reason;
 mod showing;
 mod stop;

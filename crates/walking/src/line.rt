@@ -16,6 +16,8 @@ pub struct Line<'a> {
     pub contents: Option<usize>,
     /// Which part it is.
     pub part: Part<'a>,
+    /// The number of the part, if it has one: the same in each value, and no other's.
+    pub place: Option<usize>,
     /// What the contents octets are.
     pub what: What,
     /// What is not canonical there.

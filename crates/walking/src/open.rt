@@ -13,6 +13,8 @@ use types::{Field, Presence, Refusal, Ty, Value, may_be_absent};
 pub struct Open<'a> {
     /// Which part it is.
     pub part: Part<'a>,
+    /// The number of its first component, if that has one.
+    pub first_place: Option<usize>,
     /// Where it ends.
     pub frame: Frame,
     /// What may come in it.
@@ -23,7 +25,7 @@ pub struct Open<'a> {
     pub last_item: (usize, usize),
     /// The tag of the component before, by which a SET is ordered.
     pub last_tag: Option<Tag>,
-    /// How many parts have come.
+    /// How many parts have come; of components how many there are up to the one that came last.
     pub count: usize,
 }
 
@@ -45,6 +47,8 @@ pub enum Held<'a> {
 /// The part that comes next, its default and its type.
 #[derive(Clone, Copy, Debug)]
 pub struct Due<'a> {
+    /// How many stand before it.
+    pub index: usize,
     /// How it is named.
     pub step: Step<'a>,
     /// Its type.
@@ -77,15 +81,16 @@ impl<'a> Open<'a> {
     /// Takes the part that may come next and begins with the tag, and refuses any other as a reader does.
     pub fn take_due(&mut self, tag: Tag) -> Result<Due<'a>, Refusal> {
         let outer = self.default;
-        let item = self.count;
-        self.count = item.saturating_add(1);
-        match &mut self.held {
+        let index = self.count;
+        let due = match &mut self.held {
             Held::Segments(_) => Err(Refusal::Identifier),
             Held::Explicit(inner) => take_inner(inner, tag, outer),
-            Held::Items(ty) => take_item(ty, tag, item),
-            Held::Sequence(left) => take_next(left, tag),
+            Held::Items(ty) => take_item(ty, tag, index),
+            Held::Sequence(left) => take_next(left, tag, index),
             Held::Set(set_components) => take_set_component(set_components, tag),
-        }
+        }?;
+        self.count = due.index.saturating_add(1);
+        Ok(due)
     }
 
     /// The name of the first component that is required and has not come.
@@ -109,23 +114,36 @@ fn take_inner<'a>(
     };
     let (_, ty) = only_due(ty, tag)?;
     *inner = None;
+    let index = 0;
     let step = Step::Whole;
-    Ok(Due { step, ty, default })
+    Ok(Due {
+        index,
+        step,
+        ty,
+        default,
+    })
 }
 
-fn take_item<'a>(ty: &'a Ty, tag: Tag, item: usize) -> Result<Due<'a>, Refusal> {
+fn take_item<'a>(ty: &'a Ty, tag: Tag, index: usize) -> Result<Due<'a>, Refusal> {
     let (_, ty) = only_due(ty, tag)?;
-    let step = Step::Item(item);
+    let step = Step::Item(index);
     let default = None;
-    Ok(Due { step, ty, default })
+    Ok(Due {
+        index,
+        step,
+        ty,
+        default,
+    })
 }
 
-fn take_next<'a>(left: &mut &'a [Field], tag: Tag) -> Result<Due<'a>, Refusal> {
+// Before those that are left stand so many components.
+fn take_next<'a>(left: &mut &'a [Field], tag: Tag, passed: usize) -> Result<Due<'a>, Refusal> {
     let fields = *left;
     let (which, ty) = next_due(fields, tag)?;
     let (before, later) = fields.split_at(which.saturating_add(1).min(fields.len()));
     *left = later;
-    Ok(due_field(before.last(), ty))
+    let index = passed.saturating_add(which);
+    Ok(due_field(index, before.last(), ty))
 }
 
 fn take_set_component<'a>(
@@ -138,18 +156,20 @@ fn take_set_component<'a>(
         return Err(Refusal::Identifier);
     };
     set_component.came = true;
-    Ok(due_field(Some(set_component.field), ty))
+    Ok(due_field(which, Some(set_component.field), ty))
 }
 
-fn due_field<'a>(field: Option<&'a Field>, ty: &'a Ty) -> Due<'a> {
+fn due_field<'a>(index: usize, field: Option<&'a Field>, ty: &'a Ty) -> Due<'a> {
     let Some(field) = field else {
         return Due {
+            index,
             step: Step::Whole,
             ty,
             default: None,
         };
     };
     Due {
+        index,
         step: Step::Component(field.name.as_str()),
         ty,
         default: default_of(&field.presence),

@@ -34,11 +34,12 @@ impl<'a> Walk<'a> {
 
     // The encoding as it opens.
     fn opened(
-        &self,
+        &mut self,
         default: Option<&'a Value>,
         opening: &Opening,
     ) -> Result<Option<Open<'a>>, NoMemory> {
         let part = self.line.part;
+        let first_place = self.places.first_in(self.line.place, part.node)?;
         let Some(held) = Held::of(self.alloc, part.node)? else {
             return Ok(None);
         };
@@ -55,6 +56,7 @@ impl<'a> Walk<'a> {
         };
         Ok(Some(Open {
             part,
+            first_place,
             frame,
             held,
             default,

@@ -4,6 +4,7 @@ ghost use Rattle.std.specs.Prelude.{◌≤◌};
 
 use crate::judging::{is_string, why_no_value};
 use crate::open::{Held, Open};
+use crate::places::Places;
 use crate::{Line, Notes, Part, Reason, Step, Stop, Stopped, What};
 use berslice::MAX_NESTED;
 use encoding_parts::{Joined, OUTSIDE, contents_refusal, read_end, read_head_tag};
@@ -23,6 +24,7 @@ pub struct Walk<'a> {
     // how many octets of the value have been walked over
     pub(crate) taken: usize,
     pub(crate) open: Vec<Open<'a>>,
+    pub(crate) places: Places,
     // the string whose segments come
     pub(crate) joined: Joined,
     // whether a reader has taken the octets, so that what it has judged need not be judged here
@@ -44,6 +46,7 @@ impl<'a> Walk<'a> {
             rule,
             taken: 0,
             open: Vec::new(alloc),
+            places: Places::new(alloc),
             joined: Joined::new(alloc),
             is_taken: false,
             is_over: false,
@@ -53,6 +56,7 @@ impl<'a> Walk<'a> {
                 head: 0,
                 contents: Some(0),
                 part: end_of(ty),
+                place: None,
                 what: What::End,
                 notes: Notes::none(),
             },
@@ -189,6 +193,7 @@ impl<'a> Walk<'a> {
             head: used,
             contents: Some(0),
             part: end_of(top.part.node),
+            place: None,
             what: What::End,
             notes: Notes::none(),
         };
