@@ -14,7 +14,7 @@ use crate::heads::{Inside, opened};
 use crate::items::read_list;
 use crate::leaf::read_leaf;
 use crate::members::read_members;
-use encoding_parts::{by_tag, clear, leaf_tag, put_chosen, take_chosen};
+use encoding_parts::{by_tag, clear, put_chosen, take_chosen};
 use octets::{Head, MAX_ENCODING, read_identifier};
 use std::alloc::Global;
 use types::{Alternative, Ty, Value};
@@ -55,7 +55,7 @@ pub fn read_one(
     requires { IsGoodType (ty_view ty.now) }
     ensures { IfSome result (λ used. IsRead levels (ty_view ty.now) octets.now slot.new used) }
 {
-    if let Some(tag) = leaf_tag(ty) {
+    if let Some(tag) = ty.leaf_tag() {
         return read_leaf(alloc, ty, tag, octets, slot);
     }
     match ty {

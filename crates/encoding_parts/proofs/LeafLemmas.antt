@@ -77,14 +77,3 @@ conforms_of_encoding rule (Shape.sequence_of tag type) v octets leaf h = absurd 
 conforms_of_encoding rule (Shape.set_of tag type) v octets leaf h = absurd leaf
 conforms_of_encoding rule (Shape.choice alternatives) v octets leaf h = absurd leaf
 conforms_of_encoding rule (Shape.explicit tag type) v octets leaf h = absurd leaf
-
--- the one tag that encodings of a type without parts begin with
-pub leaf_tag : (shape : Shape) (tag : Tag) → IsLeaf shape → first_tags shape ≡ tag ∷ [] → tag_of shape ≡ tag
-leaf_tag (Shape.simple own type) tag leaf h = cc h
-leaf_tag (Shape.string own type) tag leaf h = cc h
-leaf_tag (Shape.sequence own components) tag leaf h = absurd leaf
-leaf_tag (Shape.set own components) tag leaf h = absurd leaf
-leaf_tag (Shape.sequence_of own type) tag leaf h = absurd leaf
-leaf_tag (Shape.set_of own type) tag leaf h = absurd leaf
-leaf_tag (Shape.choice alternatives) tag leaf h = absurd leaf
-leaf_tag (Shape.explicit own type) tag leaf h = absurd leaf

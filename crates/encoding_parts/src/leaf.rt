@@ -5,7 +5,7 @@
 //! it, which is a fault of its length, is said by the reader of those (`refusal_inside`). Such a fault comes before that of a
 //! length that the type cannot have, so the reader of a primitive encoding is told whether one is around it.
 
-ghost use Rattle.std.specs.Prelude.{◌≡◌, ◌+◌, ◌≤◌, ◌++◌, ℕ, List, length, take, true, false, IfOk, IfErr, IfSome, IsErr, IsOk};
+ghost use Rattle.std.specs.Prelude.{◌≡◌, ◌+◌, ◌≤◌, ◌++◌, ℕ, List, length, take, true, false, IfOk, IfErr, IsErr, IsOk};
 ghost use Rattle.octets.specs.declared.TheConstants.{MAX_ENCODING};
 ghost use Rattle.octets.specs.Front.{HasFront};
 ghost use Rattle.octets.specs.Length.{IsLength};
@@ -25,18 +25,9 @@ use crate::joined::{Kind, kind_of};
 use crate::lengths::can_have_length;
 use crate::parts::{read_contents_place, read_opening};
 use crate::segments::Segments;
-use octets::{Length, Tag, read_length};
+use octets::{Length, read_length};
 use std::alloc::Global;
 use types::{Refusal, Ty, Value};
-
-/// The tag of a type without parts; None of any other. Takes no memory.
-#[inline(always)]
-pub fn leaf_tag(ty: &Ty) -> Option<Tag>
-    ensures leaf { IfSome result (λ tag. IsLeaf (ty_view ty.now)) }
-    ensures tag { IfSome result (λ tag. tag_of (ty_view ty.now) ≡ tag) }
-{
-    if ty.has_no_parts() { ty.tag() } else { None }
-}
 
 /// Reads the primitive encoding at the front of `octets`, of a type without parts, by its identifier octets, of
 /// which there are `identifier`: its value, and how many octets it has. Before it stand `taken` octets, and it

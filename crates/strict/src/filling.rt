@@ -1,8 +1,8 @@
 //! Values of contents octets, put where they belong: a value is large to hand on.
 
-ghost use Rattle.std.specs.Prelude.{IsTrue, IfSome, MatchOption};
+ghost use Rattle.std.specs.Prelude.{◌≡◌, IsTrue, IfSome, MatchOption};
 ghost use Rattle.octets.specs.Rule.{der};
-ghost use Rattle.types.specs.Leaf.{IsLeaf};
+ghost use Rattle.types.specs.Leaf.{tag_of, IsLeaf};
 ghost use Rattle.types.specs.View.{ty_view, value_view};
 ghost use Rattle.encoding_parts.specs.Contents.{IsFilled};
 ghost use Rattle.strict.specs.declared.canonical.Canonical.{Canonical};
@@ -12,24 +12,28 @@ ghost use Rattle.strict.specs.Reading.{IsRead};
 
 use crate::short::short_primitive;
 use crate::values::{has_zeros_unused, read_truth, read_value};
-use encoding_parts::{fill, leaf_tag, take_bits};
+use encoding_parts::{fill, take_bits};
+use octets::Tag;
 use primitives::read_bits_in;
 use std::alloc::Global;
 use types::{Ty, Value};
 
-// Reads the encoding at the front into the slot, if it is a primitive one of at most `room` octets that two octets stand
-// before, and returns how many octets it has. Of all others it says nothing, and of what is refused.
+// Reads the encoding at the front, of a type without parts under this tag, into the slot, if it is a primitive one of at
+// most `room` octets that two octets stand before, and returns how many octets it has. Of all others it says nothing, and
+// of what is refused.
 #[inline(never)]
 pub fn read_shortly(
     alloc: Global,
     ty: &Ty,
+    tag: Tag,
     room: usize,
     octets: &[u8],
     slot: &mut Option<Value>,
 ) -> Option<usize>
+    requires leaf { IsLeaf (ty_view ty.now) }
+    requires tag { tag_of (ty_view ty.now) ≡ tag }
     ensures { IfSome result (λ used. (rule : Canonical) → IsRead (rule_of rule) (ty_view ty.now) room octets.now slot.new used) }
 {
-    let tag = leaf_tag(ty)?;
     let stop = short_primitive(tag, room, octets)?;
     if fill_canonical(alloc, ty, &octets[2..stop], slot) {
         Some(stop)

@@ -2,6 +2,7 @@
 
 ghost use Rattle.std.specs.Prelude.{◌-◌, ◌≤◌, drop, IfOk, IfErr};
 ghost use Rattle.octets.specs.declared.TheConstants.{MAX_ENCODING};
+ghost use Rattle.types.specs.Leaf.{IsLeaf};
 ghost use Rattle.types.specs.Shape.{Shape};
 ghost use Rattle.types.specs.View.{alternatives_view, ty_view};
 ghost use Rattle.encoding_parts.specs.Parts.{IsGoodType};
@@ -24,8 +25,8 @@ use octets::MAX_ENCODING;
 use std::alloc::Global;
 use types::{Alternative, Refusal, Ty, Value};
 
-// Reads the encoding at the front into the slot, and returns how many octets it has: at most `room`. Most are looked at
-// once.
+// Reads the encoding at the front into the slot, and returns how many octets it has: at most `room`. Most without parts are
+// looked at once.
 #[cycle(reading)]
 #[inline(always)]
 pub fn read_one(
@@ -41,15 +42,18 @@ pub fn read_one(
     ensures value { IfOk result (λ used. IsRead (rule_of rule) (ty_view ty.now) room octets.now slot.new used) }
     ensures refused { IfErr result (RefusesPart rule (ty_view ty.now) room octets.now) }
 {
-    match read_shortly(alloc, ty, room, octets, slot) {
+    let Some(tag) = ty.leaf_tag() else {
+        return read_parts(alloc, rule, ty, room, octets, slot);
+    };
+    match read_shortly(alloc, ty, tag, room, octets, slot) {
         Some(used) => Ok(used),
-        None => read_any(alloc, rule, ty, room, octets, slot),
+        None => read_leaf(alloc, rule, ty, tag, room, octets, slot),
     }
 }
 
-// Reads it whatever it is, and says why it is refused.
+// Reads an encoding of a type with parts, or of an alternative.
 #[cycle(reading)]
-fn read_any(
+fn read_parts(
     alloc: Global,
     rule: Canonical,
     ty: &Ty,
@@ -57,15 +61,12 @@ fn read_any(
     octets: &[u8],
     slot: &mut Option<Value>,
 ) -> Result<usize, Refusal>
+    requires parts { ¬ IsLeaf (ty_view ty.now) }
     requires good { IsGoodType (ty_view ty.now) }
     requires room { room ≤ MAX_ENCODING }
     ensures value { IfOk result (λ used. IsRead (rule_of rule) (ty_view ty.now) room octets.now slot.new used) }
     ensures refused { IfErr result (RefusesPart rule (ty_view ty.now) room octets.now) }
 {
-    if ty.has_no_parts() {
-        let Some(tag) = ty.tag() else { unreachable!() };
-        return read_leaf(alloc, rule, ty, tag, room, octets, slot);
-    }
     match ty {
         Ty::Choice(alternatives) => read_chosen(alloc, rule, alternatives, room, octets, slot),
         _ => read_constructed(alloc, rule, ty, room, octets, slot),

@@ -101,7 +101,7 @@ pub struct Alternative {
 impl Ty {
     ghost use Rattle.std.specs.Prelude.{◌∷◌, [], ◌↔◌, IfSome, IsNone, IsTrue};
     ghost use Rattle.types.specs.FirstTags.{first_tags};
-    ghost use Rattle.types.specs.Leaf.{IsLeaf};
+    ghost use Rattle.types.specs.Leaf.{tag_of, IsLeaf};
     ghost use Rattle.types.specs.Shape.{Shape, Alternatives};
     ghost use Rattle.types.specs.View.{ty_view};
 
@@ -132,29 +132,38 @@ impl Ty {
         }
     }
 
-    /// Whether the type has no parts: it is no SEQUENCE, SET, SEQUENCE OF, SET OF or CHOICE, and has no
-    /// explicit tag. Takes no memory.
-    pub fn has_no_parts(&self) -> bool
-        ensures { IsTrue result ↔ IsLeaf (ty_view self.now) }
+    /// The tag of a type without parts: of one that is no SEQUENCE, SET, SEQUENCE OF, SET OF or CHOICE, and has no
+    /// explicit tag. None of any other. Takes no memory.
+    pub fn leaf_tag(&self) -> Option<Tag>
+        ensures leaf { IfSome result (λ tag. IsLeaf (ty_view self.now)) }
+        ensures tag { IfSome result (λ tag. tag_of (ty_view self.now) ≡ tag) }
+        ensures none { IsNone result → ¬ IsLeaf (ty_view self.now) }
     {
         match self {
-            Ty::Boolean(_)
-            | Ty::Integer(_)
-            | Ty::Enumerated(_, _)
-            | Ty::Null(_)
-            | Ty::Oid(_)
-            | Ty::RelativeOid(_)
-            | Ty::Bits(_)
-            | Ty::NamedBits(_, _)
-            | Ty::Octets(_)
-            | Ty::Text(_, _)
-            | Ty::Time(_, _) => true,
+            Ty::Boolean(tag)
+            | Ty::Integer(tag)
+            | Ty::Enumerated(tag, _)
+            | Ty::Null(tag)
+            | Ty::Oid(tag)
+            | Ty::RelativeOid(tag)
+            | Ty::Bits(tag)
+            | Ty::NamedBits(tag, _)
+            | Ty::Octets(tag)
+            | Ty::Text(tag, _)
+            | Ty::Time(tag, _) => Some(*tag),
             Ty::Sequence(_, _)
             | Ty::Set(_, _)
             | Ty::SequenceOf(_, _)
             | Ty::SetOf(_, _)
             | Ty::Choice(_)
-            | Ty::Explicit(_, _) => false,
+            | Ty::Explicit(_, _) => None,
         }
+    }
+
+    /// Whether the type has no parts, as those have none that `leaf_tag` has a tag of. Takes no memory.
+    pub fn has_no_parts(&self) -> bool
+        ensures { IsTrue result ↔ IsLeaf (ty_view self.now) }
+    {
+        self.leaf_tag().is_some()
     }
 }

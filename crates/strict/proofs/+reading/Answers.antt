@@ -451,11 +451,10 @@ members::read_members-returns-clause-value = set.members::read_members-returns-c
 pub members::read_members-returns-then-not-are_filled-clause-refused : goal.members::read_members-returns-then-not-are_filled-clause-refused
 members::read_members-returns-then-not-are_filled-clause-refused = set.members::read_members-returns-then-not-are_filled-clause-refused
 
-pub parts::read_any-read_constructed-requires : goal.parts::read_any-read_constructed-requires
-parts::read_any-read_constructed-requires t c =
-    let no_leaf : IsLeaf (ty_view c.args.ty.now) → ⊥ = λ leaf. let told : false ≡ true = sym c.if-has_no_parts.false ∙ c.has_no_parts.ensures.1 leaf in absurd cc in
+pub parts::read_parts-read_constructed-requires : goal.parts::read_parts-read_constructed-requires
+parts::read_parts-read_constructed-requires t c =
     let own : IsNode (ty_view c.args.ty.now) = search (rules, node.the_lemmas, c.in_default-ty.not-Choice) in
-    (search (rules, node.the_lemmas), (parts_of_others (ty_view c.args.ty.now) no_leaf own, (c.requires.good, c.requires.room)))
+    (search (rules, node.the_lemmas), (parts_of_others (ty_view c.args.ty.now) c.requires.parts own, (c.requires.good, c.requires.room)))
 
 pub parts::read_inside-read_components-requires : goal.parts::read_inside-read_components-requires
 parts::read_inside-read_components-requires t c =

@@ -1,7 +1,6 @@
 //! Parts of an encoding that have no parts.
 
-ghost use Rattle.std.specs.Prelude.{◌≡◌, ◌≤◌, length, IfOk};
-ghost use Rattle.types.specs.Leaf.{tag_of};
+ghost use Rattle.std.specs.Prelude.{◌≤◌, length, IfOk};
 ghost use Rattle.types.specs.View.{ty_view};
 ghost use Rattle.encoding_parts.specs.Joined.{IsStringOf};
 ghost use Rattle.encoding_parts.specs.Segments.{IsSound};
@@ -10,40 +9,10 @@ use crate::rows::{pair_of, two};
 use crate::type_notation::{OctetsTable, check_octets};
 use crate::value_notation::comes_to;
 use encoding_parts::{Kind, Segments, begin_string, not_due, read_head_tag, read_leaf};
-use octets::{Class, MAX_ENCODING, Tag};
+use octets::MAX_ENCODING;
 use std::alloc::Global;
 use std::test::Fail;
 use types::{Refusal, Ty, Value, WellTyped};
-
-const OCTET_STRING: Tag = Tag {
-    class: Class::Universal,
-    number: 4,
-};
-
-// The tag of a type without parts.
-fn leaf_tag(ty: &Ty) -> Tag
-    ensures { result ≡ tag_of (ty_view ty.now) }
-{
-    match ty {
-        Ty::Boolean(tag) => *tag,
-        Ty::Integer(tag) => *tag,
-        Ty::Enumerated(tag, _) => *tag,
-        Ty::Null(tag) => *tag,
-        Ty::Oid(tag) => *tag,
-        Ty::RelativeOid(tag) => *tag,
-        Ty::Bits(tag) => *tag,
-        Ty::NamedBits(tag, _) => *tag,
-        Ty::Octets(tag) => *tag,
-        Ty::Text(tag, _) => *tag,
-        Ty::Time(tag, _) => *tag,
-        Ty::Sequence(_, _) => OCTET_STRING,
-        Ty::Set(_, _) => OCTET_STRING,
-        Ty::SequenceOf(_, _) => OCTET_STRING,
-        Ty::SetOf(_, _) => OCTET_STRING,
-        Ty::Choice(_) => OCTET_STRING,
-        Ty::Explicit(_, _) => OCTET_STRING,
-    }
-}
 
 // The value of the string that the octets complete, and how many they are.
 fn segments_of(
@@ -72,14 +41,15 @@ fn part(
     octets: &[u8],
 ) -> Option<Result<(Value, usize), Refusal>> {
     let node = ty.as_type();
-    if !node.has_no_parts() || end > MAX_ENCODING {
+    let own = node.leaf_tag()?;
+    if end > MAX_ENCODING {
         return None;
     }
     let (tag, constructed, identifier) = match read_head_tag(end, taken, octets) {
         Ok(found) => found,
         Err(refusal) => return Some(Err(refusal)),
     };
-    if tag != leaf_tag(node) {
+    if tag != own {
         return Some(Err(not_due(tag)));
     }
     if !constructed {

@@ -9,5 +9,5 @@ returns-then-fill_canonical c = λ rule.
     let octets = c.args.octets.now in
     let room = c.args.room in
     let stop = c.in_ok-stop.stop in
-    let place = subst (λ t. IsPlace t room octets 2 stop) (sym c.in_ok-tag.ensures.tag) c.in_ok-stop.ensures.place in
-    filled_read rule (ty_view c.args.ty.now) room stop octets c.fill_canonical.new.slot c.in_ok-tag.ensures.leaf place c.in_ok-stop.ensures.short (c.fill_canonical.ensures c.if-fill_canonical.true)
+    let place = subst (λ t. IsPlace t room octets 2 stop) (sym c.requires.tag) c.in_ok-stop.ensures.place in
+    filled_read rule (ty_view c.args.ty.now) room stop octets c.fill_canonical.new.slot c.requires.leaf place c.in_ok-stop.ensures.short (c.fill_canonical.ensures c.if-fill_canonical.true)
