@@ -9,6 +9,7 @@ use Rattle.types.specs.declared.ty.Ty as node
 use Rattle.types.specs.Shape.{SimpleType, Val, listed, Shape, Components}
 use Rattle.types.specs.View.{item_view, ty_view, components_view}
 use Rattle.types.specs.Encoding.{IsEncoding}
+use Rattle.types.specs.Leaf.{tag_of, IsLeaf}
 use Rattle.types.proofs.ViewLemmas.{ty-Boolean, ty-Integer, ty-Enumerated, ty-Null, ty-Oid, ty-RelativeOid, ty-Sequence, ty-Set, ty-SequenceOf, ty-SetOf, ty-Explicit}
 use Rattle.canon.specs.Node.{HasGoodNodes, AreItems, AreComponents}
 use Rattle.canon.specs.Leaf.{IsLeafOf, IsSimpleOf}
@@ -43,6 +44,16 @@ simple_view ty tag (inr (inr (inl h))) = (SimpleType.enumerated (map item_view h
 simple_view ty tag (inr (inr (inr (inl is)))) = (SimpleType.null, ap ty_view is ∙ ty-Null tag)
 simple_view ty tag (inr (inr (inr (inr (inl is))))) = (SimpleType.oid, ap ty_view is ∙ ty-Oid tag)
 simple_view ty tag (inr (inr (inr (inr (inr is))))) = (SimpleType.relative_oid, ap ty_view is ∙ ty-RelativeOid tag)
+
+pub leaf_of : (tag : Tag) (shape : Shape) → IsLeaf shape → tag_of shape ≡ tag → IsLeafOf tag shape
+leaf_of tag (Shape.simple own type) leaf is = inl (type, ap (λ t. Shape.simple t type) is)
+leaf_of tag (Shape.string own type) leaf is = inr (type, ap (λ t. Shape.string t type) is)
+leaf_of tag (Shape.sequence own components) leaf is = absurd leaf
+leaf_of tag (Shape.set own components) leaf is = absurd leaf
+leaf_of tag (Shape.sequence_of own type) leaf is = absurd leaf
+leaf_of tag (Shape.set_of own type) leaf is = absurd leaf
+leaf_of tag (Shape.choice alternatives) leaf is = absurd leaf
+leaf_of tag (Shape.explicit own type) leaf is = absurd leaf
 
 pub leaf_kept : (tag : Tag) (shape : Shape) → IsLeafOf tag shape → HasGoodNodes shape → tag.number ≤ 268_435_455
 leaf_kept tag shape (inl h) good = let whole : HasGoodNodes (Shape.simple tag h.0) = subst HasGoodNodes h.1 good in whole.within.0.0

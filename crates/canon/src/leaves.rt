@@ -1,11 +1,10 @@
 //! Lists of values without parts.
 
-ghost use Rattle.std.specs.Prelude.{◌≤◌, map, IfSome, IsNone};
+ghost use Rattle.std.specs.Prelude.{◌≤◌, map};
 ghost use Rattle.std.specs.List.{AllByRecursion};
 ghost use Rattle.octets.specs.declared.TheConstants.{MAX_TAG_NUMBER};
-ghost use Rattle.types.specs.Leaf.{IsLeaf as IsWithoutParts};
-ghost use Rattle.types.specs.View.{ty_view, value_view};
-ghost use Rattle.canon.specs.Leaf.{IsLeaf, IsLeafEncoding, IsLeafOf};
+ghost use Rattle.types.specs.View.{value_view};
+ghost use Rattle.canon.specs.Leaf.{IsLeaf, IsLeafEncoding};
 ghost use Rattle.canon.specs.Node.{AreItems};
 ghost use Rattle.canon.specs.Rule.{rule_of};
 ghost use Rattle.canon.specs.Writes.{Writes};
@@ -13,15 +12,7 @@ ghost use Rattle.canon.specs.Writes.{Writes};
 use crate::leaf::put_leaf;
 use crate::rule::CanonicalRule;
 use octets::{NoMemory, Tag};
-use types::{Ty, Value};
-
-// The tag of a type without parts; nothing of another.
-pub(crate) fn leaf_tag(ty: &Ty) -> Option<Tag>
-    ensures value { IfSome result (λ tag. IsLeafOf tag (ty_view ty.now)) }
-    ensures none { IsNone result → ¬ IsWithoutParts (ty_view ty.now) }
-{
-    if ty.has_no_parts() { ty.tag() } else { None }
-}
+use types::Value;
 
 // Appends the encodings of values under `tag`, one behind another.
 pub(crate) fn put_leaves(

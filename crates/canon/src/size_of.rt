@@ -11,7 +11,6 @@ ghost use Rattle.canon.specs.Size.{HasSize};
 ghost use Rattle.canon.specs.Writes.{IsWritable, AreWritable, AreWritableSlots};
 
 use crate::leaf::size_of_leaf;
-use crate::leaves::leaf_tag;
 use crate::parts::{chosen_in, items_in, slots_in};
 use crate::rule::CanonicalRule;
 use crate::sizes::size_of_constructed;
@@ -25,7 +24,7 @@ pub(crate) fn size_of(rule: CanonicalRule, ty: &Ty, value: &Value) -> usize
     ensures at_most { result ≤ MAX_ENCODING + 1 }
     ensures size { HasSize (IsEncoding (rule_of rule) (ty_view ty.now) (value_view value.now)) result }
 {
-    if let Some(tag) = leaf_tag(ty) {
+    if let Some(tag) = ty.leaf_tag() {
         return size_of_leaf(rule, tag, value);
     }
     match ty {

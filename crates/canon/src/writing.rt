@@ -12,7 +12,7 @@ ghost use Rattle.canon.specs.Writes.{IsWritable, AreWritable, AreWritableSlots, 
 
 use crate::heads::{put_closing, put_opening};
 use crate::leaf::put_leaf;
-use crate::leaves::{leaf_tag, put_leaves};
+use crate::leaves::put_leaves;
 use crate::parts::{chosen_in, items_in, slots_in};
 use crate::rule::CanonicalRule;
 use crate::spans::{Span, Tagged, arrange, arrange_by_tag, part};
@@ -34,7 +34,7 @@ pub(crate) fn put_value(
     ensures { Writes (IsEncoding (rule_of rule) (ty_view ty.now) (value_view value.now))
         result out.old.items out.new.items }
 {
-    if let Some(tag) = leaf_tag(ty) {
+    if let Some(tag) = ty.leaf_tag() {
         return put_leaf(rule, tag, value, out);
     }
     match ty {
@@ -93,7 +93,7 @@ fn put_items(
     ensures { Writes (AreItems (IsEncoding (rule_of rule) (ty_view ty.now)) (map value_view items.now))
         result out.old.items out.new.items }
 {
-    if let Some(tag) = leaf_tag(ty) {
+    if let Some(tag) = ty.leaf_tag() {
         return put_leaves(rule, tag, items, out);
     }
     for item in items {
@@ -144,7 +144,7 @@ fn put_components(
             continue;
         };
         let ty = &fields[place].ty;
-        match leaf_tag(ty) {
+        match ty.leaf_tag() {
             Some(tag) => put_leaf(rule, tag, value, out)?,
             None => put_value(alloc, rule, ty, value, out)?,
         }

@@ -1,12 +1,10 @@
 -- Lemmas on the encodings of types without parts.
-use Rattle.std.proofs.Common.{◌≡◌, inl, inr, ◌∷◌, [], ℕ, List, refl, sym, ap, subst}
-use Rattle.octets.specs.declared.tag.Tag.{Tag}
+use Rattle.std.proofs.Common.{◌≡◌, inl, inr, ℕ, List, refl, sym, ap, subst}
 use Rattle.octets.specs.Rule.{Rule}
 use Rattle.types.specs.Shape.{SimpleType, StringType, SimpleValue, Shape, Val}
 use Rattle.types.specs.Conforms.{SimpleConforms, Conforms}
 use Rattle.types.specs.Contents.{IsContents}
 use Rattle.types.specs.Encoding.{IsEncoding}
-use Rattle.types.specs.FirstTags.{first_tags}
 use Rattle.types.specs.Leaf.{tag_of, IsLeaf}
 use Rattle.encoding_parts.specs.Contents.{IsSimpleContents}
 

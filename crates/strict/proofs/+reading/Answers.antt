@@ -453,7 +453,7 @@ members::read_members-returns-then-not-are_filled-clause-refused = set.members::
 
 pub parts::read_parts-read_constructed-requires : goal.parts::read_parts-read_constructed-requires
 parts::read_parts-read_constructed-requires t c =
-    let own : IsNode (ty_view c.args.ty.now) = search (rules, node.the_lemmas, c.in_default-ty.not-Choice) in
+    let own : IsNode (ty_view c.args.ty.now) = search (rules, node.the_lemmas, c.in_default.not-Choice) in
     (search (rules, node.the_lemmas), (parts_of_others (ty_view c.args.ty.now) c.requires.parts own, (c.requires.good, c.requires.room)))
 
 pub parts::read_inside-read_components-requires : goal.parts::read_inside-read_components-requires

@@ -19,7 +19,7 @@ use Rattle.canon.proofs.NodeLemmas.{choice_parts, has_items, has_slots, has_inne
 use Rattle.canon.proofs.NodeSizeLemmas.{around_size}
 use Rattle.canon.proofs.SimpleLemmas.{rule_is_canonical}
 use Rattle.canon.proofs.StepLemmas.{item_size, as_many_slots, present_at, size_from_end, present_size, absent_size_any}
-use Rattle.canon.proofs.TyLemmas.{list_view, record_view, list_size, record_size}
+use Rattle.canon.proofs.TyLemmas.{leaf_of, list_view, record_view, list_size, record_size}
 use Rattle.canon.proofs.ForwardLemmas.{chosen_in_choice}
 use Rattle.canon.proofs.WritableLemmas.{stands_at, item_writable, part_writable}
 use Rattle.canon.proofs.size_of.+size.Goals as goal
@@ -96,7 +96,7 @@ pub size_of-returns-in-Some-clause-size : goal.size_of-returns-in-Some-clause-si
 size_of-returns-in-Some-clause-size t c =
     let shape = ty_view c.args.ty.now in
     let v = value_view c.args.value.now in
-    size_alike _ _ c.size_of_leaf.result (leaf_alike (rule_of c.args.rule) (rule_is_canonical c.args.rule) c.in-Some.tag shape v c.in-Some.ensures.value c.requires.conforms) c.size_of_leaf.ensures.size
+    size_alike _ _ c.size_of_leaf.result (leaf_alike (rule_of c.args.rule) (rule_is_canonical c.args.rule) c.in-Some.tag shape v (leaf_of c.in-Some.tag shape c.in-Some.ensures.leaf c.in-Some.ensures.tag) c.requires.conforms) c.size_of_leaf.ensures.size
 
 pub size_of_items-size_of-requires : goal.size_of_items-size_of-requires
 size_of_items-size_of-requires t c =

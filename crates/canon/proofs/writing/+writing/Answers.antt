@@ -33,7 +33,7 @@ use Rattle.canon.proofs.SimpleLemmas.{rule_is_canonical}
 use Rattle.canon.proofs.StepLemmas.{as_many_slots, present_at}
 use Rattle.canon.proofs.ForwardLemmas.{chosen_in_choice}
 use Rattle.canon.proofs.TagPutLemmas.{LaidTo, none_laid_by_tag, present_laid, absent_laid, all_laid, tagged_cut, by_tag_made, distinct_drop}
-use Rattle.canon.proofs.TyLemmas.{framed_view, leaf_kept}
+use Rattle.canon.proofs.TyLemmas.{framed_view, leaf_kept, leaf_of}
 use Rattle.canon.proofs.WritableLemmas.{stands_at, item_writable, part_writable}
 use Rattle.canon.proofs.WritesLemmas.{written_by, refused, written_around, put_as}
 use Rattle.canon.proofs.writing.+writing.Goals as goal
@@ -45,11 +45,11 @@ no_slot_there None h = refl
 no_slot_there (Some v) h = absurd (h v refl)
 
 pub put_value-put_leaf-requires-clause-leaf : goal.put_value-put_leaf-requires-clause-leaf
-put_value-put_leaf-requires-clause-leaf t c = leaf_conforms c.in-Some.tag (ty_view c.args.ty.now) (value_view c.args.value.now) c.in-Some.ensures.value c.requires.conforms
+put_value-put_leaf-requires-clause-leaf t c = leaf_conforms c.in-Some.tag (ty_view c.args.ty.now) (value_view c.args.value.now) (leaf_of c.in-Some.tag (ty_view c.args.ty.now) c.in-Some.ensures.leaf c.in-Some.ensures.tag) c.requires.conforms
 
 pub put_value-returns-in-Some : goal.put_value-returns-in-Some
 put_value-returns-in-Some t c =
-    let alike = leaf_alike (rule_of c.args.rule) (rule_is_canonical c.args.rule) c.in-Some.tag (ty_view c.args.ty.now) (value_view c.args.value.now) c.in-Some.ensures.value c.requires.conforms in
+    let alike = leaf_alike (rule_of c.args.rule) (rule_is_canonical c.args.rule) c.in-Some.tag (ty_view c.args.ty.now) (value_view c.args.value.now) (leaf_of c.in-Some.tag (ty_view c.args.ty.now) c.in-Some.ensures.leaf c.in-Some.ensures.tag) c.requires.conforms in
     written_by c.put_leaf.ensures alike.to
 
 pub put_value-index-requires : goal.put_value-index-requires
@@ -142,11 +142,11 @@ put_parts-returns-in-Explicit t c =
     put_as rule is same (subst (λ (e : Ty). Writes (IsEncoding rule (ty_view e) v) c.put_value.result c.args.out.now.items c.put_value.new.out.items) c.deref-in-Explicit.ensures c.put_value.ensures)
 
 pub put_items-put_leaves-requires-clause-leaves : goal.put_items-put_leaves-requires-clause-leaves
-put_items-put_leaves-requires-clause-leaves t c = leaves_conform c.in-Some.tag (ty_view c.args.ty.now) c.in-Some.ensures.value (map value_view c.args.items.now) c.requires.conform
+put_items-put_leaves-requires-clause-leaves t c = leaves_conform c.in-Some.tag (ty_view c.args.ty.now) (leaf_of c.in-Some.tag (ty_view c.args.ty.now) c.in-Some.ensures.leaf c.in-Some.ensures.tag) (map value_view c.args.items.now) c.requires.conform
 
 pub put_items-returns-in-Some : goal.put_items-returns-in-Some
 put_items-returns-in-Some t c =
-    let alike = leaves_alike c.in-Some.tag (ty_view c.args.ty.now) c.in-Some.ensures.value (rule_of c.args.rule) (rule_is_canonical c.args.rule) (map value_view c.args.items.now) c.requires.conform in
+    let alike = leaves_alike c.in-Some.tag (ty_view c.args.ty.now) (leaf_of c.in-Some.tag (ty_view c.args.ty.now) c.in-Some.ensures.leaf c.in-Some.ensures.tag) (rule_of c.args.rule) (rule_is_canonical c.args.rule) (map value_view c.args.items.now) c.requires.conform in
     written_by c.put_leaves.ensures alike.to
 
 pub put_items-put_value-requires : goal.put_items-put_value-requires
@@ -177,7 +177,7 @@ put_components-put_leaf-requires-clause-tag t c =
     let place = c.loop-place.place in
     let f = c.index-fields-place.result in
     let here = part_writable fields c.args.slots.now place f c.index-slots-place.result c.in-Some.value (omega (arith, c.min-count.ensures)) c.index-fields-place.is c.index-slots-place.is c.in-Some.is c.requires in
-    leaf_kept c.in-Some-leaf_tag.tag (ty_view (get_or fields place f).ty) c.in-Some-leaf_tag.ensures.value here.nodes
+    leaf_kept c.in-Some-leaf_tag.tag (ty_view (get_or fields place f).ty) (leaf_of c.in-Some-leaf_tag.tag (ty_view (get_or fields place f).ty) c.in-Some-leaf_tag.ensures.leaf c.in-Some-leaf_tag.ensures.tag) here.nodes
 
 pub put_components-put_leaf-requires-clause-leaf : goal.put_components-put_leaf-requires-clause-leaf
 put_components-put_leaf-requires-clause-leaf t c =
@@ -185,7 +185,7 @@ put_components-put_leaf-requires-clause-leaf t c =
     let place = c.loop-place.place in
     let f = c.index-fields-place.result in
     let here = part_writable fields c.args.slots.now place f c.index-slots-place.result c.in-Some.value (omega (arith, c.min-count.ensures)) c.index-fields-place.is c.index-slots-place.is c.in-Some.is c.requires in
-    leaf_conforms c.in-Some-leaf_tag.tag (ty_view (get_or fields place f).ty) (value_view c.in-Some.value) c.in-Some-leaf_tag.ensures.value here.conforms
+    leaf_conforms c.in-Some-leaf_tag.tag (ty_view (get_or fields place f).ty) (value_view c.in-Some.value) (leaf_of c.in-Some-leaf_tag.tag (ty_view (get_or fields place f).ty) c.in-Some-leaf_tag.ensures.leaf c.in-Some-leaf_tag.ensures.tag) here.conforms
 
 pub put_components-put_value-requires : goal.put_components-put_value-requires
 put_components-put_value-requires t c =
@@ -234,7 +234,7 @@ put_components-loop-place-preserved t c =
     subst (λ n. Appends (BeginsComponents rule fields slots n) old new) next (present_joined rule fields slots i f v old mid new there here at stands is c.loop-place.invariant one) in
     elim c.match-leaf_tag.branch [
       | put_components-in-Some-leaf_tag+in_ok-put_leaf-in-Some-leaf_tag w ↦
-          let alike = leaf_alike rule (rule_is_canonical c.args.rule) w.in-Some-leaf_tag.tag type (value_view v) w.in-Some-leaf_tag.ensures.value writable.conforms in
+          let alike = leaf_alike rule (rule_is_canonical c.args.rule) w.in-Some-leaf_tag.tag type (value_view v) (leaf_of w.in-Some-leaf_tag.tag type w.in-Some-leaf_tag.ensures.leaf w.in-Some-leaf_tag.ensures.tag) writable.conforms in
           let put = w.in_ok-put_leaf-in-Some-leaf_tag.ensures.appended in
           subst (λ (o : Vec ℕ Global). Appends (BeginsComponents rule fields slots (i + 1)) old o.items) (sym w.out-is) (more w.put_leaf.new.out.items (put.0, put.1, alike.to put.0 put.2))
       | put_components-in-None+in_ok-put_value-in-None w ↦
