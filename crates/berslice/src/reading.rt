@@ -90,6 +90,7 @@ fn read_constructed(
 
 // Reads the contents octets of one into the slot, and returns how many they are.
 #[cycle(reading)]
+#[inline(always)]
 fn read_inside(
     alloc: Global,
     ty: &Ty,

@@ -75,7 +75,7 @@ fn read_parts(
 
 // Reads an encoding of a type with parts: opens it, reads what is inside, and closes it or says why not.
 #[cycle(reading)]
-#[inline(never)]
+#[inline(always)]
 fn read_constructed(
     alloc: Global,
     rule: Canonical,
@@ -101,6 +101,7 @@ fn read_constructed(
 
 // Reads the contents octets up to their end into the slot, and returns how many they are.
 #[cycle(reading)]
+#[inline(always)]
 fn read_inside(
     alloc: Global,
     rule: Canonical,
