@@ -121,10 +121,13 @@ fn keys_of(alloc: Global, buffer: &[u8], spans: &[Span]) -> Result<Vec<Keyed>, N
 fn key(octets: &[u8]) -> u128
     ensures { result ≡ key_of 16 octets.now }
 {
+    let there = octets.len().min(16);
     let mut number = 0u128;
-    for i in 0..16 {
-        let octet = if i < octets.len() { octets[i] } else { 0 };
-        number = number * 256 + u128::from(octet);
+    for i in 0..there {
+        number = number * 256 + u128::from(octets[i]);
+    }
+    for _ in there..16 {
+        number *= 256;
     }
     number
 }
@@ -175,7 +178,7 @@ pub(crate) fn arrange_by_tag(
         return Ok(());
     }
     let mut sorted = parts;
-    sort_by_tag(&mut sorted);
+    sorted.sort_unstable_by(|a, b| a.tag.order(b.tag));
     let spans = spans_of(alloc, &sorted)?;
     join_again(alloc, out, from, &spans)
 }
@@ -185,14 +188,6 @@ fn rise(parts: &[Tagged]) -> bool
     ensures { IsTrue result → RisesByTag (map (λ part. part.tag) parts.now) }
 {
     parts.is_sorted_by(|a, b| !b.tag.order(a.tag).is_lt())
-}
-
-// Puts parts in ascending order of their tags.
-fn sort_by_tag(parts: &mut Vec<Tagged>)
-    ensures permutation { IsPermutation parts.old.items parts.new.items }
-    ensures rises { RisesByTag (map (λ part. part.tag) parts.new.items) }
-{
-    parts.sort_unstable_by(|a, b| a.tag.order(b.tag));
 }
 
 // Where the parts stand.

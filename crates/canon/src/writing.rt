@@ -4,6 +4,7 @@
 ghost use Rattle.std.specs.Prelude.{map, IfOk, OnErr};
 ghost use Rattle.types.specs.Encoding.{IsEncoding};
 ghost use Rattle.types.specs.FirstTags.{tags_of_components, AreDistinct};
+ghost use Rattle.types.specs.Leaf.{IsLeaf};
 ghost use Rattle.types.specs.View.{ty_view, value_view, components_view, slots_view};
 ghost use Rattle.canon.specs.Node.{ArePartsOf, AreItems, AreItemsInOrder, AreComponents, AreComponentsByTag};
 ghost use Rattle.canon.specs.Part.{IsPut, Keeps};
@@ -23,6 +24,7 @@ use types::{Field, Ty, Value};
 
 // Appends the encoding of `value`, or a part of it where memory runs out.
 #[cycle(writing)]
+#[inline(always)]
 pub(crate) fn put_value(
     alloc: Global,
     rule: CanonicalRule,
@@ -34,9 +36,26 @@ pub(crate) fn put_value(
     ensures { Writes (IsEncoding (rule_of rule) (ty_view ty.now) (value_view value.now))
         result out.old.items out.new.items }
 {
-    if let Some(tag) = ty.leaf_tag() {
-        return put_leaf(rule, tag, value, out);
+    match ty.leaf_tag() {
+        Some(tag) => put_leaf(rule, tag, value, out),
+        None => put_constructed(alloc, rule, ty, value, out),
     }
+}
+
+// Appends the encoding of a value that has parts, or of an alternative.
+#[cycle(writing)]
+fn put_constructed(
+    alloc: Global,
+    rule: CanonicalRule,
+    ty: &Ty,
+    value: &Value,
+    out: &mut Vec<u8>,
+) -> Result<(), NoMemory>
+    requires parts { ¬ IsLeaf (ty_view ty.now) }
+    requires writable { IsWritable (ty_view ty.now) (value_view value.now) }
+    ensures { Writes (IsEncoding (rule_of rule) (ty_view ty.now) (value_view value.now))
+        result out.old.items out.new.items }
+{
     match ty {
         Ty::Choice(alternatives) => {
             let Some((which, chosen)) = chosen_in(value) else {
@@ -97,7 +116,7 @@ fn put_items(
         return put_leaves(rule, tag, items, out);
     }
     for item in items {
-        put_value(alloc, rule, ty, item, out)?;
+        put_constructed(alloc, rule, ty, item, out)?;
     }
     Ok(())
 }
@@ -143,11 +162,7 @@ fn put_components(
         let Some(value) = &slots[place] else {
             continue;
         };
-        let ty = &fields[place].ty;
-        match ty.leaf_tag() {
-            Some(tag) => put_leaf(rule, tag, value, out)?,
-            None => put_value(alloc, rule, ty, value, out)?,
-        }
+        put_value(alloc, rule, &fields[place].ty, value, out)?;
     }
     Ok(())
 }

@@ -37,7 +37,6 @@ use Rattle.canon.proofs.TyLemmas.{framed_view, leaf_kept, leaf_of}
 use Rattle.canon.proofs.WritableLemmas.{stands_at, item_writable, part_writable}
 use Rattle.canon.proofs.WritesLemmas.{written_by, refused, written_around, put_as}
 use Rattle.canon.proofs.writing.+writing.Goals as goal
-use Rattle.canon.proofs.writing.+writing.Goals.{put_components-in-Some-leaf_tag+in_ok-put_leaf-in-Some-leaf_tag, put_components-in-None+in_ok-put_value-in-None}
 
 -- no value in a slot
 no_slot_there : (slot : Option Value) → ((v : Value) → ¬ (slot ≡ Some v)) → slot ≡ None
@@ -52,46 +51,46 @@ put_value-returns-in-Some t c =
     let alike = leaf_alike (rule_of c.args.rule) (rule_is_canonical c.args.rule) c.in-Some.tag (ty_view c.args.ty.now) (value_view c.args.value.now) (leaf_of c.in-Some.tag (ty_view c.args.ty.now) c.in-Some.ensures.leaf c.in-Some.ensures.tag) c.requires.conforms in
     written_by c.put_leaf.ensures alike.to
 
-pub put_value-index-requires : goal.put_value-index-requires
-put_value-index-requires t c =
+pub put_constructed-index-requires : goal.put_constructed-index-requires
+put_constructed-index-requires t c =
     let alternatives = c.in-Choice.alternatives in
     let is = ap ty_view c.in-Choice.is ∙ ty-Choice alternatives in
-    let parts = choice_parts alternatives.items (value_view c.args.value.now) (subst (λ (s : Shape). Conforms s (value_view c.args.value.now)) is c.requires.conforms) (subst HasGoodNodes is c.requires.nodes) in
-    let told = c.in-Some-chosen_in.ensures parts.which parts.value parts.is in
+    let parts = choice_parts alternatives.items (value_view c.args.value.now) (subst (λ (s : Shape). Conforms s (value_view c.args.value.now)) is c.requires.writable.conforms) (subst HasGoodNodes is c.requires.writable.nodes) in
+    let told = c.in-Some.ensures parts.which parts.value parts.is in
     omega (arith, told.0, parts.alternative.there, alternatives.ok.0)
 
-pub put_value-put_value-requires : goal.put_value-put_value-requires
-put_value-put_value-requires t c =
+pub put_constructed-put_value-requires : goal.put_constructed-put_value-requires
+put_constructed-put_value-requires t c =
     let rule = rule_of c.args.rule in
     let v = value_view c.args.value.now in
     let alternatives = c.in-Choice.alternatives in
     let is = ap ty_view c.in-Choice.is ∙ ty-Choice alternatives in
-    let parts = choice_parts alternatives.items v (subst (λ (s : Shape). Conforms s v) is c.requires.conforms) (subst HasGoodNodes is c.requires.nodes) in
-    let here = chosen_in_choice rule alternatives.items (ty_view c.args.ty.now) v c.in-Some-chosen_in.which (value_view c.in-Some-chosen_in.chosen.now) c.index.result.now is parts (c.in-Some-chosen_in.ensures parts.which parts.value parts.is) c.index.ensures in
+    let parts = choice_parts alternatives.items v (subst (λ (s : Shape). Conforms s v) is c.requires.writable.conforms) (subst HasGoodNodes is c.requires.writable.nodes) in
+    let here = chosen_in_choice rule alternatives.items (ty_view c.args.ty.now) v c.in-Some.which (value_view c.in-Some.chosen.now) c.index.result.now is parts (c.in-Some.ensures parts.which parts.value parts.is) c.index.ensures in
     (search (rules, node.the_lemmas, alternative.the_lemmas), here.writable)
 
-pub put_value-returns-in-Some-chosen_in : goal.put_value-returns-in-Some-chosen_in
-put_value-returns-in-Some-chosen_in t c =
+pub put_constructed-returns-in-Some : goal.put_constructed-returns-in-Some
+put_constructed-returns-in-Some t c =
     let rule = rule_of c.args.rule in
     let v = value_view c.args.value.now in
     let alternatives = c.in-Choice.alternatives in
     let is = ap ty_view c.in-Choice.is ∙ ty-Choice alternatives in
-    let parts = choice_parts alternatives.items v (subst (λ (s : Shape). Conforms s v) is c.requires.conforms) (subst HasGoodNodes is c.requires.nodes) in
+    let parts = choice_parts alternatives.items v (subst (λ (s : Shape). Conforms s v) is c.requires.writable.conforms) (subst HasGoodNodes is c.requires.writable.nodes) in
     let a = c.index.result.now in
-    let here = chosen_in_choice rule alternatives.items (ty_view c.args.ty.now) v c.in-Some-chosen_in.which (value_view c.in-Some-chosen_in.chosen.now) a is parts (c.in-Some-chosen_in.ensures parts.which parts.value parts.is) c.index.ensures in
+    let here = chosen_in_choice rule alternatives.items (ty_view c.args.ty.now) v c.in-Some.which (value_view c.in-Some.chosen.now) a is parts (c.in-Some.ensures parts.which parts.value parts.is) c.index.ensures in
     written_by c.put_value.ensures here.alike.to
 
-pub put_value-returns-in_ok-put_parts-in-Sequence : goal.put_value-returns-in_ok-put_parts-in-Sequence
-put_value-returns-in_ok-put_parts-in-Sequence t c =
+pub put_constructed-returns-in_ok-put_parts-in-Sequence : goal.put_constructed-returns-in_ok-put_parts-in-Sequence
+put_constructed-returns-in_ok-put_parts-in-Sequence t c =
     let rule = rule_of c.args.rule in
     let shape = ty_view c.args.ty.now in
     let v = value_view c.args.value.now in
     let tag = c.in-Sequence.tag in
     written_around c.put_closing.result rule tag (ArePartsOf rule shape v) (IsEncoding rule shape v) c.in_ok-place-in-Sequence.place c.args.out.now.items c.put_opening.new.out.items c.put_parts.new.out.items c.put_closing.new.out.items c.in_ok-place-in-Sequence.ensures.opened
-    c.in_ok-put_parts-in-Sequence.ensures.appended (parts_around rule tag shape v (rule_is_canonical c.args.rule) (framed_view c.args.ty.now tag c.in-Sequence.is) c.requires.conforms) c.put_closing.ensures.closed c.put_closing.ensures.kept
+    c.in_ok-put_parts-in-Sequence.ensures.appended (parts_around rule tag shape v (rule_is_canonical c.args.rule) (framed_view c.args.ty.now tag c.in-Sequence.is) c.requires.writable.conforms) c.put_closing.ensures.closed c.put_closing.ensures.kept
 
-pub put_value-returns-in_err-put_parts-in-Sequence : goal.put_value-returns-in_err-put_parts-in-Sequence
-put_value-returns-in_err-put_parts-in-Sequence t c =
+pub put_constructed-returns-in_err-put_parts-in-Sequence : goal.put_constructed-returns-in_err-put_parts-in-Sequence
+put_constructed-returns-in_err-put_parts-in-Sequence t c =
     let old = c.args.out.now.items in
     let one = c.put_opening.new.out.items in
     refused _ c.from_residual-in_err-put_parts-in-Sequence.ensures.1
@@ -149,18 +148,18 @@ put_items-returns-in-Some t c =
     let alike = leaves_alike c.in-Some.tag (ty_view c.args.ty.now) (leaf_of c.in-Some.tag (ty_view c.args.ty.now) c.in-Some.ensures.leaf c.in-Some.ensures.tag) (rule_of c.args.rule) (rule_is_canonical c.args.rule) (map value_view c.args.items.now) c.requires.conform in
     written_by c.put_leaves.ensures alike.to
 
-pub put_items-put_value-requires : goal.put_items-put_value-requires
-put_items-put_value-requires t c =
-    (search (rules, node.the_lemmas), item_writable (ty_view c.args.ty.now) c.args.items.now c.loop-item.item-index c.item-item.result (omega arith) c.item-item.is c.requires)
+pub put_items-put_constructed-requires : goal.put_items-put_constructed-requires
+put_items-put_constructed-requires t c =
+    (search (rules, node.the_lemmas), (c.in_default.ensures.none refl, item_writable (ty_view c.args.ty.now) c.args.items.now c.loop-item.item-index c.item-item.result (omega arith) c.item-item.is c.requires))
 
 pub put_items-loop-item-preserved : goal.put_items-loop-item-preserved
 put_items-loop-item-preserved t c =
-    item_behind (IsEncoding (rule_of c.args.rule) (ty_view c.args.ty.now)) c.args.items.now c.loop-item.item-index c.item-item.result c.args.out.now.items c.loop-item.out.items c.put_value.new.out.items (omega arith) c.item-item.is c.loop-item.invariant c.in_ok-put_value.ensures.appended
+    item_behind (IsEncoding (rule_of c.args.rule) (ty_view c.args.ty.now)) c.args.items.now c.loop-item.item-index c.item-item.result c.args.out.now.items c.loop-item.out.items c.put_constructed.new.out.items (omega arith) c.item-item.is c.loop-item.invariant c.in_ok-put_constructed.ensures.appended
 
-pub put_items-returns-in_err-put_value : goal.put_items-returns-in_err-put_value
-put_items-returns-in_err-put_value t c =
+pub put_items-returns-in_err-put_constructed : goal.put_items-returns-in_err-put_constructed
+put_items-returns-in_err-put_constructed t c =
     let so_far = c.loop-item.invariant in
-    refused _ c.from_residual.ensures.1 (keeps_chain c.args.out.now.items c.loop-item.out.items c.put_value.new.out.items (so_far.0, so_far.1, tt) c.in_err-put_value.ensures.kept)
+    refused _ c.from_residual.ensures.1 (keeps_chain c.args.out.now.items c.loop-item.out.items c.put_constructed.new.out.items (so_far.0, so_far.1, tt) c.in_err-put_constructed.ensures.kept)
 
 pub put_components-loop-place-init : goal.put_components-loop-place-init
 put_components-loop-place-init t c = none_joined (rule_of c.args.rule) c.args.fields.now c.args.slots.now c.args.out.now.items
@@ -170,22 +169,6 @@ put_components-returns t c =
     let many = as_many_slots c.args.fields.now c.args.slots.now c.requires.conform in
     let whole = all_joined (rule_of c.args.rule) c.args.fields.now c.args.slots.now c.loop-place.place c.args.out.now.items c.loop-place.out.items (omega (arith, c.min-count.ensures, many)) many c.loop-place.invariant in
     record { appended = whole; kept = tt }
-
-pub put_components-put_leaf-requires-clause-tag : goal.put_components-put_leaf-requires-clause-tag
-put_components-put_leaf-requires-clause-tag t c =
-    let fields = c.args.fields.now in
-    let place = c.loop-place.place in
-    let f = c.index-fields-place.result in
-    let here = part_writable fields c.args.slots.now place f c.index-slots-place.result c.in-Some.value (omega (arith, c.min-count.ensures)) c.index-fields-place.is c.index-slots-place.is c.in-Some.is c.requires in
-    leaf_kept c.in-Some-leaf_tag.tag (ty_view (get_or fields place f).ty) (leaf_of c.in-Some-leaf_tag.tag (ty_view (get_or fields place f).ty) c.in-Some-leaf_tag.ensures.leaf c.in-Some-leaf_tag.ensures.tag) here.nodes
-
-pub put_components-put_leaf-requires-clause-leaf : goal.put_components-put_leaf-requires-clause-leaf
-put_components-put_leaf-requires-clause-leaf t c =
-    let fields = c.args.fields.now in
-    let place = c.loop-place.place in
-    let f = c.index-fields-place.result in
-    let here = part_writable fields c.args.slots.now place f c.index-slots-place.result c.in-Some.value (omega (arith, c.min-count.ensures)) c.index-fields-place.is c.index-slots-place.is c.in-Some.is c.requires in
-    leaf_conforms c.in-Some-leaf_tag.tag (ty_view (get_or fields place f).ty) (value_view c.in-Some.value) (leaf_of c.in-Some-leaf_tag.tag (ty_view (get_or fields place f).ty) c.in-Some-leaf_tag.ensures.leaf c.in-Some-leaf_tag.ensures.tag) here.conforms
 
 pub put_components-put_value-requires : goal.put_components-put_value-requires
 put_components-put_value-requires t c =
@@ -228,28 +211,13 @@ put_components-loop-place-preserved t c =
     let slot = c.index-slots-place.result in
     let stands = stands_at slots i slot (Some v) c.index-slots-place.is c.in-Some.is in
     let is = present_at fields slots i f v here at stands c.requires.conform c.requires.nodes in
-    let writable = part_writable fields slots i f slot v here at c.index-slots-place.is c.in-Some.is c.requires in
-    let more : (new : List ℕ) → Appends (IsEncoding rule type (value_view v)) mid new → Appends (BeginsComponents rule fields slots (i + 1)) old new = λ new put.
-    let one = subst (λ (g : Field). Appends (IsEncoding rule (ty_view g.ty) (value_view v)) mid new) (sym at) put in
-    subst (λ n. Appends (BeginsComponents rule fields slots n) old new) next (present_joined rule fields slots i f v old mid new there here at stands is c.loop-place.invariant one) in
-    elim c.match-leaf_tag.branch [
-      | put_components-in-Some-leaf_tag+in_ok-put_leaf-in-Some-leaf_tag w ↦
-          let alike = leaf_alike rule (rule_is_canonical c.args.rule) w.in-Some-leaf_tag.tag type (value_view v) (leaf_of w.in-Some-leaf_tag.tag type w.in-Some-leaf_tag.ensures.leaf w.in-Some-leaf_tag.ensures.tag) writable.conforms in
-          let put = w.in_ok-put_leaf-in-Some-leaf_tag.ensures.appended in
-          subst (λ (o : Vec ℕ Global). Appends (BeginsComponents rule fields slots (i + 1)) old o.items) (sym w.out-is) (more w.put_leaf.new.out.items (put.0, put.1, alike.to put.0 put.2))
-      | put_components-in-None+in_ok-put_value-in-None w ↦
-          subst (λ (o : Vec ℕ Global). Appends (BeginsComponents rule fields slots (i + 1)) old o.items) (sym w.out-is) (more w.put_value.new.out.items w.in_ok-put_value-in-None.ensures.appended)
-    ]
+    let one = subst (λ (g : Field). Appends (IsEncoding rule (ty_view g.ty) (value_view v)) mid c.put_value.new.out.items) (sym at) c.in_ok-put_value.ensures.appended in
+    subst (λ n. Appends (BeginsComponents rule fields slots n) old c.put_value.new.out.items) next (present_joined rule fields slots i f v old mid c.put_value.new.out.items there here at stands is c.loop-place.invariant one)
 
-pub put_components-returns-in_err-put_leaf-in-Some-leaf_tag : goal.put_components-returns-in_err-put_leaf-in-Some-leaf_tag
-put_components-returns-in_err-put_leaf-in-Some-leaf_tag t c =
+pub put_components-returns-in_err-put_value : goal.put_components-returns-in_err-put_value
+put_components-returns-in_err-put_value t c =
     let so_far = c.loop-place.invariant in
-    refused _ c.from_residual.ensures.1 (keeps_chain c.args.out.now.items c.loop-place.out.items c.put_leaf.new.out.items (so_far.0, so_far.1, tt) c.in_err-put_leaf-in-Some-leaf_tag.ensures.kept)
-
-pub put_components-returns-in_err-put_value-in-None : goal.put_components-returns-in_err-put_value-in-None
-put_components-returns-in_err-put_value-in-None t c =
-    let so_far = c.loop-place.invariant in
-    refused _ c.from_residual-in_err-put_value-in-None.ensures.1 (keeps_chain c.args.out.now.items c.loop-place.out.items c.put_value.new.out.items (so_far.0, so_far.1, tt) c.in_err-put_value-in-None.ensures.kept)
+    refused _ c.from_residual.ensures.1 (keeps_chain c.args.out.now.items c.loop-place.out.items c.put_value.new.out.items (so_far.0, so_far.1, tt) c.in_err-put_value.ensures.kept)
 
 pub put_in_order-put_span-requires : goal.put_in_order-put_span-requires
 put_in_order-put_span-requires t c =
