@@ -1,11 +1,11 @@
 -- Lemmas on the encodings of types without parts.
-use Rattle.std.proofs.Common.{◌≡◌, inl, inr, ℕ, List, refl, sym, ap, subst}
+use Rattle.std.proofs.Common.{inl, inr, ℕ, List, refl, sym, ap, subst}
 use Rattle.octets.specs.Rule.{Rule}
 use Rattle.types.specs.Shape.{SimpleType, StringType, SimpleValue, Shape, Val}
 use Rattle.types.specs.Conforms.{SimpleConforms, Conforms}
 use Rattle.types.specs.Contents.{IsContents}
 use Rattle.types.specs.Encoding.{IsEncoding}
-use Rattle.types.specs.Leaf.{tag_of, IsLeaf}
+use Rattle.types.specs.Leaf.{IsLeaf}
 use Rattle.encoding_parts.specs.Contents.{IsSimpleContents}
 
 -- contents octets by cases on the value are those by cases on the type, where the value conforms
