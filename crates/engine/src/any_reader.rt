@@ -1,12 +1,13 @@
-//! A reader over pieces by the rule that is asked for.
+//! A reader by the rule that is asked for, which is given octets piece by piece.
 
-ghost use Rattle.std.specs.Prelude.{◌≡◌, []};
+ghost use Rattle.std.specs.Prelude.{◌≡◌, ◌≤◌, ℕ, List, [], OnOk, IfOk, length};
+ghost use Rattle.types.specs.Shape.{Shape};
 ghost use Rattle.types.specs.View.{ty_view};
 ghost use Rattle.types.specs.WellFormed.{IsWellFormed};
 ghost use Rattle.engine.specs.AnyReader.{read_rule, StandsBy};
+ghost use Rattle.engine.specs.Feeding.{IsFed, IsFinished};
 ghost use Rattle.engine.specs.Rule.{rule_of};
 
-use crate::feeding::Feed;
 use crate::strict_reader::StrictReader;
 use crate::{Canonical, Rule};
 use berreader::Reader;
@@ -33,23 +34,28 @@ impl<'a> AnyReader<'a> {
             Rule::Der => AnyReader::Strict(StrictReader::new(alloc, Canonical::Der, ty)),
         }
     }
-}
 
-impl Feed for AnyReader<'_> {
-    ghost rule = { read_rule };
-
-    ghost stands_at = { StandsBy };
-
-    fn feed(&mut self, piece: &[u8], slot: &mut Option<Value>) -> Result<usize, Refusal> {
+    /// Takes octets of a piece up to the end of a value, which is then in the slot, in the room of the one that was
+    /// there, and returns how many; or takes all of them, and empties the slot.
+    pub fn feed(&mut self, piece: &[u8], slot: &mut Option<Value>) -> Result<usize, Refusal>
+        requires { (shape : Shape) × (old : List ℕ) × StandsBy shape self.old old }
+        ensures used { IfOk result (λ used. used ≤ length piece.now) }
+        ensures rule_stays { OnOk result (read_rule self.new ≡ read_rule self.old) }
+        ensures fed { (shape : Shape) (old : List ℕ) → StandsBy shape self.old old →
+            IsFed (StandsBy shape self.new) (read_rule self.old) shape result slot.new old piece.now }
+    {
         match self {
-            AnyReader::Ber(reader) => Feed::feed(reader, piece, slot),
+            AnyReader::Ber(reader) => reader.feed_into(piece, slot),
             AnyReader::Strict(reader) => reader.feed(piece, slot),
         }
     }
 
-    fn finish(&self) -> Result<(), Refusal> {
+    /// Tells whether no value is begun.
+    pub fn finish(&self) -> Result<(), Refusal>
+        ensures { (shape : Shape) (old : List ℕ) → StandsBy shape self.now old → IsFinished result old }
+    {
         match self {
-            AnyReader::Ber(reader) => Feed::finish(reader),
+            AnyReader::Ber(reader) => reader.finish(),
             AnyReader::Strict(reader) => reader.finish(),
         }
     }

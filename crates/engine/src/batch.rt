@@ -6,11 +6,12 @@ ghost use Rattle.types.specs.Encoding.{IsAccepted};
 ghost use Rattle.types.specs.Shape.{Val};
 ghost use Rattle.types.specs.View.{value_view};
 ghost use Rattle.octets.specs.Front.{Appends};
+ghost use Rattle.engine.specs.AnyReader.{read_rule, StandsBy};
 ghost use Rattle.engine.specs.Feeding.{IsUnfinished};
 ghost use Rattle.engine.specs.Passing.{IsAdded, IsNotAdded, HasGathered, StopsGathering};
 ghost use Rattle.engine.specs.Refusal.{IsOfGathering};
 
-use crate::feeding::Feed;
+use crate::any_reader::AnyReader;
 use crate::putting::Put;
 use std::alloc::Global;
 use types::{Refusal, Value};
@@ -71,29 +72,29 @@ impl Batch {
 
     /// Gathers what stands for the values that a piece completes, in place of what was gathered. Each value is read
     /// into the room of the one before it, which is given back with the last of the piece.
-    pub fn gather<F: Feed, P: Put>(
+    pub fn gather<P: Put>(
         &mut self,
-        reader: &mut F,
+        reader: &mut AnyReader<'_>,
         writer: &P,
         piece: &[u8],
     ) -> Result<(), Refusal>
-        requires stands { (old : List ℕ) × IsUnfinished (F.stands_at (P.shape writer.now) reader.old) (F.rule reader.old) (P.shape writer.now) old }
+        requires stands { (old : List ℕ) × IsUnfinished (StandsBy (P.shape writer.now) reader.old) (read_rule reader.old) (P.shape writer.now) old }
         requires copied { IsTrue self.old.copies → (v : Val) (octets : List ℕ) →
-            IsAccepted (F.rule reader.old) (P.shape writer.now) v octets → P.stands writer.now v octets }
+            IsAccepted (read_rule reader.old) (P.shape writer.now) v octets → P.stands writer.now v octets }
         ensures copies { self.new.copies ≡ self.old.copies }
-        ensures rule_stays { OnOk result (F.rule reader.new ≡ F.rule reader.old) }
+        ensures rule_stays { OnOk result (read_rule reader.new ≡ read_rule reader.old) }
         ensures gathered { OnOk result ((old : List ℕ) →
-            IsUnfinished (F.stands_at (P.shape writer.now) reader.old) (F.rule reader.old) (P.shape writer.now) old →
-            HasGathered (IsUnfinished (F.stands_at (P.shape writer.now) reader.new) (F.rule reader.old) (P.shape writer.now))
-            (F.rule reader.old) (P.shape writer.now) (P.stands writer.now)
+            IsUnfinished (StandsBy (P.shape writer.now) reader.old) (read_rule reader.old) (P.shape writer.now) old →
+            HasGathered (IsUnfinished (StandsBy (P.shape writer.now) reader.new) (read_rule reader.old) (P.shape writer.now))
+            (read_rule reader.old) (P.shape writer.now) (P.stands writer.now)
             (old ++ piece.now) self.new.octets.items self.new.lengths.items) }
         ensures refused { IfErr result (λ refusal. (old : List ℕ) →
-            IsUnfinished (F.stands_at (P.shape writer.now) reader.old) (F.rule reader.old) (P.shape writer.now) old →
-            StopsGathering (F.rule reader.old) (P.shape writer.now) (P.stands writer.now) refusal
+            IsUnfinished (StandsBy (P.shape writer.now) reader.old) (read_rule reader.old) (P.shape writer.now) old →
+            StopsGathering (read_rule reader.old) (P.shape writer.now) (P.stands writer.now) refusal
             (old ++ piece.now) self.new.octets.items self.new.lengths.items) }
         ensures long { result ≡ Err Refusal.OutputTooLong → P.can_be_too_long }
         ensures few { length self.new.lengths.items ≤ length piece.now }
-        ensures numbers { IfErr result (IsOfGathering (F.rule reader.old)) }
+        ensures numbers { IfErr result (IsOfGathering (read_rule reader.old)) }
     {
         self.octets.clear();
         self.lengths.clear();

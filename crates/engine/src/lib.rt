@@ -4,7 +4,6 @@
 
 mod any_reader;
 mod batch;
-mod feeding;
 mod laws;
 mod lines;
 mod passing;
@@ -16,7 +15,6 @@ mod strict_reader;
 mod transcoding;
 
 pub use any_reader::AnyReader;
-pub use feeding::Feed;
 pub use laws::{equal_results_exactly_if_same_values, written_octets_stay};
 pub use passing::MAX_STREAM;
 pub use rule::Rule;

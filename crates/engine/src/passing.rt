@@ -3,6 +3,7 @@
 ghost use Rattle.std.specs.Prelude.{◌≡◌, ◌≤◌, ◌+◌, ◌++◌, ℕ, List, [], length, IsTrue, OnOk, IfOk, IfErr, MatchResult};
 ghost use Rattle.types.specs.Encoding.{IsAccepted};
 ghost use Rattle.types.specs.Shape.{Val};
+ghost use Rattle.engine.specs.AnyReader.{read_rule, StandsBy};
 ghost use Rattle.engine.specs.Feeding.{IsUnfinished};
 ghost use Rattle.engine.specs.Given.{HasGiven};
 ghost use Rattle.engine.specs.Passing.{Writes, HasPassed, HasNotPassed};
@@ -10,8 +11,8 @@ ghost use Rattle.engine.specs.Refusal.{IsOfConverting};
 ghost use Rattle.engine.specs.Stream.{most_streamed, IsStopped, OfStream, source_failures, sink_failures};
 
 use crate::Stopped;
+use crate::any_reader::AnyReader;
 use crate::batch::Batch;
-use crate::feeding::Feed;
 use crate::putting::Put;
 use devices::{Piece, Sink, Source, whole_parts, write_all};
 use types::Refusal;
@@ -21,26 +22,26 @@ pub const MAX_STREAM: u64 = 4_294_967_295;
 
 // Passes a piece on: writes what stands for the values that it completes, and returns how many values
 // are done, of which `done` were before.
-fn pass<F: Feed, P: Put, K: Sink>(
-    reader: &mut F,
+fn pass<P: Put, K: Sink>(
+    reader: &mut AnyReader<'_>,
     writer: &P,
     batch: &mut Batch,
     sink: &mut K,
     piece: &[u8],
     done: u64,
 ) -> Result<u64, Stopped>
-    requires stands { (old : List ℕ) × IsUnfinished (F.stands_at (P.shape writer.now) reader.old) (F.rule reader.old) (P.shape writer.now) old }
+    requires stands { (old : List ℕ) × IsUnfinished (StandsBy (P.shape writer.now) reader.old) (read_rule reader.old) (P.shape writer.now) old }
     requires sink { K.failures sink.old ≡ 0 }
     requires room { done + length piece.now ≤ most_streamed }
     requires copied { IsTrue batch.old.copies → (v : Val) (octets : List ℕ) →
-        IsAccepted (F.rule reader.old) (P.shape writer.now) v octets → P.stands writer.now v octets }
+        IsAccepted (read_rule reader.old) (P.shape writer.now) v octets → P.stands writer.now v octets }
     ensures copies { batch.new.copies ≡ batch.old.copies }
-    ensures rule_stays { OnOk result (F.rule reader.new ≡ F.rule reader.old) }
-    ensures passed { IfOk result (λ now. HasPassed (F.stands_at (P.shape writer.now) reader.old)
-        (F.stands_at (P.shape writer.now) reader.new) (F.rule reader.old) (P.shape writer.now) (P.stands writer.now)
+    ensures rule_stays { OnOk result (read_rule reader.new ≡ read_rule reader.old) }
+    ensures passed { IfOk result (λ now. HasPassed (StandsBy (P.shape writer.now) reader.old)
+        (StandsBy (P.shape writer.now) reader.new) (read_rule reader.old) (P.shape writer.now) (P.stands writer.now)
         done now piece.now (K.taken sink.old) (K.taken sink.new)) }
-    ensures stopped { IfErr result (λ stopped. HasNotPassed (F.stands_at (P.shape writer.now) reader.old)
-        (F.rule reader.old) (P.shape writer.now) (P.stands writer.now) P.can_be_too_long
+    ensures stopped { IfErr result (λ stopped. HasNotPassed (StandsBy (P.shape writer.now) reader.old)
+        (read_rule reader.old) (P.shape writer.now) (P.stands writer.now) P.can_be_too_long
         done stopped.done stopped.refusal piece.now (K.taken sink.old) (K.taken sink.new)) }
     ensures sink { MatchResult result (λ _. K.failures sink.new ≡ 0)
         (λ stopped. K.failures sink.new ≡ sink_failures stopped.refusal) }
@@ -65,31 +66,31 @@ fn pass<F: Feed, P: Put, K: Sink>(
 }
 
 /// Passes a source on to its end by a fresh reader, and returns how many values are done.
-pub fn pass_all<F: Feed, P: Put, S: Source, K: Sink>(
-    reader: &mut F,
+pub fn pass_all<P: Put, S: Source, K: Sink>(
+    reader: &mut AnyReader<'_>,
     writer: &P,
     batch: &mut Batch,
     source: &mut S,
     sink: &mut K,
 ) -> Result<u64, Stopped>
-    requires fresh { F.stands_at (P.shape writer.now) reader.old [] }
+    requires fresh { StandsBy (P.shape writer.now) reader.old [] }
     requires source { S.failures source.old ≡ 0 }
     requires sink { K.failures sink.old ≡ 0 }
     requires copied { IsTrue batch.old.copies → (v : Val) (octets : List ℕ) →
-        IsAccepted (F.rule reader.old) (P.shape writer.now) v octets → P.stands writer.now v octets }
+        IsAccepted (read_rule reader.old) (P.shape writer.now) v octets → P.stands writer.now v octets }
     ensures done { IfOk result (λ done. OfStream (S.left source.old) (K.taken sink.old) (K.taken sink.new)
-        (λ stream written. Writes (F.rule reader.old) (P.shape writer.now) (P.stands writer.now) done stream [] written []
+        (λ stream written. Writes (read_rule reader.old) (P.shape writer.now) (P.stands writer.now) done stream [] written []
         × (length stream ≤ most_streamed))) }
     ensures stopped { IfErr result (λ stopped. OfStream (S.left source.old) (K.taken sink.old) (K.taken sink.new)
-        (IsStopped (P.stands writer.now) (F.rule reader.old) (P.shape writer.now) stopped.done stopped.refusal)) }
+        (IsStopped (P.stands writer.now) (read_rule reader.old) (P.shape writer.now) stopped.done stopped.refusal)) }
     ensures given { IfErr result (λ stopped. stopped.refusal ≡ Refusal.SourceFault →
-        HasGiven (F.rule reader.old) (P.shape writer.now) stopped.done (S.left source.old) (S.left source.new)) }
+        HasGiven (read_rule reader.old) (P.shape writer.now) stopped.done (S.left source.old) (S.left source.new)) }
     ensures source { MatchResult result (λ _. S.failures source.new ≡ 0)
         (λ stopped. S.failures source.new ≡ source_failures stopped.refusal) }
     ensures sink { MatchResult result (λ _. K.failures sink.new ≡ 0)
         (λ stopped. K.failures sink.new ≡ sink_failures stopped.refusal) }
     ensures long { IfErr result (λ stopped. stopped.refusal ≡ Refusal.OutputTooLong → P.can_be_too_long) }
-    ensures numbers { IfErr result (λ stopped. IsOfConverting (F.rule reader.old) stopped.refusal) }
+    ensures numbers { IfErr result (λ stopped. IsOfConverting (read_rule reader.old) stopped.refusal) }
 {
     let mut piece = Piece::new();
     let mut done = 0;

@@ -6,12 +6,11 @@ ghost use Rattle.types.specs.Encoding.{IsAccepted, IsSomeAccepted};
 ghost use Rattle.types.specs.Shape.{Shape};
 ghost use Rattle.types.specs.View.{ty_view, value_view};
 ghost use Rattle.types.specs.WellFormed.{IsWellFormed};
-ghost use Rattle.engine.specs.Feeding.{IsFed};
+ghost use Rattle.engine.specs.Feeding.{IsFed, IsFinished};
 ghost use Rattle.engine.specs.Rule.{canonical_rule_of};
 ghost use Rattle.engine.specs.StrictReader.{IsOfJudging, StandsStrictly};
 
 use crate::Canonical;
-use crate::feeding::Feed;
 use berreader::Reader;
 use std::alloc::Global;
 use strict::{read_canonical, read_into};
@@ -71,14 +70,15 @@ impl<'a> StrictReader<'a> {
             Err(refusal) => Err(refusal),
         }
     }
-}
 
-impl Feed for StrictReader<'_> {
-    ghost rule = { λ strict. canonical_rule_of strict.rule };
-
-    ghost stands_at = { StandsStrictly };
-
-    fn feed(&mut self, piece: &[u8], slot: &mut Option<Value>) -> Result<usize, Refusal> {
+    /// Takes octets as `AnyReader` does.
+    pub fn feed(&mut self, piece: &[u8], slot: &mut Option<Value>) -> Result<usize, Refusal>
+        requires { (shape : Shape) × (old : List ℕ) × StandsStrictly shape self.old old }
+        ensures used { IfOk result (λ used. used ≤ length piece.now) }
+        ensures rule_stays { OnOk result (self.new.rule ≡ self.old.rule) }
+        ensures fed { (shape : Shape) (old : List ℕ) → StandsStrictly shape self.old old →
+            IsFed (StandsStrictly shape self.new) (canonical_rule_of self.old.rule) shape result slot.new old piece.now }
+    {
         if self.begun.is_empty() {
             match read_into(self.alloc, self.rule, self.ty, piece, slot) {
                 Ok(used) => return Ok(used),
@@ -89,7 +89,10 @@ impl Feed for StrictReader<'_> {
         self.feed_begun(piece, slot)
     }
 
-    fn finish(&self) -> Result<(), Refusal> {
+    /// Tells whether no value is begun.
+    pub fn finish(&self) -> Result<(), Refusal>
+        ensures { (shape : Shape) (old : List ℕ) → StandsStrictly shape self.now old → IsFinished result old }
+    {
         self.reader.finish()
     }
 }

@@ -51,7 +51,8 @@ pub fn read_one(
     }
 }
 
-// Reads an encoding of a type with parts, or of an alternative.
+// Reads an encoding of a type with parts: one of an alternative, or one that is opened, read inside, and closed, or it is
+// said why not.
 #[cycle(reading)]
 fn read_parts(
     alloc: Global,
@@ -67,29 +68,9 @@ fn read_parts(
     ensures value { IfOk result (λ used. IsRead (rule_of rule) (ty_view ty.now) room octets.now slot.new used) }
     ensures refused { IfErr result (RefusesPart rule (ty_view ty.now) room octets.now) }
 {
-    match ty {
-        Ty::Choice(alternatives) => read_chosen(alloc, rule, alternatives, room, octets, slot),
-        _ => read_constructed(alloc, rule, ty, room, octets, slot),
+    if let Ty::Choice(alternatives) = ty {
+        return read_chosen(alloc, rule, alternatives, room, octets, slot);
     }
-}
-
-// Reads an encoding of a type with parts: opens it, reads what is inside, and closes it or says why not.
-#[cycle(reading)]
-#[inline(always)]
-fn read_constructed(
-    alloc: Global,
-    rule: Canonical,
-    ty: &Ty,
-    room: usize,
-    octets: &[u8],
-    slot: &mut Option<Value>,
-) -> Result<usize, Refusal>
-    requires parts { HasParts (ty_view ty.now) }
-    requires good { IsGoodType (ty_view ty.now) }
-    requires room { room ≤ MAX_ENCODING }
-    ensures value { IfOk result (λ used. IsRead (rule_of rule) (ty_view ty.now) room octets.now slot.new used) }
-    ensures refused { IfErr result (RefusesPart rule (ty_view ty.now) room octets.now) }
-{
     let Some(tag) = ty.tag() else { unreachable!() };
     let inside = opened(rule, tag, room, octets)?;
     let behind = &octets[inside.start..];

@@ -11,7 +11,7 @@ ghost use Rattle.value_stream.specs.Next.{IsNext, IsStop};
 ghost use Rattle.value_stream.specs.Unread.{unread, IsWithin};
 
 use devices::{Piece, Source};
-use engine::{AnyReader, Feed, MAX_STREAM};
+use engine::{AnyReader, MAX_STREAM};
 use types::{Refusal, Value, WellTyped};
 
 /// A source, and a reader that is given the octets of a piece of it.

@@ -451,11 +451,6 @@ members::read_members-returns-clause-value = set.members::read_members-returns-c
 pub members::read_members-returns-then-not-are_filled-clause-refused : goal.members::read_members-returns-then-not-are_filled-clause-refused
 members::read_members-returns-then-not-are_filled-clause-refused = set.members::read_members-returns-then-not-are_filled-clause-refused
 
-pub parts::read_parts-read_constructed-requires : goal.parts::read_parts-read_constructed-requires
-parts::read_parts-read_constructed-requires t c =
-    let own : IsNode (ty_view c.args.ty.now) = search (rules, node.the_lemmas, c.in_default.not-Choice) in
-    (search (rules, node.the_lemmas), (parts_of_others (ty_view c.args.ty.now) c.requires.parts own, (c.requires.good, c.requires.room)))
-
 pub parts::read_inside-read_components-requires : goal.parts::read_inside-read_components-requires
 parts::read_inside-read_components-requires t c =
     let same : ty_view c.args.ty.now ≡ Shape.sequence c.in-Sequence.field-0 (components_view c.deref.result.now) = ap ty_view c.in-Sequence.is ∙ (ty-Sequence c.in-Sequence.field-0 c.in-Sequence.fields ∙ ap (λ l. Shape.sequence c.in-Sequence.field-0 (components_view l)) (sym c.deref.ensures.value)) in
@@ -468,19 +463,21 @@ parts::read_inside-read_members-requires t c =
     let good = subst IsGoodType same c.requires.good in
     (search (rules, node.the_lemmas), (good_members c.in-Set.field-0 c.deref-in-Set.result.now good, (good.tags.0.1, c.requires.room)))
 
-pub parts::read_constructed-returns-in_err-inside-clause-refused : goal.parts::read_constructed-returns-in_err-inside-clause-refused
-parts::read_constructed-returns-in_err-inside-clause-refused t c =
+pub parts::read_parts-returns-in_err-inside-clause-refused : goal.parts::read_parts-returns-in_err-inside-clause-refused
+parts::read_parts-returns-in_err-inside-clause-refused t c =
+    let own : IsNode (ty_view c.args.ty.now) = search (rules, node.the_lemmas, c.in_default.not-Choice) in
+    let parts = parts_of_others (ty_view c.args.ty.now) c.requires.parts own in
     let octets = c.args.octets.now in
     let rule = c.args.rule in
     let type = ty_view c.args.ty.now in
     let room = c.args.room in
     let tag = c.in-Some.tag in
     refused_through c.from_residual.result c.from_residual.ensures.1
-    (refused_by c.in_err-inside.ensures.refused (λ more h. constructed_of (rule_of rule) type tag room (octets ++ more) c.requires.parts c.in-Some.ensures.value h)
-    (λ k. begun_constructed rule type tag room octets (node_of_parts type tag c.requires.parts c.in-Some.ensures.value) (can_of_parts rule type c.requires.parts) k))
+    (refused_by c.in_err-inside.ensures.refused (λ more h. constructed_of (rule_of rule) type tag room (octets ++ more) parts c.in-Some.ensures.value h)
+    (λ k. begun_constructed rule type tag room octets (node_of_parts type tag parts c.in-Some.ensures.value) (can_of_parts rule type parts) k))
 
-pub parts::read_constructed-returns-in-Ok-clause-value : goal.parts::read_constructed-returns-in-Ok-clause-value
-parts::read_constructed-returns-in-Ok-clause-value t c =
+pub parts::read_parts-returns-in-Ok-clause-value : goal.parts::read_parts-returns-in-Ok-clause-value
+parts::read_parts-returns-in-Ok-clause-value t c =
     let octets = c.args.octets.now in
     let rule = rule_of c.args.rule in
     let type = ty_view c.args.ty.now in
@@ -490,20 +487,21 @@ parts::read_constructed-returns-in-Ok-clause-value t c =
     let read = subst (λ x. IsInsideRead rule type inside.definite inside.room x slot used) (take_rest octets inside.start) c.in-Ok.ensures.value in
     constructed_read rule type c.in-Some.tag c.args.room octets inside slot used c.close.result c.in-Some.ensures.value c.in_ok-inside.ensures.value read c.close.ensures
 
-pub parts::read_constructed-returns-in-Err-clause-refused : goal.parts::read_constructed-returns-in-Err-clause-refused
-parts::read_constructed-returns-in-Err-clause-refused t c =
+pub parts::read_parts-returns-in-Err-clause-refused : goal.parts::read_parts-returns-in-Err-clause-refused
+parts::read_parts-returns-in-Err-clause-refused t c =
+    let own : IsNode (ty_view c.args.ty.now) = search (rules, node.the_lemmas, c.in_default.not-Choice) in
+    let parts = parts_of_others (ty_view c.args.ty.now) c.requires.parts own in
     let octets = c.args.octets.now in
     let rule = c.args.rule in
     let type = ty_view c.args.ty.now in
     let room = c.args.room in
     let tag = c.in-Some.tag in
-    let own = c.in-Some.ensures.value in
-    let parts = c.requires.parts in
+    let tagged = c.in-Some.ensures.value in
     let inside = c.in_ok-inside.inside in
     let opened = c.in_ok-inside.ensures.value in
     refused_named c.refusal_inside.ensures
-    (refused_behind inside.start c.in-Err.ensures.refused (λ more h. inside_of (rule_of rule) type tag room octets more inside parts own opened h)
-    (λ k. begun_around rule type tag room octets inside (node_of_parts type tag parts own) (can_of_parts rule type parts) opened k))
+    (refused_behind inside.start c.in-Err.ensures.refused (λ more h. inside_of (rule_of rule) type tag room octets more inside parts tagged opened h)
+    (λ k. begun_around rule type tag room octets inside (node_of_parts type tag parts tagged) (can_of_parts rule type parts) opened k))
 
 pub parts::read_inside-returns-in-Sequence-clause-value : goal.parts::read_inside-returns-in-Sequence-clause-value
 parts::read_inside-returns-in-Sequence-clause-value t c =

@@ -1,6 +1,7 @@
 use Rattle.std.proofs.Common.{rules, Err, ◌<◌, ◌++◌, ℕ, List, [], length, take, refl, sym, ap, subst}
 use Rattle.std.specs.Io.KnownBytes.{Appends}
 use Rattle.devices.specs.Parts.{IsWholeCount}
+use Rattle.engine.specs.AnyReader.{read_rule, StandsBy}
 use Rattle.engine.specs.Feeding.{IsUnfinished}
 use Rattle.engine.specs.Passing.{Gathers}
 use Rattle.engine.proofs.PassingLemmas.{writes_all, writes_cut, gathering_leaves_source, gathering_converts}
@@ -9,14 +10,14 @@ use Rattle.engine.proofs.passing.pass.Goals as goal
 
 pub returns-in-Err-clause-stopped : goal.returns-in-Err-clause-stopped
 returns-in-Err-clause-stopped g c =
-    let rule = g.F.Feed.rule c.args.reader.now in
+    let rule = read_rule c.args.reader.now in
     let shape = g.P.Put.shape c.args.writer.now in
     let Stands = g.P.Put.stands c.args.writer.now in
     let octets = c.gather-gathered.new.self.octets.items in
     let lengths = c.gather-gathered.new.self.lengths.items in
     let at = c.in-Err.at in
     let count = c.whole_parts-count.result in
-    let gathers : (old : List ℕ) → IsUnfinished (g.F.Feed.stands_at shape c.args.reader.now) rule shape old → (rest : List ℕ) × Gathers rule shape Stands (old ++ c.args.piece.now) rest octets lengths = λ old unfinished.
+    let gathers : (old : List ℕ) → IsUnfinished (StandsBy shape c.args.reader.now) rule shape old → (rest : List ℕ) × Gathers rule shape Stands (old ++ c.args.piece.now) rest octets lengths = λ old unfinished.
     either_way c.gather-gathered.result _ _ _ c.gather-gathered.ensures.gathered c.gather-gathered.ensures.refused
     (λ f. let x = f old unfinished in (x.rest, x.gathers)) (λ e f. let x = f old unfinished in (x.rest, x.gathers)) in
     let whole : IsWholeCount lengths at count = subst (λ l. IsWholeCount l at count) c.as_slice-lengths.ensures.value c.whole_parts-count.ensures in
@@ -52,7 +53,7 @@ returns-in-Ok-gathered-clause-passed g c =
             count = length c.as_slice-lengths.result.now;
             counted = refl;
             takes = subst (Appends (g.K.Sink.taken c.args.sink.now) (g.K.Sink.taken c.write_all.new.sink)) c.as_slice.ensures.value c.in-Ok.ensures.written;
-            writes = writes_all (g.F.Feed.rule c.args.reader.now) (g.P.Put.shape c.args.writer.now) (g.P.Put.stands c.args.writer.now) _ n.rest octets _ _ n.gathers (ap length (sym c.as_slice-lengths.ensures.value));
+            writes = writes_all (read_rule c.args.reader.now) (g.P.Put.shape c.args.writer.now) (g.P.Put.stands c.args.writer.now) _ n.rest octets _ _ n.gathers (ap length (sym c.as_slice-lengths.ensures.value));
             stands = n.stands;
           };
       few = search rules;
@@ -71,7 +72,7 @@ returns-in-Err-gathered-clause-stopped g c =
             count = length c.as_slice-lengths.result.now;
             counted = refl;
             takes = subst (Appends (g.K.Sink.taken c.args.sink.now) (g.K.Sink.taken c.write_all.new.sink)) c.as_slice.ensures.value c.in-Ok.ensures.written;
-            writes = writes_all (g.F.Feed.rule c.args.reader.now) (g.P.Put.shape c.args.writer.now) (g.P.Put.stands c.args.writer.now) _ n.rest octets _ _ n.gathers (ap length (sym c.as_slice-lengths.ensures.value));
+            writes = writes_all (read_rule c.args.reader.now) (g.P.Put.shape c.args.writer.now) (g.P.Put.stands c.args.writer.now) _ n.rest octets _ _ n.gathers (ap length (sym c.as_slice-lengths.ensures.value));
             stops = n.stops;
           };
       source = gathering_leaves_source _ _ c.in-Err-gathered.ensures.numbers;

@@ -1,5 +1,6 @@
 use Rattle.std.proofs.Common.{rules, ◌≡◌, [], length, refl, sym, subst, arith, ◌∙◌}
 use Rattle.std.specs.Io.KnownBytes.{Consumes}
+use Rattle.engine.specs.AnyReader.{read_rule}
 use Rattle.engine.specs.Stream.{IsStopped, OfStream}
 use Rattle.engine.proofs.FeedingLemmas.{none_begun, empty_is}
 use Rattle.engine.proofs.CallLemmas.{starts, goes_on, stops, source_fails, has_given, too_long, ends_early, ends}
@@ -7,7 +8,7 @@ use Rattle.engine.proofs.passing.pass_all.Goals as goal
 
 pub loop-piece-init : goal.loop-piece-init
 loop-piece-init g c =
-    let rule = g.F.Feed.rule c.args.reader.now in
+    let rule = read_rule c.args.reader.now in
     let shape = g.P.Put.shape c.args.writer.now in
     record {
       copies = refl;
@@ -42,7 +43,7 @@ returns-in-Err-finish-clause-stopped g c =
     let gives = subst (Consumes (g.S.Source.left c.loop-piece.source) (g.S.Source.left c.read_from.new.source)) none c.in-Ok.ensures.given in
     let cut = (c.in-Err-finish.ensures shape s.rest s.stands.stands).0 in
     subst (λ refusal. OfStream (g.S.Source.left c.args.source.now) (g.K.Sink.taken c.args.sink.now) (g.K.Sink.taken c.loop-piece.sink)
-    (IsStopped (g.P.Put.stands c.args.writer.now) (g.F.Feed.rule c.args.reader.now) shape c.loop-piece.done refusal)) (sym cut)
+    (IsStopped (g.P.Put.stands c.args.writer.now) (read_rule c.args.reader.now) shape c.loop-piece.done refusal)) (sym cut)
     (ends_early _ _ _ _ _ _ _ _ _ _ _ s gives (c.in-Ok.ensures.end none) (λ old unfinished. ((c.in-Err-finish.ensures shape old unfinished.stands).1, unfinished.none)))
 
 pub returns-then-octets-total-clause-stopped : goal.returns-then-octets-total-clause-stopped

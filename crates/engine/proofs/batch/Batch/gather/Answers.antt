@@ -2,6 +2,7 @@ use Rattle.std.proofs.Common.{rules, ◌≡◌, ◌++◌, [], length, take, drop
 use Rattle.std.proofs.lemmas.List.{length_push}
 use Rattle.types.specs.View.{value_view}
 use Rattle.types.proofs.EncodedLemmas.{encoded_conforms}
+use Rattle.engine.specs.AnyReader.{read_rule}
 use Rattle.engine.proofs.PassingLemmas.{gathers_none, gathers_more}
 use Rattle.types.specs.Encoding.{IsAccepted}
 use Rattle.engine.proofs.FeedingLemmas.{none_begun, cut_piece, finished_none, gathered_all, feed_refused, add_refused}
@@ -12,7 +13,7 @@ pub loop-rest-init : goal.loop-rest-init
 loop-rest-init g c = record {
   copies = refl;
   same_rule = refl;
-  gathers = λ old unfinished. (old, unfinished, gathers_none (g.F.Feed.rule c.args.reader.now) (g.P.Put.shape c.args.writer.now) (g.P.Put.stands c.args.writer.now) (old ++ c.args.piece.now) _ _ c.clear.ensures.items c.clear-2.ensures.items);
+  gathers = λ old unfinished. (old, unfinished, gathers_none (read_rule c.args.reader.now) (g.P.Put.shape c.args.writer.now) (g.P.Put.stands c.args.writer.now) (old ++ c.args.piece.now) _ _ c.clear.ensures.items c.clear-2.ensures.items);
   few = omega (arith, ap length c.clear-2.ensures.items);
 }
 
@@ -22,7 +23,7 @@ add-requires-clause-conforms g c =
     let fed = rw c.loop-rest.invariant.same_rule at (rw c.in-Some.is at c.in-Ok.ensures.fed) in
     let i = c.loop-rest.invariant.gathers c.requires.stands.0 c.requires.stands.1 in
     let f = fed shape i.0 i.1.stands in
-    encoded_conforms (g.F.Feed.rule c.args.reader.now) shape (value_view c.in-Some.value) _ f.0.accepted.encoding
+    encoded_conforms (read_rule c.args.reader.now) shape (value_view c.in-Some.value) _ f.0.accepted.encoding
 
 pub add-requires-clause-stands : goal.add-requires-clause-stands
 add-requires-clause-stands g c =
@@ -35,13 +36,13 @@ add-requires-clause-stands g c =
       | then-self+then-is_whole w ↦
           let none = finished_none c.finish.result i.0 (c.finish.ensures shape i.0 i.1.stands) (rw c.is_ok-is_whole.ensures.value at w.if-is_whole.true) in
           let whole : i.0 ++ take c.in-Ok.used c.loop-rest.rest.now ≡ c.split_at.result.0.now = ap (λ x. x ++ take c.in-Ok.used c.loop-rest.rest.now) none ∙ sym c.split_at.ensures.front in
-          rw w.encoding-is (c.requires.copied (rw c.loop-rest.invariant.copies at w.if-self.true) v c.split_at.result.0.now (subst (IsAccepted (g.F.Feed.rule c.args.reader.now) shape v) whole accepted))
+          rw w.encoding-is (c.requires.copied (rw c.loop-rest.invariant.copies at w.if-self.true) v c.split_at.result.0.now (subst (IsAccepted (read_rule c.args.reader.now) shape v) whole accepted))
       | else-self w ↦ rw w.encoding-is tt
     ]
 
 pub loop-rest-preserved : goal.loop-rest-preserved
 loop-rest-preserved g c =
-    let rule = g.F.Feed.rule c.args.reader.now in
+    let rule = read_rule c.args.reader.now in
     let shape = g.P.Put.shape c.args.writer.now in
     let Stands = g.P.Put.stands c.args.writer.now in
     let v = value_view c.in-Some.value in
@@ -67,7 +68,7 @@ loop-rest-preserved g c =
 
 pub returns-in-Err-add-clause-refused : goal.returns-in-Err-add-clause-refused
 returns-in-Err-add-clause-refused g c = λ old unfinished.
-    let rule = g.F.Feed.rule c.args.reader.now in
+    let rule = read_rule c.args.reader.now in
     let shape = g.P.Put.shape c.args.writer.now in
     let Stands = g.P.Put.stands c.args.writer.now in
     let left = c.loop-rest.rest.now in
@@ -81,7 +82,7 @@ returns-in-Err-add-clause-refused g c = λ old unfinished.
 
 pub returns-in-Err-clause-refused : goal.returns-in-Err-clause-refused
 returns-in-Err-clause-refused g c = λ old unfinished.
-    let rule = g.F.Feed.rule c.args.reader.now in
+    let rule = read_rule c.args.reader.now in
     let shape = g.P.Put.shape c.args.writer.now in
     let Stands = g.P.Put.stands c.args.writer.now in
     let i = c.loop-rest.invariant.gathers old unfinished in
@@ -92,7 +93,7 @@ pub returns-clause-gathered : goal.returns-clause-gathered
 returns-clause-gathered g c = λ old unfinished.
     let i = c.loop-rest.invariant.gathers old unfinished in
     let none : length c.loop-rest.rest.now ≡ 0 = search rules in
-    gathered_all _ (g.F.Feed.rule c.args.reader.now) (g.P.Put.shape c.args.writer.now) (g.P.Put.stands c.args.writer.now) _ _ _ i.0 c.loop-rest.rest.now none i.1 i.2
+    gathered_all _ (read_rule c.args.reader.now) (g.P.Put.shape c.args.writer.now) (g.P.Put.stands c.args.writer.now) _ _ _ i.0 c.loop-rest.rest.now none i.1 i.2
 
 pub feed-requires : goal.feed-requires
 feed-requires g c =

@@ -1,4 +1,5 @@
 use Rattle.std.proofs.Common.{◌≡◌, ◌≤◌, ◌+◌, ◌++◌, ℕ, List, length}
+use Rattle.engine.specs.AnyReader.{read_rule, StandsBy}
 use Rattle.engine.specs.Feeding.{IsUnfinished}
 use Rattle.engine.specs.Passing.{Gathers}
 use Rattle.engine.proofs.batch.Batch.gather.Given as goal
@@ -6,10 +7,10 @@ use Rattle.engine.proofs.batch.Batch.gather.Given as goal
 abbrev pub invariant-loop-rest : goal.invariant-loop-rest
 invariant-loop-rest g l = record {
   copies : l.self.copies ≡ l.initial.self.copies;
-  same_rule : g.F.Feed.rule l.reader ≡ g.F.Feed.rule l.initial.reader;
-  gathers : (old : List ℕ) → IsUnfinished (g.F.Feed.stands_at (g.P.Put.shape l.writer) l.initial.reader) (g.F.Feed.rule l.initial.reader) (g.P.Put.shape l.writer) old
-      → (now : List ℕ) × IsUnfinished (g.F.Feed.stands_at (g.P.Put.shape l.writer) l.reader) (g.F.Feed.rule l.initial.reader) (g.P.Put.shape l.writer) now
-      × Gathers (g.F.Feed.rule l.initial.reader) (g.P.Put.shape l.writer) (g.P.Put.stands l.writer) (old ++ l.initial.rest) (now ++ l.rest) l.self.octets.items l.self.lengths.items;
+  same_rule : read_rule l.reader ≡ read_rule l.initial.reader;
+  gathers : (old : List ℕ) → IsUnfinished (StandsBy (g.P.Put.shape l.writer) l.initial.reader) (read_rule l.initial.reader) (g.P.Put.shape l.writer) old
+      → (now : List ℕ) × IsUnfinished (StandsBy (g.P.Put.shape l.writer) l.reader) (read_rule l.initial.reader) (g.P.Put.shape l.writer) now
+      × Gathers (read_rule l.initial.reader) (g.P.Put.shape l.writer) (g.P.Put.stands l.writer) (old ++ l.initial.rest) (now ++ l.rest) l.self.octets.items l.self.lengths.items;
   few : length l.self.lengths.items + length l.rest ≤ length l.initial.rest;
 }
 

@@ -3,7 +3,7 @@ use Rattle.types.specs.declared.refusal.Refusal.TheVariants.{NoMemory}
 use Rattle.engine.specs.Rule.{canonical_rule_of}
 use Rattle.engine.proofs.FeedingLemmas.{empty_is}
 use Rattle.engine.proofs.StrictReaderLemmas.{strict_at_once, memory_ran_out}
-use Rattle.engine.proofs.strict_reader.StrictReaderFeed.feed.Goals as goal
+use Rattle.engine.proofs.strict_reader.StrictReader.feed.Goals as goal
 
 pub returns-in-Ok-clause-fed : goal.returns-in-Ok-clause-fed
 returns-in-Ok-clause-fed c = λ shape old s.

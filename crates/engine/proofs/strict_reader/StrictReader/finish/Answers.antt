@@ -1,5 +1,5 @@
 use Rattle.engine.proofs.ReaderLemmas.{open_finished}
-use Rattle.engine.proofs.strict_reader.StrictReaderFeed.finish.Goals as goal
+use Rattle.engine.proofs.strict_reader.StrictReader.finish.Goals as goal
 
 pub returns : goal.returns
 returns c = λ shape old stands.
