@@ -23,3 +23,4 @@ pub mod PartsValueLemmas
 pub mod PartsOpenLemmas
 pub mod CutLemmas
 pub mod OthersLemmas
+pub mod ShortLemmas

@@ -1,17 +1,20 @@
 -- Octets that end inside a part of an encoding: `taken` octets stand before them, and what holds the part ends at `end`.
-use Rattle.std.specs.Prelude.{◌≡◌, ◌⊎◌, ℕ, ◌+◌, ◌-◌, ◌<◌, ◌≤◌, Bool, true, false, List, [], ◌∷◌, ◌++◌, length}
+use Rattle.std.specs.Prelude.{◌≡◌, ◌⊎◌, ℕ, ◌+◌, ◌-◌, ◌<◌, ◌≤◌, Bool, true, false, List, [], ◌∷◌, ◌++◌, length, Result, Err, IfOk, IfErr}
 use Rattle.octets.specs.declared.tag.Tag.{Tag}
 use Rattle.octets.specs.Front.{HasFront, Begins}
 use Rattle.octets.specs.Identifier.{IsIdentifier, IsSomeIdentifier}
 use Rattle.octets.specs.Length.{IsLength, IsSomeLength}
 use Rattle.types.specs.Leaf.{IsLeaf}
 use Rattle.types.specs.Shape.{Shape}
+use Rattle.types.specs.declared.refusal.Refusal.{Refusal}
+use Rattle.types.specs.declared.refusal.Refusal.TheVariants.{Truncated}
 use Rattle.encoding_parts.specs.declared.frame.Frame.{Frame}
 use Rattle.encoding_parts.specs.declared.joined.Kind.{Kind}
 use Rattle.encoding_parts.specs.declared.segments.Segments.{Segments}
 use Rattle.encoding_parts.specs.Joined.{IsString, IsWholePiece, segment_of, string_of, string_shape}
 use Rattle.encoding_parts.specs.Lengths.{CanHaveLength}
-use Rattle.encoding_parts.specs.Segments.{IsTop}
+use Rattle.encoding_parts.specs.Refuses.{Refuses}
+use Rattle.encoding_parts.specs.Segments.{CanComplete, IsTop, Passes}
 
 -- they begin identifier octets of a tag within the limit, and are none yet
 pub record IsIdentifierCut (end taken : ℕ) (octets : List ℕ) : Type 0 where
@@ -79,3 +82,9 @@ pub record IsStringCut (kind : Kind) (segments : Segments) (octets : List ℕ) :
   pub frame : Frame
   pub top : IsTop frame segments.frames.items
   pub cut : IsCutInside kind segments frame octets
+
+-- what taking a segment leads to: octets are passed, or are refused; where more may come, nothing has changed
+pub record Advances (kind : Kind) (old new : Segments) (frame : Frame) (octets : List ℕ) (result : Result ℕ Refusal) : Type 0 where
+  pub passed : IfOk result (Passes kind old new octets)
+  pub refused : IfErr result (Refuses (CanComplete kind old) (IsCutInside kind old frame) octets)
+  pub unchanged : result ≡ Err Truncated → new ≡ old

@@ -1,6 +1,6 @@
 -- Identifier octets and length octets (X.690 8.1.2 and 8.1.3) at the front, within what holds the encoding:
 -- `taken` octets stand before, and its contents octets end at `end`.
-use Rattle.std.specs.Prelude.{◌≡◌, ◌⊎◌, ℕ, ◌+◌, ◌≤◌, Bool, true, List, [], ◌∷◌, ◌++◌, length, take}
+use Rattle.std.specs.Prelude.{◌≡◌, ◌⊎◌, ℕ, ◌+◌, ◌<◌, ◌≤◌, Bool, true, false, List, [], ◌∷◌, ◌++◌, length, take, get_or}
 use Rattle.octets.specs.declared.tag.Tag.{Tag}
 use Rattle.octets.specs.Identifier.{IsIdentifier}
 use Rattle.octets.specs.Length.{IsLength}
@@ -71,3 +71,20 @@ pub record IsPrimitiveWithin (tag : Tag) (end taken : ℕ) (octets : List ℕ) :
   pub primitive : IsPrimitive ber tag contents part
   pub fits : taken + length part ≤ end
   pub parts : octets ≡ part ++ rest
+
+-- the octets begin with one of so many octets, at most the room: one identifier octet, one length octet below 128, and
+-- the contents octets
+pub record IsShortPrimitive (tag : Tag) (room : ℕ) (octets : List ℕ) (count : ℕ) : Type 0 where
+  pub contents : ℕ
+  pub low : contents < 128
+  pub counted : count ≡ 2 + contents
+  pub there : count ≤ length octets
+  pub fits : count ≤ room
+  pub tagged : IsIdentifier tag false (get_or octets 0 0 ∷ [])
+  pub sized : contents ≡ get_or octets 1 0
+
+-- a primitive encoding of these contents octets ends behind so many of the octets, within what holds it
+pub record IsPrimitiveAt (tag : Tag) (end taken : ℕ) (octets contents : List ℕ) (stop : ℕ) : Type 0 where
+  pub there : stop ≤ length octets
+  pub fits : taken + stop ≤ end
+  pub primitive : IsPrimitive ber tag contents (take stop octets)

@@ -19,6 +19,7 @@ mod lengths;
 mod parts;
 mod segments;
 mod set_components;
+mod short;
 mod slots;
 
 pub use choices::{begins, by_tag, is_node, node_of, node_within, wrap};
@@ -35,4 +36,5 @@ pub use segments::{Segments, read_end};
 pub use set_components::{
     SetComponent, SetComponents, is_default, not_due, set_component_due, set_components_of,
 };
+pub use short::{is_identifier, short_primitive};
 pub use slots::{clear, empty_slots, put_chosen, take_bits, take_chosen, take_list, take_slots};

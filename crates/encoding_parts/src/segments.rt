@@ -8,7 +8,9 @@ ghost use Rattle.octets.specs.Rule.{ber};
 ghost use Rattle.types.specs.Form.{IsPrimitive};
 ghost use Rattle.types.specs.Refusal.{IsFinal, IsOfReading};
 ghost use Rattle.encoding_parts.specs.Completing.{IsEndOf, Opens};
-ghost use Rattle.encoding_parts.specs.Cut.{IsCutInside, IsEndCut, IsStringCut};
+ghost use Rattle.encoding_parts.specs.Cut.{Advances, IsCutInside, IsEndCut, IsStringCut};
+ghost use Rattle.encoding_parts.specs.Head.{IsPrimitiveAt};
+ghost use Rattle.encoding_parts.specs.Joined.{segment_of};
 ghost use Rattle.encoding_parts.specs.Refuses.{Refuses};
 ghost use Rattle.encoding_parts.specs.Segments.{BeginsAboveZero, CanComplete, EndsAt, IsOpened, IsSegmentDue, IsSound, IsTaken, IsTop, Passes};
 
@@ -16,6 +18,7 @@ use crate::frame::{Frame, INLINE_FRAMES, close, open, top};
 use crate::head::{END_OF_CONTENTS, read_tag, refusal_inside};
 use crate::joined::{Joined, Kind, segment_tag};
 use crate::parts::{read_contents_place, read_opening};
+use crate::short::short_primitive;
 use smallvec::SmallVec;
 use std::alloc::Global;
 use types::Refusal;
@@ -127,6 +130,12 @@ impl Segments {
         ensures refused { IfErr result (Refuses (CanComplete kind self.old) (IsCutInside kind self.old frame) octets.now) }
         ensures unchanged { result ≡ Err Refusal.Truncated → self.new ≡ self.old }
     {
+        if self.joined.unused == 0 {
+            let room = frame.end.saturating_sub(self.taken);
+            if let Some(end) = short_primitive(segment_tag(kind), room, octets) {
+                return self.join(kind, frame, octets, &octets[2..end], end);
+            }
+        }
         let (constructed, identifier) = read_tag(segment_tag(kind), frame.end, self.taken, octets)?;
         if self.joined.unused != 0 {
             return Err(Refusal::Contents);
@@ -135,7 +144,23 @@ impl Segments {
             return self.constructed(kind, frame, identifier, octets);
         }
         let (start, end) = read_contents_place(frame.end, self.taken, identifier, octets)?;
-        self.joined.join(kind, &octets[start..end])?;
+        self.join(kind, frame, octets, &octets[start..end], end)
+    }
+
+    // Takes the primitive segment of these contents octets, which ends behind so many octets.
+    fn join(
+        &mut self,
+        kind: Kind,
+        frame: Frame,
+        octets: &[u8],
+        contents: &[u8],
+        end: usize,
+    ) -> Result<usize, Refusal>
+        requires due { (identifier : ℕ) × IsSegmentDue kind self.old frame octets.now false identifier }
+        requires place { IsPrimitiveAt (segment_of kind) frame.end self.old.taken octets.now contents.now end }
+        ensures { Advances kind self.old self.new frame octets.now result }
+    {
+        self.joined.join(kind, contents)?;
         self.taken += end;
         Ok(end)
     }

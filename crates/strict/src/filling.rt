@@ -10,9 +10,8 @@ ghost use Rattle.strict.specs.Canonical.{rule_of};
 ghost use Rattle.strict.specs.Leaf.{IsBitsOf, IsBooleanOf};
 ghost use Rattle.strict.specs.Reading.{IsRead};
 
-use crate::short::short_primitive;
 use crate::values::{has_zeros_unused, read_truth, read_value};
-use encoding_parts::{fill, take_bits};
+use encoding_parts::{fill, short_primitive, take_bits};
 use octets::Tag;
 use primitives::read_bits_in;
 use std::alloc::Global;

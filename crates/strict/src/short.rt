@@ -1,33 +1,16 @@
-//! Encodings that two octets stand before: one identifier octet (X.690 8.1.2.2), and one length octet (8.1.3.4) or the
-//! octet 80 (8.1.3.6). Most are such, and are found by one look; of all others nothing is said here.
+//! Constructed encodings that two octets stand before what is inside: one identifier octet (X.690 8.1.2.2), and one length
+//! octet (8.1.3.4) or the octet 80 (8.1.3.6). Most are such, and are found by one look; of all others nothing is said here.
 
 ghost use Rattle.std.specs.Prelude.{◌+◌, ◌≤◌, ◌<◌, ◌∷◌, [], true, length, get_or, IsTrue, IfSome};
 ghost use Rattle.octets.specs.Identifier.{IsIdentifier};
 ghost use Rattle.octets.specs.Rule.{cer, der};
 ghost use Rattle.strict.specs.Canonical.{rule_of};
 ghost use Rattle.strict.specs.Head.{IsOpened};
-ghost use Rattle.strict.specs.Leaf.{IsPlace};
 
 use crate::canonical::Canonical;
 use crate::head::Inside;
-use octets::{Class, Tag};
-
-// How many octets the primitive encoding at the front has, if it has the tag and at most `room` octets. Its contents
-// octets begin behind two of them.
-#[inline(always)]
-pub fn short_primitive(tag: Tag, room: usize, octets: &[u8]) -> Option<usize>
-    ensures place { IfSome result (λ stop. IsPlace tag room octets.now 2 stop) }
-    ensures short { IfSome result (λ stop. stop ≤ 129) }
-{
-    if octets.len() < 2 || octets[1] >= 0x80 || !is_identifier(tag, false, octets[0]) {
-        return None;
-    }
-    let stop = 2 + usize::from(octets[1]);
-    if stop > room || stop > octets.len() {
-        return None;
-    }
-    Some(stop)
-}
+use encoding_parts::is_identifier;
+use octets::Tag;
 
 // What stands inside the constructed encoding at the front, if it has the tag, the form of the rule and at most `room`
 // octets.
@@ -79,19 +62,4 @@ fn short_indefinite(tag: Tag, room: usize, octets: &[u8]) -> Option<Inside>
         room: room - 2 - 2,
         definite: false,
     })
-}
-
-// Whether the octet alone is the identifier octets of the tag and the form (X.690 8.1.2.2).
-#[inline(always)]
-fn is_identifier(tag: Tag, constructed: bool, octet: u8) -> bool
-    ensures { IsTrue result → IsIdentifier tag constructed (octet ∷ []) }
-{
-    let class = match tag.class {
-        Class::Universal => 0x00,
-        Class::Application => 0x40,
-        Class::Context => 0x80,
-        Class::Private => 0xC0,
-    };
-    let form = if constructed { 0x20 } else { 0x00 };
-    tag.number < 31 && u32::from(octet) == class + form + tag.number
 }

@@ -1,15 +1,12 @@
-use Rattle.std.proofs.Common.{rules, ◌≡◌, ℕ, List, inl, inr, ◌+◌, [], ◌++◌, false, Err, refl, sym, ap, subst, append-nil}
+use Rattle.std.proofs.Common.{rules, ◌≡◌, ℕ, List, inl, [], ◌++◌, false, Err, sym, ap, subst, append-nil}
 use Rattle.std.specs.Prelude.{slice_range}
-use Rattle.encoding_parts.specs.declared.segments.Segments.{Segments}
-use Rattle.encoding_parts.specs.Cut.{IsCutInside}
-use Rattle.encoding_parts.specs.Head.{IsTagWithin, IsPrimitiveWithin}
+use Rattle.encoding_parts.specs.Head.{IsPrimitiveAt, IsReadTag, IsTagWithin, IsPrimitiveWithin}
 use Rattle.encoding_parts.specs.Joined.{segment_of}
-use Rattle.encoding_parts.specs.Refuses.{Refuses}
 use Rattle.encoding_parts.specs.Segments.{CanComplete, IsSegmentDue}
 use Rattle.encoding_parts.proofs.CutLemmas.{segment_primitive}
-use Rattle.encoding_parts.proofs.JoinedLemmas.{whole_held}
-use Rattle.encoding_parts.proofs.RefusesLemmas.{passed_on, refused_for_good, refused_for_memory}
-use Rattle.encoding_parts.proofs.SegmentsLemmas.{tag_of_next, tag_of_next_whole, whole_of_next, primitive_next, piece_next, taken_primitive}
+use Rattle.encoding_parts.proofs.RefusesLemmas.{passed_on, refused_for_good}
+use Rattle.encoding_parts.proofs.SegmentsLemmas.{tag_of_next, tag_of_next_whole, whole_of_next, primitive_next}
+use Rattle.encoding_parts.proofs.ShortLemmas.{short_at, short_tag}
 use Rattle.encoding_parts.proofs.segments.Segments.segment.Goals as goal
 
 pub returns-in_err-constructed-clause-refused : goal.returns-in_err-constructed-clause-refused
@@ -17,8 +14,8 @@ returns-in_err-constructed-clause-refused c =
     let s = c.args.self.now in
     let octets = c.args.octets.now in
     let said = c.in_err-constructed.ensures in
-    let due : (x : List ℕ) → IsTagWithin (segment_of c.args.kind) c.args.frame.end s.taken x → IsTagWithin c.segment_tag.result c.args.frame.end s.taken x =
-    λ x. subst (λ t. IsTagWithin t c.args.frame.end s.taken x) (sym c.segment_tag.ensures) in
+    let due : (x : List ℕ) → IsTagWithin (segment_of c.args.kind) c.args.frame.end s.taken x → IsTagWithin c.segment_tag-2.result c.args.frame.end s.taken x =
+    λ x. subst (λ t. IsTagWithin t c.args.frame.end s.taken x) (sym c.segment_tag-2.ensures) in
     passed_on c.from_residual.result _ _ _ _ c.from_residual.ensures.1 (record {
       truncated = λ is h. said.truncated (ap Err is) (due octets (tag_of_next_whole c.args.kind s c.args.frame octets c.requires.top c.requires.no_end h));
       cut = λ is. inl (said.cut (ap Err is));
@@ -50,36 +47,24 @@ returns-in_err-start-clause-refused c =
       numbers = said.numbers;
     })
 
-pub returns-in_err-join-clause-refused : goal.returns-in_err-join-clause-refused
-returns-in_err-join-clause-refused c =
-    let i = c.in_ok-constructed.identifier in
-    let due : IsSegmentDue c.args.kind c.args.self.now c.args.frame c.args.octets.now false i = search rules in
-    let octets = c.args.octets.now in
-    let start = c.in_ok-start.start in
-    let end = c.in_ok-start.end in
-    let said = c.in_err-join.ensures in
-    passed_on c.from_residual-in_err-join.result _ _ _ _ c.from_residual-in_err-join.ensures.1 (elim said.numbers [
-      | inl contents ↦ subst (Refuses (CanComplete c.args.kind c.args.self.now) (IsCutInside c.args.kind c.args.self.now c.args.frame) octets) (sym contents)
-          (refused_for_good _ _ _ _ tt tt (λ more h.
-          let found = piece_next c.args.kind c.args.self.now c.args.frame i end octets (slice_range octets start end) more due.top due.tagged (due.no_end more)
-          (c.in_ok-start.ensures.value (segment_of c.args.kind) due.tagged.tagged) h in
-          said.none (ap Err contents) found.0 found.1))
-      | inr memory ↦ subst (Refuses (CanComplete c.args.kind c.args.self.now) (IsCutInside c.args.kind c.args.self.now c.args.frame) octets) (sym memory) (refused_for_memory _ _ _)
-    ])
+pub join-requires-clause-due : goal.join-requires-clause-due
+join-requires-clause-due c =
+    let s = c.args.self.now in
+    let tagged = short_tag c.segment_tag.result c.args.frame.end s.taken c.saturating_sub-room.result c.in-Some.end c.args.octets.now c.saturating_sub-room.ensures c.in-Some.ensures in (
+      1,
+      record {
+        top = c.requires.top;
+        sound = c.requires.sound;
+        no_end = c.requires.no_end;
+        whole = c.if-self-eq0.true;
+        tagged = subst (λ t. IsReadTag t c.args.frame.end s.taken c.args.octets.now false 1) c.segment_tag.ensures tagged;
+      },
+    )
 
-pub returns-clause-passed : goal.returns-clause-passed
-returns-clause-passed c =
-    let i = c.in_ok-constructed.identifier in
-    let due : IsSegmentDue c.args.kind c.args.self.now c.args.frame c.args.octets.now false i = search rules in
-    let old = c.args.self.now in
+pub join-requires-clause-place : goal.join-requires-clause-place
+join-requires-clause-place c =
+    let s = c.args.self.now in
     let octets = c.args.octets.now in
-    let start = c.in_ok-start.start in
-    let end = c.in_ok-start.end in
-    let new : Segments = record { frames = old.frames; levels = old.levels; taken = old.taken + end; joined = c.join.new.self } in
-    record {
-      taken = taken_primitive c.args.kind old new c.args.frame due.top.0 octets (slice_range octets start end) end refl due.top.1 due.top.1 refl
-          c.in_ok-start.ensures.bounds.1 c.in_ok-start.ensures.bounds.2 (whole_held c.args.kind old.joined.octets.items old.joined.unused due.whole)
-          (c.in_ok-start.ensures.value (segment_of c.args.kind) due.tagged.tagged) c.in_ok-join.ensures.joined c.in_ok-join.ensures.light;
-      sound = search rules;
-      smaller = search rules;
-    }
+    let end = c.in-Some.end in
+    let at = short_at c.segment_tag.result c.args.frame.end s.taken c.saturating_sub-room.result end octets c.saturating_sub-room.ensures c.in-Some.ensures in
+    subst (λ t. IsPrimitiveAt t c.args.frame.end s.taken octets (slice_range octets 2 end) end) c.segment_tag.ensures at
