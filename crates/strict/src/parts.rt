@@ -51,8 +51,7 @@ pub fn read_one(
     }
 }
 
-// Reads an encoding of a type with parts: one of an alternative, or one that is opened, read inside, and closed, or it is
-// said why not.
+// Reads an encoding of a type with parts: that of an alternative, or one that is opened, read inside and closed.
 #[cycle(reading)]
 fn read_parts(
     alloc: Global,
