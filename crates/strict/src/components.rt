@@ -110,6 +110,7 @@ fn read_component(
 
 // Reads the encoding of the component at the front, which is not that of its default.
 #[cycle(reading)]
+#[inline(always)]
 pub fn read_present(
     alloc: Global,
     rule: Canonical,
