@@ -7,8 +7,8 @@
 # It needs rt and make. A line is printed where the proof of a crate begins, and one where it has ended: how many have,
 # what it took, and about how long the rest will take, by the times so far and the minutes of processor time in
 # docs/CONTRIBUTING.md, with a minute for each program.
-# What an earlier check or install on this machine proved of the same files is used again, and takes a second or two. So
-# are programs that `rt ci` proved.
+# What an earlier check or install on this machine proved of the same files is used again, and takes a second or two. What
+# `rt ci` proved is not: it keeps programs for itself.
 # Nothing is built where a proof fails.
 set -eu
 
@@ -25,8 +25,7 @@ with_libraries() {
         tac
 }
 
-# Makes a repository at $1 of a crate, $2, and the libraries that it stands on: by links to their files, or as a copy
-# without edits and without what was proved.
+# Makes a repository at $1 of a crate, $2, and the libraries that it stands on, by links to their files but the edits.
 make_repository() {
     mkdir -p "$1/crates"
     cp HANDLES "$1"
@@ -34,10 +33,9 @@ make_repository() {
         grep -E "^$crate( staticlib)?:" crates.txt
         mkdir "$1/crates/$crate"
         for it in "crates/$crate"/*; do
-            case $3$it in
-            links*) cp -al "$it" "$1/crates/$crate" ;;
-            */must-fail | */out) ;;
-            *) cp -r "$it" "$1/crates/$crate" ;;
+            case $it in
+            */must-fail) ;;
+            *) cp -al "$it" "$1/crates/$crate" ;;
             esac
         done
     done >"$1/crates.txt"
@@ -50,7 +48,7 @@ words() {
 
 # Proves a crate, in a repository of its own, since a run of rt waits for any other that works on one of its crates.
 prove() {
-    make_repository "$work/$1" "$1" links &&
+    make_repository "$work/$1" "$1" &&
         (
             cd "$work/$1/crates/$1" &&
                 if [ -f src/main.rt ]; then rt run --jobs "$jobs" -- --help >/dev/null; else rt lib --jobs "$jobs" >&2; fi
@@ -80,8 +78,8 @@ if [ "$1" = --one ]; then
     exit
 fi
 
-work=$(mktemp -d "$PWD/.install.XXXXXX") copies=$(mktemp -d)
-trap 'rm -rf "$work" "$copies"' EXIT
+work=$(mktemp -d "$PWD/.install.XXXXXX")
+trap 'rm -rf "$work"' EXIT
 trap 'exit 130' INT TERM
 
 # The minutes of processor time that the proof of a crate takes, where that was timed.
@@ -101,27 +99,7 @@ rules() {
         }' "$work/crates" crates.txt
 }
 
-# Builds a program of what `rt ci` kept on this machine, in a copy, where it has kept all of it. That takes some seconds;
-# whatever takes longer is left to a proof in place. It keeps no static library.
-build_from_kept() {
-    ! grep -q "^$1 staticlib" crates.txt || return 1
-    make_repository "$copies/$1" "$1" copy
-    (cd "$copies/$1" && timeout 60 rt ci "$1") >"$copies/said" 2>&1 || return 1
-    mkdir -p "crates/$1/out"
-    mv "$copies/$1/crates/$1/out/$1" "crates/$1/out"
-}
-
-left=
-for program; do
-    if build_from_kept "$program"; then
-        echo "built $program, which the gate has proved on this machine"
-    else
-        left="$left $program"
-    fi
-done
-[ -n "$left" ] || exit 0
-
-for crate in $(with_libraries $left); do
+for crate in $(with_libraries "$@"); do
     echo "$crate $(minutes_of "$crate")"
 done | awk '{ print $1, ($2 > 0 ? $2 : 1) }' >"$work/crates"
 
@@ -135,4 +113,4 @@ export work jobs
 echo "proving $(wc -l <"$work/crates") crates, $lanes side by side: minutes from nothing, and seconds for each library that was proved here before"
 date +%s >"$work/begun"
 rules >"$work/rules"
-env -u MAKEFLAGS -u MFLAGS -u MAKELEVEL make --no-print-directory -s -j "$lanes" -f "$work/rules" $left
+env -u MAKEFLAGS -u MFLAGS -u MAKELEVEL make --no-print-directory -s -j "$lanes" -f "$work/rules" "$@"
