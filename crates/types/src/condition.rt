@@ -52,10 +52,7 @@ pub fn each_meets(condition: Condition, ty: &Ty) -> bool
         Ty::SetOf(_, inner) => each_meets(condition, inner),
         Ty::Explicit(_, inner) => each_meets(condition, inner),
         Ty::Choice(alternatives) => alternatives_meet(condition, alternatives),
-        Ty::Boolean(_) | Ty::Integer(_) | Ty::Enumerated(_, _) | Ty::Null(_) => true,
-        Ty::Oid(_) | Ty::RelativeOid(_) => true,
-        Ty::Bits(_) | Ty::NamedBits(_, _) | Ty::Octets(_) => true,
-        Ty::Text(_, _) | Ty::Time(_, _) => true,
+        _ => true,
     }
 }
 

@@ -14,11 +14,7 @@ pub fn has_good_defaults(ty: &Ty) -> bool
     match ty {
         Ty::Sequence(_, fields) => are_good_defaults(fields),
         Ty::Set(_, fields) => are_good_defaults(fields),
-        Ty::Boolean(_) | Ty::Integer(_) | Ty::Enumerated(_, _) | Ty::Null(_) => true,
-        Ty::Oid(_) | Ty::RelativeOid(_) => true,
-        Ty::Bits(_) | Ty::NamedBits(_, _) | Ty::Octets(_) => true,
-        Ty::Text(_, _) | Ty::Time(_, _) => true,
-        Ty::SequenceOf(_, _) | Ty::SetOf(_, _) | Ty::Choice(_) | Ty::Explicit(_, _) => true,
+        _ => true,
     }
 }
 
@@ -54,9 +50,7 @@ fn takes_default(ty: &Ty) -> bool
         Ty::Bits(_) | Ty::NamedBits(_, _) | Ty::Octets(_) => true,
         Ty::Text(_, kind) => *kind != TextKind::Bmp,
         Ty::Explicit(_, inner) => takes_default(inner),
-        Ty::Null(_) | Ty::Oid(_) | Ty::RelativeOid(_) | Ty::Time(_, _) => false,
-        Ty::Sequence(_, _) | Ty::Set(_, _) | Ty::Choice(_) => false,
-        Ty::SequenceOf(_, _) | Ty::SetOf(_, _) => false,
+        _ => false,
     }
 }
 

@@ -15,11 +15,7 @@ pub fn numbers_differ(ty: &Ty) -> bool
     match ty {
         Ty::Enumerated(_, items) => items.len() > MAX_LIST || all_differ(items),
         Ty::NamedBits(_, bits) => bits.len() > MAX_LIST || all_bits_differ(bits),
-        Ty::Boolean(_) | Ty::Integer(_) | Ty::Null(_) => true,
-        Ty::Oid(_) | Ty::RelativeOid(_) => true,
-        Ty::Bits(_) | Ty::Octets(_) | Ty::Text(_, _) | Ty::Time(_, _) => true,
-        Ty::Sequence(_, _) | Ty::Set(_, _) | Ty::Choice(_) => true,
-        Ty::SequenceOf(_, _) | Ty::SetOf(_, _) | Ty::Explicit(_, _) => true,
+        _ => true,
     }
 }
 

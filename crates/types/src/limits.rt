@@ -22,10 +22,7 @@ pub fn nodes_left(ty: &Ty, nodes: usize, levels: usize) -> Option<usize>
         Ty::SetOf(_, inner) => nodes_left(inner, others, levels.checked_sub(1)?),
         Ty::Explicit(_, inner) => nodes_left(inner, others, levels.checked_sub(1)?),
         Ty::Choice(alternatives) => left_by_alternatives(alternatives, others, levels),
-        Ty::Boolean(_) | Ty::Integer(_) | Ty::Enumerated(_, _) | Ty::Null(_) => Some(others),
-        Ty::Oid(_) | Ty::RelativeOid(_) => Some(others),
-        Ty::Bits(_) | Ty::NamedBits(_, _) | Ty::Octets(_) => Some(others),
-        Ty::Text(_, _) | Ty::Time(_, _) => Some(others),
+        _ => Some(others),
     }
 }
 

@@ -113,22 +113,9 @@ impl Ty {
     {
         match self {
             Ty::Choice(_) => None,
-            Ty::Boolean(tag)
-            | Ty::Integer(tag)
-            | Ty::Enumerated(tag, _)
-            | Ty::Null(tag)
-            | Ty::Oid(tag)
-            | Ty::RelativeOid(tag)
-            | Ty::Bits(tag)
-            | Ty::NamedBits(tag, _)
-            | Ty::Octets(tag)
-            | Ty::Text(tag, _)
-            | Ty::Time(tag, _)
-            | Ty::Sequence(tag, _)
-            | Ty::Set(tag, _)
-            | Ty::SequenceOf(tag, _)
-            | Ty::SetOf(tag, _)
-            | Ty::Explicit(tag, _) => Some(*tag),
+            Ty::Sequence(tag, _) | Ty::Set(tag, _) => Some(*tag),
+            Ty::SequenceOf(tag, _) | Ty::SetOf(tag, _) | Ty::Explicit(tag, _) => Some(*tag),
+            _ => self.leaf_tag(),
         }
     }
 
