@@ -1,26 +1,19 @@
 -- Lemmas on the tags that the encodings of a type begin with: they are within the limit, and one is the least.
 use Rattle.std.specs.List.{AllByRecursion}
-use Rattle.std.proofs.Common.{◌≡◌, ◌+◌, ◌⊎◌, inl, inr, ◌<◌, ◌≤◌, ℕ, zero, suc, List, [], ◌∷◌, ◌++◌, Vec, Global, length, drop, get_or, refl, sym, ap, ◌∙◌, subst, arith, append-nil, Contains}
+use Rattle.std.proofs.Common.{◌≡◌, ◌+◌, inl, inr, ◌<◌, ◌≤◌, ℕ, zero, suc, List, [], ◌∷◌, ◌++◌, length, drop, get_or, refl, sym, ap, ◌∙◌, subst, arith, append-nil, Contains}
 use Rattle.octets.specs.declared.tag.Tag.{Tag}
 use Rattle.octets.specs.Tag.{ComesBefore}
-use Rattle.strings.specs.declared.text.TextKind.{TextKind}
-use Rattle.strings.specs.declared.time.TimeKind.{TimeKind}
 use Rattle.types.specs.declared.ty.Alternative.{Alternative}
-use Rattle.types.specs.declared.ty.Item.{Item}
-use Rattle.types.specs.declared.ty.NamedBit.{NamedBit}
-use Rattle.types.specs.declared.ty.Ty.{Ty}
-use Rattle.types.specs.declared.ty.Ty as node
 use Rattle.types.specs.Shape.{Shape, Alternatives, no_alternative, alternative}
 use Rattle.types.specs.FirstTags.{first_tags, tags_of_alternatives}
 use Rattle.types.specs.Order.{IsLeast}
 use Rattle.types.specs.View.{ty_view, alternative_view, alternatives_view}
 use Rattle.types.specs.WellFormed.{nodes_of, nodes_of_alternatives, IsNodeWithin, count_of_alternatives}
-use Rattle.types.proofs.ListLemmas.{all_append, not_in_nil, contains_first, contains_cases, contains_left, contains_right}
+use Rattle.types.proofs.ListLemmas.{all_append, not_in_nil, contains_cases, contains_left, contains_right}
 use Rattle.types.proofs.TagLemmas.{contains_either}
 use Rattle.types.proofs.LimitLemmas.{alternative_type}
 use Rattle.types.proofs.LoopLemmas.{left_at}
-use Rattle.types.proofs.OrderLemmas.{ComesBefore-total, ComesBefore-trans, ComesBefore-irrefl}
-use Rattle.types.proofs.ViewLemmas.{ty-Boolean, ty-Integer, ty-Enumerated, ty-Null, ty-Oid, ty-RelativeOid, ty-Bits, ty-NamedBits, ty-Octets, ty-Text, ty-Time}
+use Rattle.types.proofs.OrderLemmas.{ComesBefore-total, ComesBefore-trans}
 
 one_within : (own tag : Tag) → own.number ≤ 268_435_455 → Contains (own ∷ []) tag → tag.number ≤ 268_435_455
 one_within own tag within c = elim (contains_cases own tag [] c) [ inl same ↦ subst (λ (t : Tag). t.number ≤ 268_435_455) same within | inr later ↦ absurd (not_in_nil tag later) ]
@@ -41,34 +34,6 @@ mutual
   alternatives_within (alternative name type others) tag within c =
       let both = all_append IsNodeWithin (nodes_of type) (nodes_of_alternatives others) within in
       elim (contains_either (first_tags type) (tags_of_alternatives others) tag c) [ inl here ↦ tag_within type tag both.0 here | inr later ↦ alternatives_within others tag both.1 later ]
-
-pub alone_least : (tag : Tag) → IsLeast (tag ∷ []) tag
-alone_least tag = (
-  contains_first tag tag [] refl,
-  λ other c before. elim (contains_cases tag other [] c) [
-    | inl same ↦ ComesBefore-irrefl tag (subst (λ t. ComesBefore t tag) (sym same) before)
-    | inr later ↦ not_in_nil other later
-  ],
-)
-
-of_first : (ty : Ty) (tag : Tag) {shape : Shape} → ty_view ty ≡ shape → first_tags shape ≡ tag ∷ [] → IsLeast (first_tags (ty_view ty)) tag
-of_first ty tag is first = subst (λ tags. IsLeast tags tag) (sym (ap first_tags is ∙ first)) (alone_least tag)
-
-pub leaf_least : (ty : Ty) (tag : Tag)
-    → (ty ≡ node.Boolean tag) ⊎ ((ty ≡ node.Integer tag) ⊎ (((items : Vec Item Global) × (ty ≡ node.Enumerated tag items)) ⊎ ((ty ≡ node.Null tag) ⊎ ((ty ≡ node.Oid tag) ⊎ ((ty ≡ node.RelativeOid tag)
-    ⊎ ((ty ≡ node.Bits tag) ⊎ (((bits : Vec NamedBit Global) × (ty ≡ node.NamedBits tag bits)) ⊎ ((ty ≡ node.Octets tag) ⊎ (((kind : TextKind) × (ty ≡ node.Text tag kind)) ⊎ ((kind : TimeKind) × (ty ≡ node.Time tag kind)))))))))))
-    → IsLeast (first_tags (ty_view ty)) tag
-leaf_least ty tag (inl is) = of_first ty tag (ap ty_view is ∙ ty-Boolean tag) refl
-leaf_least ty tag (inr (inl is)) = of_first ty tag (ap ty_view is ∙ ty-Integer tag) refl
-leaf_least ty tag (inr (inr (inl h))) = of_first ty tag (ap ty_view h.1 ∙ ty-Enumerated tag h.0) refl
-leaf_least ty tag (inr (inr (inr (inl is)))) = of_first ty tag (ap ty_view is ∙ ty-Null tag) refl
-leaf_least ty tag (inr (inr (inr (inr (inl is))))) = of_first ty tag (ap ty_view is ∙ ty-Oid tag) refl
-leaf_least ty tag (inr (inr (inr (inr (inr (inl is)))))) = of_first ty tag (ap ty_view is ∙ ty-RelativeOid tag) refl
-leaf_least ty tag (inr (inr (inr (inr (inr (inr (inl is))))))) = of_first ty tag (ap ty_view is ∙ ty-Bits tag) refl
-leaf_least ty tag (inr (inr (inr (inr (inr (inr (inr (inl h)))))))) = of_first ty tag (ap ty_view h.1 ∙ ty-NamedBits tag h.0) refl
-leaf_least ty tag (inr (inr (inr (inr (inr (inr (inr (inr (inl is))))))))) = of_first ty tag (ap ty_view is ∙ ty-Octets tag) refl
-leaf_least ty tag (inr (inr (inr (inr (inr (inr (inr (inr (inr (inl h)))))))))) = of_first ty tag (ap ty_view h.1 ∙ ty-Text tag h.0) refl
-leaf_least ty tag (inr (inr (inr (inr (inr (inr (inr (inr (inr (inr h)))))))))) = of_first ty tag (ap ty_view h.1 ∙ ty-Time tag h.0) refl
 
 -- of two least tags the one that comes first
 least_before : (xs ys : List Tag) (a b : Tag) → IsLeast xs a → IsLeast ys b → ComesBefore a b → IsLeast (xs ++ ys) a

@@ -17,24 +17,13 @@ pub fn least_tag(ty: &Ty) -> Tag
     requires { AllByRecursion IsNodeWithin (nodes_of (ty_view ty.now)) }
     ensures { IsLeast (first_tags (ty_view ty.now)) result }
 {
-    match ty {
-        Ty::Boolean(tag)
-        | Ty::Integer(tag)
-        | Ty::Enumerated(tag, _)
-        | Ty::Null(tag)
-        | Ty::Oid(tag)
-        | Ty::RelativeOid(tag)
-        | Ty::Bits(tag)
-        | Ty::NamedBits(tag, _)
-        | Ty::Octets(tag)
-        | Ty::Text(tag, _)
-        | Ty::Time(tag, _) => *tag,
-        Ty::Sequence(tag, _) | Ty::Set(tag, _) => *tag,
-        Ty::SequenceOf(tag, _) => *tag,
-        Ty::SetOf(tag, _) => *tag,
-        Ty::Choice(alternatives) => least_of(alternatives),
-        Ty::Explicit(tag, _) => *tag,
+    if let Some(tag) = ty.tag() {
+        return tag;
     }
+    let Ty::Choice(alternatives) = ty else {
+        unreachable!()
+    };
+    least_of(alternatives)
 }
 
 // The least tag that the encodings of the alternatives begin with.

@@ -10,18 +10,15 @@ use Rattle.types.specs.Order.{IsLeast}
 use Rattle.types.specs.View.{ty_view, alternatives_view}
 use Rattle.types.specs.WellFormed.{nodes_of, IsNodeWithin}
 use Rattle.types.proofs.ViewLemmas.{ty-Choice}
-use Rattle.types.proofs.FirstTagLemmas.{LeastFrom, leaf_least, alternative_within, least_last, least_sooner, least_stays, as_many_alternatives}
+use Rattle.types.proofs.FirstTagLemmas.{LeastFrom, alternative_within, least_last, least_sooner, least_stays, as_many_alternatives}
 use Rattle.types.proofs.least.+least.Goals as goal
 use Rattle.types.proofs.least.+least.Goals.{least_of-then-comes_before, least_of-else-comes_before}
 
 some_alternative : (xs : List Alternative) → AllByRecursion IsNodeWithin (nodes_of (Shape.choice (alternatives_view xs))) → 1 ≤ length xs
 some_alternative xs good = omega (arith, good.0.0, as_many_alternatives xs)
 
-pub least_tag-returns-in-Boolean : goal.least_tag-returns-in-Boolean
-least_tag-returns-in-Boolean t c = leaf_least c.args.ty.now c.in-Boolean.tag c.in-Boolean.is
-
-pub least_tag-returns-in-Choice : goal.least_tag-returns-in-Choice
-least_tag-returns-in-Choice t c =
+pub least_tag-returns : goal.least_tag-returns
+least_tag-returns t c =
     let is = ap ty_view c.in-Choice.is ∙ ty-Choice c.in-Choice.alternatives in
     subst (λ (s : Shape). IsLeast (first_tags s) c.least_of.result) (sym is) (subst (λ (xs : List Alternative). IsLeast (tags_of_alternatives (alternatives_view xs)) c.least_of.result) c.deref.ensures.value c.least_of.ensures)
 
