@@ -4,7 +4,7 @@ ghost use Rattle.std.specs.Prelude.{◌≡◌, IfOk, map};
 ghost use Rattle.types.specs.Shape.{Shape, SimpleType, StringType, Requirement};
 ghost use Rattle.types.specs.Tagging.{tagged_by_default};
 ghost use Rattle.types.specs.Universal.{bit_string_tag, enumerated_tag, sequence_tag, set_tag, boolean_type, integer_type, bit_string_type, octet_string_type, null_type, oid_type, relative_oid_type, text_type, time_type};
-ghost use Rattle.types.specs.View.{ty_view, value_view, field_view, alternative_view, components_view, alternatives_view, item_view, named_bit_view};
+ghost use Rattle.types.specs.View.{ty_view, value_view, requirement_view, field_view, alternative_view, components_view, alternatives_view, item_view, named_bit_view};
 
 use crate::universal::{text_tag, time_tag};
 use crate::{Alternative, Field, Item, Name, NamedBit, Presence, Ty, Value};
@@ -160,31 +160,33 @@ impl Ty {
 }
 
 impl Field {
+    // A component. Err where memory ran out.
+    fn with(alloc: Global, name: &str, ty: Ty, presence: Presence) -> Result<Field, AllocError>
+        ensures { IfOk result (λ field. field_view field ≡ record { name = name.now; type = ty_view ty; requirement = requirement_view presence }) }
+    {
+        let name = Name::new(alloc, name)?;
+        Ok(Field { name, ty, presence })
+    }
+
     /// A component that stands in every value. Err where memory ran out, as of each of these.
     pub fn required(alloc: Global, name: &str, ty: Ty) -> Result<Field, AllocError>
         ensures { IfOk result (λ field. field_view field ≡ record { name = name.now; type = ty_view ty; requirement = Requirement.required }) }
     {
-        let presence = Presence::Required;
-        let name = Name::new(alloc, name)?;
-        Ok(Field { name, ty, presence })
+        Field::with(alloc, name, ty, Presence::Required)
     }
 
     /// A component that may be absent.
     pub fn optional(alloc: Global, name: &str, ty: Ty) -> Result<Field, AllocError>
         ensures { IfOk result (λ field. field_view field ≡ record { name = name.now; type = ty_view ty; requirement = Requirement.optional }) }
     {
-        let presence = Presence::Optional;
-        let name = Name::new(alloc, name)?;
-        Ok(Field { name, ty, presence })
+        Field::with(alloc, name, ty, Presence::Optional)
     }
 
     /// A component that may be absent, which means this value.
     pub fn default(alloc: Global, name: &str, ty: Ty, value: Value) -> Result<Field, AllocError>
         ensures { IfOk result (λ field. field_view field ≡ record { name = name.now; type = ty_view ty; requirement = Requirement.default (value_view value) }) }
     {
-        let presence = Presence::Default(value);
-        let name = Name::new(alloc, name)?;
-        Ok(Field { name, ty, presence })
+        Field::with(alloc, name, ty, Presence::Default(value))
     }
 }
 
