@@ -299,29 +299,31 @@ IsInteger-more negative m (x ∷ xs) above h =
     let k = IsComplement-from negative (m / 256) (x ∷ xs) h in
     IsInteger-from negative m ((x ∷ xs) ++ last_octet_at negative m ∷ []) (omega arith) (All-append (λ d. d < 256) (x ∷ xs) (last_octet_at negative m ∷ []) h.below_256 (All-one (last_octet_at negative m) (last_octet_at-below negative m))) (differ-more negative m x xs above k h.shortest) (complement-more negative m x xs k)
 
--- the last octets of a number stand at the end of sixteen places, and `rest` is left to be spelt before them
+-- the last octets of a number stand at the end of eighteen places, two of which stay free, and `rest` is left to be
+-- spelt before them
 pub record IsSpelling (negative : Bool) (above rest start : ℕ) (spelt : List ℕ) : Type 0 where
-  pub some : 1 ≤ start
-  pub within : start ≤ 16
-  pub size : length spelt ≡ 16
-  pub room : 2 * rest < 256 ^ start
+  pub some : 3 ≤ start
+  pub within : start ≤ 18
+  pub size : length spelt ≡ 18
+  pub room : 2 * rest < 256 ^ (start - 2)
   pub joined : (b : List ℕ) → IsInteger (number_at negative rest) b → IsInteger (number_at negative above) (b ++ drop start spelt)
 
-some_room : (rest start : ℕ) → 2 * rest < 256 ^ start → 128 ≤ rest → 2 ≤ start
-some_room rest start room above =
-    elim (cases_lt 1 start) [
+some_room : (rest places : ℕ) → 2 * rest < 256 ^ places → 128 ≤ rest → 2 ≤ places
+some_room rest places room above =
+    elim (cases_lt 1 places) [
       | inl there ↦ there
-      | inr few ↦ let power : 256 ^ start ≤ 256 ^ 1 = pow-le-pow_right {n = 256} (omega arith) {i = start} {j = 1} few in let once : 256 ^ 1 ≡ 256 = refl in absurd (omega (arith, power, once))
+      | inr few ↦ let power : 256 ^ places ≤ 256 ^ 1 = pow-le-pow_right {n = 256} (omega arith) {i = places} {j = 1} few in let once : 256 ^ 1 ≡ 256 = refl in absurd (omega (arith, power, once))
     ]
 
 pub IsSpelling-step : (negative : Bool) (above rest start : ℕ) (spelt : List ℕ) → IsSpelling negative above rest start spelt → 128 ≤ rest → IsSpelling negative above (rest / 256) (start - 1) (set spelt (start - 1) (last_octet_at negative rest))
 IsSpelling-step negative above rest start spelt h big =
     let at = start - 1 in
     let d = last_octet_at negative rest in
-    let there = some_room rest start h.room big in
+    let there = some_room rest (start - 2) h.room big in
     let next : start ≡ at + 1 = omega arith in
     let more : drop at (set spelt at d) ≡ d ∷ drop start spelt = drop-set spelt at d (omega (arith, h.size, h.within)) ∙ ap (λ k. d ∷ drop k spelt) (sym next) in
-    let power : 256 ^ start ≡ 256 ^ at * 256 = ap (λ k. 256 ^ k) next ∙ pow_more 256 at in
+    let fewer : start - 2 ≡ (at - 2) + 1 = omega arith in
+    let power : 256 ^ (start - 2) ≡ 256 ^ (at - 2) * 256 = ap (λ k. 256 ^ k) fewer ∙ pow_more 256 (at - 2) in
     record {
       some = omega arith;
       within = omega (arith, h.within);

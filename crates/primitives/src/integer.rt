@@ -1,6 +1,6 @@
 //! Contents octets of an INTEGER and of an ENUMERATED number (X.690 8.3 and 8.4).
 
-ghost use Rattle.std.specs.Prelude.{◌≡◌, ◌+◌, ◌*◌, ◌^◌, ◌<◌, ◌≤◌, ◌↔◌, ℤ, length, FitsSigned, IsTrue, IfSome, IfNone, OnOk, OnErr};
+ghost use Rattle.std.specs.Prelude.{◌≡◌, ◌+◌, ◌*◌, ◌^◌, ◌<◌, ◌≤◌, ◌↔◌, ℤ, length, drop, FitsSigned, IsTrue, IfSome, IfNone, OnOk, OnErr};
 ghost use Rattle.std.specs.Int.{w128};
 ghost use Rattle.octets.specs.Digits.{number_of};
 ghost use Rattle.octets.specs.Front.{Appends};
@@ -78,22 +78,33 @@ pub fn put_integer(out: &mut Vec<u8>, number: i128) -> Result<(), NoMemory>
     ensures appended { OnOk result (Appends (IsInteger number) out.old.items out.new.items) }
     ensures unchanged { OnErr result (out.new.items ≡ out.old.items) }
 {
+    let mut room = [0u8; 18];
+    let start = integer_at_end(number, &mut room);
+    out.extend_from_slice(&room[start..])?;
+    Ok(())
+}
+
+/// Puts the contents octets of `number` at the end of the room, and returns where they begin: at most 16 octets, so
+/// that a head of two has room before them. Takes no memory.
+pub fn integer_at_end(number: i128, room: &mut [u8; 18]) -> usize
+    ensures few { 2 ≤ result }
+    ensures spelt { IsInteger number (drop result room.new) }
+{
     if number < 0 {
-        put_signed(out, true, (-1 - number) as u128)
+        signed_at_end(true, (-1 - number) as u128, room)
     } else {
-        put_signed(out, false, number as u128)
+        signed_at_end(false, number as u128, room)
     }
 }
 
-// Appends the contents octets of the number that stands `distance` above 0, or below -1.
-fn put_signed(out: &mut Vec<u8>, negative: bool, distance: u128) -> Result<(), NoMemory>
+// Puts the contents octets there of the number that stands `distance` above 0, or below -1.
+fn signed_at_end(negative: bool, distance: u128, room: &mut [u8; 18]) -> usize
     requires { distance < 2 ^ 127 }
-    ensures appended { OnOk result (Appends (IsInteger (number_at negative distance)) out.old.items out.new.items) }
-    ensures unchanged { OnErr result (out.new.items ≡ out.old.items) }
+    ensures few { 2 ≤ result }
+    ensures spelt { IsInteger (number_at negative distance) (drop result room.new) }
 {
-    // The octets come from the last to the first, and stand at the end of the room for sixteen.
-    let mut room = [0u8; 16];
-    let mut start = 16usize;
+    // The octets come from the last to the first.
+    let mut start = 18usize;
     let mut rest = distance;
     while rest >= 0x80 {
         start -= 1;
@@ -102,8 +113,7 @@ fn put_signed(out: &mut Vec<u8>, negative: bool, distance: u128) -> Result<(), N
     }
     start -= 1;
     room[start] = last_octet(negative, rest);
-    out.extend_from_slice(&room[start..])?;
-    Ok(())
+    start
 }
 
 // The last octet of that number.

@@ -1,5 +1,5 @@
 use Rattle.primitives.proofs.IntegerLemmas.{IsSpelling}
-use Rattle.primitives.proofs.integer.put_signed.Given as goal
+use Rattle.primitives.proofs.integer.signed_at_end.Given as goal
 
 -- the octets that stand and the number that is left make the number
 abbrev pub invariant-loop-rest : goal.invariant-loop-rest
