@@ -126,8 +126,7 @@ fn read_item(
     let mut item = list.take_old();
     let used = read_among(alloc, inner, levels, octets, places, &mut item)?;
     let value = item?;
-    let most = before.max(octets.len() / used);
-    if list.put(value, most) {
+    if list.put(value, before, used, octets.len()) {
         Some(used)
     } else {
         None

@@ -47,9 +47,9 @@ impl Renewed {
     }
 
     // Puts an item behind the new ones, and says whether it has; not where memory runs out. Where a list has room for
-    // no more items, it makes some for at most so many.
+    // no more items, it makes some, as `reserve` says.
     #[inline(always)]
-    pub fn put(&mut self, item: Value, most: usize) -> bool
+    pub fn put(&mut self, item: Value, before: usize, used: usize, left: usize) -> bool
         ensures put { IsTrue result → new_items self.new ≡ new_items self.old ++ (item ∷ []) }
         ensures kept { result ≡ false → new_items self.new ≡ new_items self.old }
     {
@@ -59,7 +59,7 @@ impl Renewed {
             self.count = place + 1;
             return true;
         }
-        if !grow(&mut self.items, most) {
+        if place >= self.items.capacity() && !reserve(&mut self.items, before, used, left) {
             return false;
         }
         self.items.push_reserved(item);
@@ -77,20 +77,22 @@ impl Renewed {
     }
 }
 
-// Makes room for one item more. Where there is none, it makes room for as many as there are, and for four at least, but
-// for no more than `most`: as many as the octets have of this item's size, or had come before them. So the short lists
-// of which a large value is made take memory once and mostly have no room to spare, and a list that goes on from piece
-// to piece grows seldom. A long list doubles, and so ends at a power of two.
-#[inline(always)]
-fn grow(items: &mut Vec<Value>, most: usize) -> bool
+// Makes room for one item more where there is none: for as many as there are, and for four at least, but for no more
+// than had come `before` these octets, or than those that are `left` have of the size of this item, which has `used`. So
+// the short lists of which a large value is made take memory once and mostly have no room to spare, and a list that goes
+// on from piece to piece grows seldom. A long list doubles, and so ends at a power of two. A call of its own, so that
+// items that have room pay for no division.
+#[inline(never)]
+fn reserve(items: &mut Vec<Value>, before: usize, used: usize, left: usize) -> bool
     ensures items { items.new.items ≡ items.old.items }
     ensures room { IsTrue result → vec_len items.new < vec_capacity items.new }
 {
     let count = items.len();
+    let most = before.max(left / used.max(1));
     let more = if count < LONG {
         count.max(4).min(most)
     } else {
         count
     };
-    count < items.capacity() || items.reserve_exact(more.max(1)).is_ok()
+    items.reserve_exact(more.max(1)).is_ok()
 }

@@ -95,9 +95,6 @@ reading::read_constructed-returns t c =
     c.close.result c.close.ensures.there c.close.ensures.value
     (λ n there whole. constructed_read c.args.levels tag type octets inside.octets.now slot used n c.requires (search rules) c.in_ok-tag.ensures.value c.in_ok-used.ensures there (whole tag c.in_ok-inside.ensures))
 
-pub items::read_item-nonzero_div-octets : goal.items::read_item-nonzero_div-octets
-items::read_item-nonzero_div-octets t c = read_some c.args.levels (ty_view c.args.inner.now) c.args.octets.now c.read_among.new.slot c.in_ok-used.used c.in_ok-used.ensures
-
 pub items::read_item-returns-then-put-clause-some : goal.items::read_item-returns-then-put-clause-some
 items::read_item-returns-then-put-clause-some t c =
     let type = ty_view c.args.inner.now in
