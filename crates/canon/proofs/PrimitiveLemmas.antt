@@ -1,14 +1,18 @@
 -- Lemmas on primitive encodings with the shortest length.
-use Rattle.std.proofs.Common.{◌≡◌, ◌∙◌, ◌+◌, ◌≤◌, ℕ, ◌<◌, ◌^◌, List, ◌++◌, false, length, refl, sym, ap, subst, append_assoc, length-append}
+use Rattle.std.proofs.Common.{◌≡◌, ◌∙◌, ◌+◌, ◌-◌, ◌≤◌, ℕ, ℤ, ◌<◌, ◌^◌, List, [], ◌∷◌, ◌++◌, false, length, drop, set, refl, sym, ap, inl, arith, subst, append_assoc, length-append}
+use Rattle.std.proofs.lemmas.List.{drop-set, length-set}
 use Rattle.octets.specs.declared.TheConstants.{MAX_TAG_NUMBER}
 use Rattle.octets.specs.declared.tag.Tag.{Tag}
 use Rattle.octets.specs.Front.{Appends}
+use Rattle.octets.specs.Identifier.{class_bits}
 use Rattle.octets.specs.Length.{IsShortestLength}
 use Rattle.octets.specs.Rule.{cer}
 use Rattle.octets.proofs.IdentifierOctetsLemmas.{identifier}
+use Rattle.octets.proofs.LengthLemmas.{IsShortestLength-short}
 use Rattle.octets.proofs.ShortestLemmas.{shortest_length}
+use Rattle.primitives.specs.Integer.{IsInteger}
 use Rattle.types.specs.Form.{IsPrimitive}
-use Rattle.canon.specs.Leaf.{IsPrimitiveHead}
+use Rattle.canon.specs.Leaf.{IsNumberEncoding, IsPrimitiveHead}
 
 -- a head with octets behind it, in two parts
 pub primitive_put : (tag : Tag) (n : ℕ) (lead string old one two new : List ℕ) → Appends (IsPrimitiveHead tag n) old one → n ≡ length lead + length string → two ≡ one ++ lead → new ≡ two ++ string → Appends (IsPrimitive cer tag (lead ++ string)) old new
@@ -27,3 +31,31 @@ primitive_exists tag contents kept within =
     let head = identifier tag false kept in
     let size = shortest_length (length contents) within in
     (head.0 ++ (size.0 ++ contents), record { identifier = head.0; size = size.0; tagged = head.1; sized = size.1; joined = refl })
+
+-- a head of two octets
+pub short_head : (tag : Tag) (n first : ℕ) → tag.number < 31 → n < 128 → first ≡ class_bits tag.class + tag.number → IsPrimitiveHead tag n (first ∷ n ∷ [])
+short_head tag n first low few is =
+    let spelt : first ≡ class_bits tag.class + 0 + tag.number = omega (arith, is) in
+    record {
+      identifier = first ∷ [];
+      size = n ∷ [];
+      tagged = inl record { low = omega (arith, low); spelt = ap (λ m. m ∷ []) spelt };
+      sized = IsShortestLength-short n few;
+      joined = refl;
+    }
+
+-- a head with the contents octets of a number behind it
+pub number_made : (tag : Tag) (number : ℤ) (n : ℕ) (head contents : List ℕ) → IsPrimitiveHead tag n head → length contents ≡ n → IsInteger number contents → IsNumberEncoding tag number (head ++ contents)
+number_made tag number n head contents h count spelt =
+    let sized : IsShortestLength (length contents) h.size = subst (λ k. IsShortestLength k h.size) (sym count) h.sized in
+    let joined : head ++ contents ≡ h.identifier ++ (h.size ++ contents) = ap (λ x. x ++ contents) h.joined ∙ append_assoc h.identifier h.size contents in
+    record { contents = contents; spelt = spelt; primitive = record { identifier = h.identifier; size = h.size; tagged = h.tagged; sized = sized; joined = joined } }
+
+-- two octets in front of what stands at the end of a room
+pub head_before : (room : List ℕ) (start n first : ℕ) → 2 ≤ start → start ≤ length room → drop (start - 2) (set (set room (start - 1) n) (start - 2) first) ≡ first ∷ n ∷ drop start room
+head_before room start n first some there =
+    let one : List ℕ = set room (start - 1) n in
+    let at : (start - 2) + 1 ≡ start - 1 = omega (arith, some) in
+    let next : (start - 1) + 1 ≡ start = omega (arith, some) in
+    drop-set one (start - 2) first (omega (arith, some, there, length-set room (start - 1) n)) ∙ ap (λ k. first ∷ drop k one) at
+    ∙ ap (λ t. first ∷ t) (drop-set room (start - 1) n (omega (arith, some, there)) ∙ ap (λ k. n ∷ drop k room) next)

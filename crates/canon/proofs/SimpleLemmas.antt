@@ -11,6 +11,7 @@ use Rattle.octets.proofs.ShortestLemmas.{IsLength-size}
 use Rattle.octets.proofs.RuleLemmas.{cer_is_canonical, der_is_canonical}
 use Rattle.primitives.specs.Boolean.{IsBoolean, IsCanonicalBoolean}
 use Rattle.primitives.specs.Integer.{IsInteger}
+use Rattle.primitives.proofs.IntegerLemmas.{at_most_sixteen_octets, one_integer_encoding}
 use Rattle.types.specs.declared.value.Value.{Value}
 use Rattle.types.specs.declared.value.Value as value_is
 use Rattle.types.specs.Shape.{SimpleType, SimpleValue, Val}
@@ -24,7 +25,7 @@ use Rattle.types.proofs.ViewLemmas.{value-Integer, value-Enumerated}
 use Rattle.canon.specs.declared.rule.CanonicalRule.{CanonicalRule}
 use Rattle.canon.specs.declared.rule.CanonicalRule.TheVariants.{Cer, Der}
 use Rattle.canon.specs.Rule.{rule_of}
-use Rattle.canon.specs.Leaf.{IsContentsOf, IsSimple, IsWithin, IsPrimitiveHead, IsSimplyEncoded}
+use Rattle.canon.specs.Leaf.{IsContentsOf, IsSimple, IsWithin, IsPrimitiveHead, IsNumberEncoding, IsSimplyEncoded}
 use Rattle.canon.specs.Size.{AreShort, HasSize}
 use Rattle.canon.proofs.PrimitiveLemmas.{primitive_exists}
 use Rattle.canon.proofs.StringSizeLemmas.{SizesPrimitive}
@@ -117,14 +118,6 @@ boolean_contents rule v truth old new is h = (h.0, h.1, subst (λ w. IsContentsO
 abbrev pub IsNumber : Val → ℤ → Type 0
 IsNumber v number = (v ≡ Val.simple (SimpleValue.integer number)) ⊎ (v ≡ Val.simple (SimpleValue.enumerated number))
 
-pub number_counts : (rule : CanonicalRule) (v : Val) (number : ℤ) (n : ℕ) → IsNumber v number → ((contents : List ℕ) → IsInteger number contents → length contents ≡ n) → (contents : List ℕ) → IsContentsOf (rule_of rule) v contents → length contents ≡ n
-number_counts rule v number n (inl is) count contents h = count contents (subst (λ w. IsContentsOf (rule_of rule) w contents) is h)
-number_counts rule v number n (inr is) count contents h = count contents (subst (λ w. IsContentsOf (rule_of rule) w contents) is h)
-
-pub number_contents : (rule : CanonicalRule) (v : Val) (number : ℤ) (old new : List ℕ) → IsNumber v number → Appends (IsInteger number) old new → Appends (IsContentsOf (rule_of rule) v) old new
-number_contents rule v number old new (inl is) h = (h.0, h.1, subst (λ w. IsContentsOf (rule_of rule) w h.0) (sym is) h.2)
-number_contents rule v number old new (inr is) h = (h.0, h.1, subst (λ w. IsContentsOf (rule_of rule) w h.0) (sym is) h.2)
-
 pub number_view : (value : Value) (number : ℤ) → (value ≡ value_is.Integer number) ⊎ (value ≡ value_is.Enumerated number) → IsNumber (value_view value) number
 number_view value number (inl is) = inl (ap value_view is ∙ value-Integer number)
 number_view value number (inr is) = inr (ap value_view is ∙ value-Enumerated number)
@@ -132,3 +125,19 @@ number_view value number (inr is) = inr (ap value_view is ∙ value-Enumerated n
 pub number_fits : (v : Val) (number : ℤ) → IsNumber v number → IsSimple v → FitsSigned w128 number
 number_fits v number (inl is) h = subst IsSimple is h
 number_fits v number (inr is) h = subst IsSimple is h
+
+pub number_spelt : (rule : CanonicalRule) (v : Val) (number : ℤ) (contents : List ℕ) → IsNumber v number → IsContentsOf (rule_of rule) v contents → IsInteger number contents
+number_spelt rule v number contents (inl is) h = subst (λ w. IsContentsOf (rule_of rule) w contents) is h
+number_spelt rule v number contents (inr is) h = subst (λ w. IsContentsOf (rule_of rule) w contents) is h
+
+pub number_encoded : (rule : CanonicalRule) (tag : Tag) (v : Val) (number : ℤ) (octets : List ℕ) → IsNumber v number → IsNumberEncoding tag number octets → IsSimplyEncoded (rule_of rule) tag v octets
+number_encoded rule tag v number octets (inl is) h = record { contents = h.contents; spelt = subst (λ w. IsContentsOf (rule_of rule) w h.contents) (sym is) h.spelt; primitive = primitive_from_der rule tag h.contents octets h.primitive }
+number_encoded rule tag v number octets (inr is) h = record { contents = h.contents; spelt = subst (λ w. IsContentsOf (rule_of rule) w h.contents) (sym is) h.spelt; primitive = primitive_from_der rule tag h.contents octets h.primitive }
+
+-- its encodings are within the limit
+pub number_short : (rule : CanonicalRule) (tag : Tag) (v : Val) (number : ℤ) → IsNumber v number → tag.number ≤ MAX_TAG_NUMBER → IsSimple v → AreShort (IsSimplyEncoded (rule_of rule) tag v)
+number_short rule tag v number is kept simple =
+    let some = contents_there rule v simple in
+    let spelt = number_spelt rule v number some.0 is some.1 in
+    simple_short rule tag v (length some.0) kept simple (omega (arith, at_most_sixteen_octets number some.0 (number_fits v number is simple) spelt))
+    (λ contents h. ap length (one_integer_encoding number contents some.0 (number_spelt rule v number contents is h) spelt))

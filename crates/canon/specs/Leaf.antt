@@ -1,12 +1,12 @@
 -- Encodings of values without parts, by the tag of the type alone.
-use Rattle.std.specs.Prelude.{◌≡◌, ◌⊎◌, ⊤, ℕ, ◌<◌, false, All, List, ◌++◌, FitsSigned}
+use Rattle.std.specs.Prelude.{◌≡◌, ◌⊎◌, ⊤, ℕ, ◌<◌, false, All, List, ◌++◌, ℤ, FitsSigned}
 use Rattle.std.specs.Int.{w128}
 use Rattle.octets.specs.declared.tag.Tag.{Tag}
 use Rattle.octets.specs.Identifier.{IsIdentifier}
 use Rattle.octets.specs.Length.{IsShortestLength}
-use Rattle.octets.specs.Rule.{Rule}
+use Rattle.octets.specs.Rule.{Rule, der}
 use Rattle.primitives.specs.Bits.{IsBits}
-use Rattle.primitives.specs.Integer.{IsWideInteger}
+use Rattle.primitives.specs.Integer.{IsInteger, IsWideInteger}
 use Rattle.primitives.specs.Oid.{IsOidValue, IsRelativeOidValue}
 use Rattle.types.specs.Shape.{SimpleType, StringType, SimpleValue, StringValue, Val, Shape}
 use Rattle.types.specs.Form.{IsPrimitive}
@@ -62,6 +62,12 @@ pub record IsSimplyEncoded (rule : Rule) (tag : Tag) (v : Val) (octets : List �
   pub contents : List ℕ
   pub spelt : IsContentsOf rule v contents
   pub primitive : IsPrimitive rule tag contents octets
+
+-- the encoding of an INTEGER or ENUMERATED number
+pub record IsNumberEncoding (tag : Tag) (number : ℤ) (octets : List ℕ) : Type 0 where
+  pub contents : List ℕ
+  pub spelt : IsInteger number contents
+  pub primitive : IsPrimitive der tag contents octets
 
 -- the encodings of a value without parts under the tag
 abbrev pub IsLeafEncoding : Rule → Tag → Val → List ℕ → Type 0

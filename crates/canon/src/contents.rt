@@ -70,7 +70,7 @@ pub(crate) fn size_of_contents(rule: CanonicalRule, value: &Value) -> usize
 }
 
 // How many contents octets a number of 128 bits has.
-pub(crate) fn size_of_integer(number: i128) -> usize
+fn size_of_integer(number: i128) -> usize
     ensures size { (contents : List ℕ) → IsInteger number contents → length contents ≡ result }
     ensures at_most { result ≤ 16 }
 {

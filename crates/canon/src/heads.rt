@@ -65,7 +65,7 @@ fn grow_by_pair(first: u8, second: u8, out: &mut Vec<u8>) -> Result<(), NoMemory
 }
 
 // The one identifier octet of a primitive encoding (X.690 8.1.2.2).
-fn leading_octet(tag: Tag) -> u8
+pub(crate) fn leading_octet(tag: Tag) -> u8
     requires { tag.number ≤ 30 }
     ensures { result ≡ class_bits tag.class + tag.number }
 {

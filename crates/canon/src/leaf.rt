@@ -8,13 +8,14 @@ ghost use Rattle.canon.specs.Rule.{rule_of};
 ghost use Rattle.canon.specs.Size.{AreShort, HasSize};
 ghost use Rattle.canon.specs.Writes.{Writes};
 
-use crate::contents::{put_contents, size_of_contents, size_of_integer};
+use crate::contents::{put_contents, size_of_contents};
 use crate::heads::put_primitive_head;
+use crate::numbers::put_number;
 use crate::rule::CanonicalRule;
 use crate::segments::{put_octets, put_string, size_of_string};
 use crate::sizes::size_of_definite;
 use octets::{Class, NoMemory, Tag};
-use primitives::{put_boolean, put_integer};
+use primitives::put_boolean;
 use types::Value;
 
 // The tags of segments, whatever the tag of the string (X.690 8.6.4 and 8.7.3).
@@ -106,10 +107,7 @@ pub(crate) fn put_simple(
             put_primitive_head(tag, 1, out)?;
             put_boolean(out, *truth)
         }
-        Value::Integer(number) | Value::Enumerated(number) => {
-            put_primitive_head(tag, size_of_integer(*number), out)?;
-            put_integer(out, *number)
-        }
+        Value::Integer(number) | Value::Enumerated(number) => put_number(tag, *number, out),
         Value::WideInteger(_)
         | Value::Null
         | Value::Oid(_)

@@ -7,18 +7,18 @@ use Rattle.octets.specs.declared.tag.Tag.{Tag}
 use Rattle.octets.specs.Front.{Appends}
 use Rattle.octets.proofs.ResultLemmas.{OnOk-map}
 use Rattle.primitives.specs.Boolean.{IsCanonicalBoolean}
-use Rattle.primitives.specs.Integer.{IsInteger}
 use Rattle.types.specs.declared.value.Value.{Value}
 use Rattle.types.specs.declared.value.Value as value_is
 use Rattle.types.specs.View.{value_view}
 use Rattle.types.proofs.ViewLemmas.{value-Boolean}
 use Rattle.canon.specs.Part.{Keeps}
 use Rattle.canon.specs.Rule.{rule_of}
-use Rattle.canon.specs.Leaf.{IsContentsOf, IsPrimitiveHead, IsSimple, IsSimplyEncoded}
+use Rattle.canon.specs.Leaf.{IsContentsOf, IsNumberEncoding, IsPrimitiveHead, IsSimple, IsSimplyEncoded}
 use Rattle.canon.specs.Writes.{Writes}
 use Rattle.canon.specs.declared.rule.CanonicalRule.{CanonicalRule}
 use Rattle.canon.proofs.KeptLemmas.{kept}
-use Rattle.canon.proofs.SimpleLemmas.{simple_made, simple_short, boolean_counts, boolean_contents, number_counts, number_contents, number_fits, number_view}
+use Rattle.canon.proofs.SimpleLemmas.{simple_made, simple_short, boolean_counts, boolean_contents, number_encoded, number_fits, number_short, number_view}
+use Rattle.canon.proofs.WritesLemmas.{written_by}
 use Rattle.canon.proofs.leaf.put_simple.Goals as goal
 
 -- a head, and contents octets behind it
@@ -37,11 +37,6 @@ truth_counts rule value truth is = boolean_counts rule (value_view value) truth 
 number_same : (value : Value) (number : ℤ) → (value ≡ value_is.Integer number) ⊎ (value ≡ value_is.Enumerated number) → IsSimple (value_view value) → to_z w128 (of_z w128 number) ≡ number
 number_same value number is simple = to_z-of_z w128 number (number_fits (value_view value) number (number_view value number is) simple)
 
-value_counts : (rule : CanonicalRule) (value : Value) (number : ℤ) (n : ℕ) → (value ≡ value_is.Integer number) ⊎ (value ≡ value_is.Enumerated number) → IsSimple (value_view value)
-    → ((contents : List ℕ) → IsInteger (to_z w128 (of_z w128 number)) contents → length contents ≡ n) → (contents : List ℕ) → IsContentsOf (rule_of rule) (value_view value) contents → length contents ≡ n
-value_counts rule value number n is simple count =
-    number_counts rule (value_view value) number n (number_view value number is) (subst (λ m. (contents : List ℕ) → IsInteger m contents → length contents ≡ n) (number_same value number is simple) count)
-
 pub returns-in_ok-put_primitive_head-in-Boolean-clause-written : goal.returns-in_ok-put_primitive_head-in-Boolean-clause-written
 returns-in_ok-put_primitive_head-in-Boolean-clause-written c =
     let value = c.args.value.now in
@@ -59,25 +54,17 @@ pub returns-in_err-put_primitive_head-in-Boolean-clause-short : goal.returns-in_
 returns-in_err-put_primitive_head-in-Boolean-clause-short c =
     simple_short c.args.rule c.args.tag (value_view c.args.value.now) 1 c.requires.tag c.requires.simple (omega arith) (truth_counts c.args.rule c.args.value.now c.in-Boolean.truth c.in-Boolean.is)
 
-pub returns-in_ok-put_primitive_head-in-Integer-clause-written : goal.returns-in_ok-put_primitive_head-in-Integer-clause-written
-returns-in_ok-put_primitive_head-in-Integer-clause-written c =
+pub returns-in-Integer-clause-written : goal.returns-in-Integer-clause-written
+returns-in-Integer-clause-written c =
     let value = c.args.value.now in
     let number = c.in-Integer.number in
-    let mid = c.put_primitive_head-in-Integer.new.out.items in
-    let new = c.put_integer.new.out.items in
-    written c.put_integer.result c.args.rule c.args.tag value c.size_of_integer.result (IsInteger number) c.args.out.now.items mid new c.in_ok-put_primitive_head-in-Integer.ensures.appended
-    (number_contents c.args.rule (value_view value) number mid new (number_view value number c.in-Integer.is)) (value_counts c.args.rule value number c.size_of_integer.result c.in-Integer.is c.requires.simple c.size_of_integer.ensures.size)
-    (subst (λ n. OnOk c.put_integer.result (Appends (IsInteger n) mid new)) (number_same value number c.in-Integer.is c.requires.simple) c.put_integer.ensures.appended) c.put_integer.ensures.unchanged
+    written_by (subst (λ n. Writes (IsNumberEncoding c.args.tag n) c.put_number.result c.args.out.now.items c.put_number.new.out.items) (number_same value number c.in-Integer.is c.requires.simple) c.put_number.ensures)
+    (λ b h. number_encoded c.args.rule c.args.tag (value_view value) number b (number_view value number c.in-Integer.is) h)
 
-pub returns-in_ok-put_primitive_head-in-Integer-clause-short : goal.returns-in_ok-put_primitive_head-in-Integer-clause-short
-returns-in_ok-put_primitive_head-in-Integer-clause-short c =
-    let size = c.size_of_integer in
-    simple_short c.args.rule c.args.tag (value_view c.args.value.now) size.result c.requires.tag c.requires.simple (omega (arith, size.ensures.at_most)) (value_counts c.args.rule c.args.value.now c.in-Integer.number size.result c.in-Integer.is c.requires.simple size.ensures.size)
-
-pub returns-in_err-put_primitive_head-in-Integer-clause-short : goal.returns-in_err-put_primitive_head-in-Integer-clause-short
-returns-in_err-put_primitive_head-in-Integer-clause-short c =
-    let size = c.size_of_integer in
-    simple_short c.args.rule c.args.tag (value_view c.args.value.now) size.result c.requires.tag c.requires.simple (omega (arith, size.ensures.at_most)) (value_counts c.args.rule c.args.value.now c.in-Integer.number size.result c.in-Integer.is c.requires.simple size.ensures.size)
+pub returns-in-Integer-clause-short : goal.returns-in-Integer-clause-short
+returns-in-Integer-clause-short c =
+    let value = c.args.value.now in
+    number_short c.args.rule c.args.tag (value_view value) c.in-Integer.number (number_view value c.in-Integer.number c.in-Integer.is) c.requires.tag c.requires.simple
 
 pub returns-in_ok-put_primitive_head-in-WideInteger-clause-written : goal.returns-in_ok-put_primitive_head-in-WideInteger-clause-written
 returns-in_ok-put_primitive_head-in-WideInteger-clause-written c =
