@@ -113,9 +113,22 @@ impl Ty {
     {
         match self {
             Ty::Choice(_) => None,
-            Ty::Sequence(tag, _) | Ty::Set(tag, _) => Some(*tag),
-            Ty::SequenceOf(tag, _) | Ty::SetOf(tag, _) | Ty::Explicit(tag, _) => Some(*tag),
-            _ => self.leaf_tag(),
+            Ty::Boolean(tag)
+            | Ty::Integer(tag)
+            | Ty::Enumerated(tag, _)
+            | Ty::Null(tag)
+            | Ty::Oid(tag)
+            | Ty::RelativeOid(tag)
+            | Ty::Bits(tag)
+            | Ty::NamedBits(tag, _)
+            | Ty::Octets(tag)
+            | Ty::Text(tag, _)
+            | Ty::Time(tag, _)
+            | Ty::Sequence(tag, _)
+            | Ty::Set(tag, _)
+            | Ty::SequenceOf(tag, _)
+            | Ty::SetOf(tag, _)
+            | Ty::Explicit(tag, _) => Some(*tag),
         }
     }
 
@@ -127,23 +140,10 @@ impl Ty {
         ensures none { IsNone result → ¬ IsLeaf (ty_view self.now) }
     {
         match self {
-            Ty::Boolean(tag)
-            | Ty::Integer(tag)
-            | Ty::Enumerated(tag, _)
-            | Ty::Null(tag)
-            | Ty::Oid(tag)
-            | Ty::RelativeOid(tag)
-            | Ty::Bits(tag)
-            | Ty::NamedBits(tag, _)
-            | Ty::Octets(tag)
-            | Ty::Text(tag, _)
-            | Ty::Time(tag, _) => Some(*tag),
-            Ty::Sequence(_, _)
-            | Ty::Set(_, _)
-            | Ty::SequenceOf(_, _)
-            | Ty::SetOf(_, _)
-            | Ty::Choice(_)
-            | Ty::Explicit(_, _) => None,
+            Ty::Sequence(_, _) | Ty::Set(_, _) => None,
+            Ty::SequenceOf(_, _) | Ty::SetOf(_, _) => None,
+            Ty::Choice(_) | Ty::Explicit(_, _) => None,
+            _ => self.tag(),
         }
     }
 
