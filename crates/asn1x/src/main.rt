@@ -1,36 +1,15 @@
-//! The program `asn1x`: fetches its words, reads its module and opens its input. All else is `program`'s.
+//! The program `asn1x`: reads its module and opens its input. All else is `program`'s.
 #![tactic(auto)]
 
+use command_words::status;
 use convert::read_module;
-use program::{
-    Line, LineFault, cannot_open, cannot_read_module, cannot_share_input, line, no_words, run,
-};
+use program::{Line, cannot_open, cannot_read_module, cannot_share_input, line, no_words, run};
 use std::fs::File;
-use std::io::Read;
+use std::io::{self, Read};
 use std::process::ExitCode;
-use std::{env, io};
 
 fn main(rt: HostRuntime) -> ExitCode {
-    ExitCode::from(status(&rt))
-}
-
-// The exit status of the whole program.
-fn status(rt: &HostRuntime) -> u8 {
-    match line_of_words(rt) {
-        Ok(line) => run_line(rt, &line),
-        Err(fault) => fault.print(rt),
-    }
-}
-
-// The command line that the program was called with.
-fn line_of_words(rt: &HostRuntime) -> Result<Line, LineFault> {
-    let words = match env::args(rt) {
-        Ok(words) => words,
-        Err(error) => return Err(no_words(rt.alloc(), &error)),
-    };
-    let words: Vec<String> = words.collect(rt.alloc())?;
-    let words: Vec<&str> = words.iter().map(|word| word.as_str()).collect(rt.alloc())?;
-    line(rt.alloc(), words.as_slice())
+    ExitCode::from(status(&rt, line, no_words, |line| run_line(&rt, line)))
 }
 
 // Reads the module's file, opens the input and runs a command line over them. The path `-` is the standard input.

@@ -1,39 +1,25 @@
-//! The program `asn1x-view`: fetches its words, and opens files. All else is `view`'s.
+//! The program `asn1x-view`: opens files. All else is `view`'s.
 #![tactic(auto)]
 
-use std::fs::File;
+use command_words::status;
+use std::fs::{self, File};
 use std::io::{self, Read, Stdin};
 use std::process::ExitCode;
-use std::{env, fs};
-use view::{FileSystem, Line, LineFault, line, no_words, run};
+use view::{FileSystem, Line, line, no_words, run};
 
 fn main(rt: HostRuntime) -> ExitCode {
-    ExitCode::from(status(&rt))
+    ExitCode::from(status(&rt, line, no_words, |line| run_line(&rt, line)))
 }
 
-// The exit status of the whole program.
-fn status(rt: &HostRuntime) -> u8 {
-    match line_of_words(rt) {
-        Ok(line) => run(
-            rt.alloc(),
-            &line,
-            &Process(rt),
-            rt.stdout(),
-            &mut rt.stderr(),
-        ),
-        Err(fault) => fault.print(rt),
-    }
-}
-
-// The command line that the program was called with.
-fn line_of_words(rt: &HostRuntime) -> Result<Line, LineFault> {
-    let words = match env::args(rt) {
-        Ok(words) => words,
-        Err(error) => return Err(no_words(rt.alloc(), &error)),
-    };
-    let words: Vec<String> = words.collect(rt.alloc())?;
-    let words: Vec<&str> = words.iter().map(|word| word.as_str()).collect(rt.alloc())?;
-    line(rt.alloc(), words.as_slice())
+// Runs a command line over the files of the process.
+fn run_line(rt: &HostRuntime, line: &Line) -> u8 {
+    run(
+        rt.alloc(),
+        line,
+        &Process(rt),
+        rt.stdout(),
+        &mut rt.stderr(),
+    )
 }
 
 // The files of the process.

@@ -16,7 +16,8 @@ use Rattle.engine.specs.Canonical.{Canonical}
 use Rattle.engine.specs.declared.rule.Rule.{Rule}
 use Rattle.program.specs.CommandLine.{word_of_canonical, word_of_rule, word_of_verb}
 use Rattle.program.specs.Entries.{HasEntries, HasWords, IsLineOf}
-use Rattle.program.specs.Fault.{IsRefusalOf, line_fault_by}
+use Rattle.program.specs.Fault.{IsRefusalOf}
+use Rattle.command_words.specs.Fault.{line_fault_by}
 use Rattle.program.specs.Program.{IsProgram}
 use Rattle.program.proofs.MetLemmas.{IsMet, met_of}
 use Rattle.program.proofs.ProgramLemmas.{program_simple}

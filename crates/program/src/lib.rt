@@ -13,7 +13,8 @@ mod running;
 mod tasks;
 mod words;
 
-pub use command_line::{Line, LineFault, Verb};
+pub use command_line::{Line, Verb};
+pub use command_words::LineFault;
 pub use missing_files::{cannot_open, cannot_read_module, cannot_share_input};
 pub use missing_words::no_words;
 pub use printed_path::PrintedPath;

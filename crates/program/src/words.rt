@@ -11,6 +11,7 @@ use crate::commands::program;
 use crate::{Line, LineFault, Verb};
 use clap::ArgMatches;
 use clap::error::ErrorKind;
+use command_words::fault_of_kind;
 use convert::{Canonical, Rule};
 use std::alloc::Global;
 
@@ -61,13 +62,7 @@ fn to_of(verb: Verb, matches: &ArgMatches<'_>) -> Option<Canonical>
 pub fn not_text(alloc: Global) -> LineFault
     ensures { IsNotText result }
 {
-    match program(alloc) {
-        Ok(mut program) => match program.error(ErrorKind::Io, "a word is not UTF-8") {
-            Ok(error) => LineFault::from(error),
-            Err(_) => LineFault::NoMemory,
-        },
-        Err(_) => LineFault::NoMemory,
-    }
+    fault_of_kind(program(alloc), ErrorKind::Io, "a word is not UTF-8")
 }
 
 // What a word asks for that is one of the three subcommands.

@@ -3,10 +3,6 @@ use Rattle.std.specs.Prelude.{◌≡◌, ◌⊎◌, ℕ}
 use Rattle.trimmer.specs.declared.running.End.{End}
 use Rattle.trimmer.specs.declared.running.End.TheVariants.{Written, Refused, Failed}
 
--- 64 where the words are wrong, 0 where they ask for help or the version, 4 where memory ran out
-abbrev pub IsLineStatus : ℕ → Type 0
-IsLineStatus status = (status ≡ 0) ⊎ (status ≡ 4) ⊎ (status ≡ 64)
-
 -- 0 written, 1 refused, 3 a file or device, 4 memory
 abbrev pub IsStatus : ℕ → Type 0
 IsStatus status = (status ≡ 0) ⊎ (status ≡ 1) ⊎ (status ≡ 3) ⊎ (status ≡ 4)

@@ -8,7 +8,8 @@ mod reading;
 mod running;
 mod words;
 
-pub use command_line::{Line, LineFault};
+pub use command_line::Line;
+pub use command_words::LineFault;
 pub use lines::no_words;
 pub use reading::{Files, read_file};
 pub use running::run;

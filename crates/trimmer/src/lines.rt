@@ -1,6 +1,6 @@
 //! The lines that the program prints.
 
-use crate::command_line::LineFault;
+use crate::LineFault;
 use crate::words::wrong;
 use published::{Fault, Place};
 use std::alloc::{AllocError, Global};

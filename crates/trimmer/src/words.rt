@@ -1,9 +1,10 @@
 //! Judges the program's words.
 
 use crate::command::command;
-use crate::command_line::{Line, LineFault};
+use crate::{Line, LineFault};
 use clap::ArgMatches;
 use clap::error::ErrorKind;
+use command_words::fault_of_kind;
 use std::alloc::Global;
 use trimming::{Given, Request, given_of, with_module};
 
@@ -69,11 +70,5 @@ fn unroll_of(alloc: Global, matches: &ArgMatches<'_>) -> Result<usize, LineFault
 
 /// Words that are no command line, for this reason.
 pub fn wrong(alloc: Global, why: &str) -> LineFault {
-    match command(alloc) {
-        Ok(mut command) => match command.error(ErrorKind::ValueValidation, why) {
-            Ok(error) => LineFault::from(error),
-            Err(_) => LineFault::NoMemory,
-        },
-        Err(_) => LineFault::NoMemory,
-    }
+    fault_of_kind(command(alloc), ErrorKind::ValueValidation, why)
 }

@@ -30,7 +30,7 @@ mod values;
 mod words;
 
 pub use command_line::{Form, Line, Reading, Task, Wanted};
+pub use command_words::LineFault;
 pub use file_system::FileSystem;
-pub use program::LineFault;
 pub use running::run;
 pub use words::{line, no_words};

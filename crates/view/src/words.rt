@@ -7,6 +7,7 @@ use crate::commands::program;
 use crate::{Form, Line, LineFault, Reading, Task, Wanted};
 use clap::ArgMatches;
 use clap::error::ErrorKind as WordsFault;
+use command_words::fault_of_kind;
 use engine::Rule;
 use std::alloc::{AllocError, Global};
 use std::io;
@@ -59,13 +60,7 @@ pub fn no_words(alloc: Global, error: &io::Error) -> LineFault
 }
 
 fn not_a_line(alloc: Global, message: &'static str) -> LineFault {
-    match program(alloc) {
-        Ok(mut program) => match program.error(WordsFault::Io, message) {
-            Ok(error) => LineFault::from(error),
-            Err(_) => LineFault::NoMemory,
-        },
-        Err(_) => LineFault::NoMemory,
-    }
+    fault_of_kind(program(alloc), WordsFault::Io, message)
 }
 
 fn octets_task(alloc: Global, matches: &ArgMatches<'_>) -> Result<Task, LineFault> {
