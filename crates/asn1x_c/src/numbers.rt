@@ -1,6 +1,6 @@
 //! What the numbers that C passes stand for.
 
-ghost use Rattle.std.specs.Prelude.{◌≡◌, option_map};
+ghost use Rattle.std.specs.Prelude.{◌≡◌, ◌⊎◌, Some, None, IfSome, IfNone, option_map};
 ghost use Rattle.engine.specs.Rule.{rule_of, canonical_rule_of};
 ghost use Rattle.asn1x_c.specs.Numbers.{canonical_numbered, name_numbered, refusal_numbered, rule_numbered};
 
@@ -19,7 +19,7 @@ pub(crate) fn rule_numbered(number: u32) -> Option<Rule>
 }
 
 // The canonical rule of a number.
-pub(crate) fn canonical_numbered(number: u32) -> Option<Canonical>
+fn canonical_numbered(number: u32) -> Option<Canonical>
     ensures { option_map canonical_rule_of result ≡ canonical_numbered number }
 {
     match number {
@@ -27,6 +27,17 @@ pub(crate) fn canonical_numbered(number: u32) -> Option<Canonical>
         2 => Some(Canonical::Der),
         _ => None,
     }
+}
+
+// The rules of two numbers, to read and to write by.
+pub(crate) fn rules_numbered(from: u32, to: u32) -> Option<(Rule, Canonical)>
+    ensures value { IfSome result (λ rules. (rule_numbered from ≡ Some (rule_of rules.0))
+        × (canonical_numbered to ≡ Some (canonical_rule_of rules.1))) }
+    ensures none { IfNone result ((rule_numbered from ≡ None) ⊎ (canonical_numbered to ≡ None)) }
+{
+    let from = rule_numbered(from)?;
+    let to = canonical_numbered(to)?;
+    Some((from, to))
 }
 
 // The refusal of a number.

@@ -1,6 +1,6 @@
 //! Takes a type out of C's memory for a call, and puts it back.
 
-ghost use Rattle.std.specs.Prelude.{◌≡◌, Some, None};
+ghost use Rattle.std.specs.Prelude.{◌≡◌, ◌⊎◌, Some, None, IfSome, IfNone};
 ghost use Rattle.asn1x_c.specs.Held.{type_of, HasGiven};
 
 use crate::held::HeldType;
@@ -32,6 +32,21 @@ impl HeldType {
         } else {
             None
         }
+    }
+
+    // Hands out the type with the rules of a call, and holds none; without either nothing changes.
+    pub(crate) fn take_for<R: Copy>(
+        &mut self,
+        alloc: Global,
+        rules: Option<R>,
+    ) -> Option<(R, Box<WellTyped>)>
+        ensures given { IfSome result (λ given. (rules ≡ Some given.0) × (type_of self.old ≡ Some given.1.value)) }
+        ensures none { IfNone result ((rules ≡ None) ⊎ (type_of self.old ≡ None)) }
+        ensures kept { IfNone result (type_of self.new ≡ type_of self.old) }
+    {
+        let rules = rules?;
+        let ty = self.take(alloc)?;
+        Some((rules, ty))
     }
 
     // Holds the type, and frees the one that it held.

@@ -10,7 +10,7 @@ use crate::doing::{check_all, convert_all, list_all, read_first};
 use crate::done::{Done, One};
 use crate::first_value::{convert_first, show_first};
 use crate::held::HeldType;
-use crate::numbers::{canonical_numbered, rule_numbered};
+use crate::numbers::{rule_numbered, rules_numbered};
 use std::alloc::Global;
 
 /// Converts the values of `octets`, and puts what is written into `out` where there is room for all of it.
@@ -28,13 +28,7 @@ pub extern "C" fn asn1x_convert(
         (λ shape from to. HasConverted from to shape octets.now out.old out.new result)
         (IsWrong result × (out.new ≡ out.old)) }
 {
-    let Some(from) = rule_numbered(from) else {
-        return Done::wrong();
-    };
-    let Some(to) = canonical_numbered(to) else {
-        return Done::wrong();
-    };
-    let Some(ty) = held.take(alloc) else {
+    let Some(((from, to), ty)) = held.take_for(alloc, rules_numbered(from, to)) else {
         return Done::wrong();
     };
     let done = convert_all(alloc, &ty, from, to, octets, out);
@@ -56,10 +50,7 @@ pub extern "C" fn asn1x_show(
         (λ shape from. HasListed from shape octets.now out.old out.new result)
         (IsWrong result × (out.new ≡ out.old)) }
 {
-    let Some(from) = rule_numbered(from) else {
-        return Done::wrong();
-    };
-    let Some(ty) = held.take(alloc) else {
+    let Some((from, ty)) = held.take_for(alloc, rule_numbered(from)) else {
         return Done::wrong();
     };
     let done = list_all(alloc, &ty, from, octets, out);
@@ -75,10 +66,7 @@ pub extern "C" fn asn1x_check(alloc: Global, held: &mut HeldType, from: u32, oct
         (λ shape from. HasChecked from shape octets.now result)
         (IsWrong result) }
 {
-    let Some(from) = rule_numbered(from) else {
-        return Done::wrong();
-    };
-    let Some(ty) = held.take(alloc) else {
+    let Some((from, ty)) = held.take_for(alloc, rule_numbered(from)) else {
         return Done::wrong();
     };
     let done = check_all(alloc, &ty, from, octets);
@@ -94,10 +82,7 @@ pub extern "C" fn asn1x_first(alloc: Global, held: &mut HeldType, from: u32, oct
         (λ shape from. HasRead from shape octets.now result)
         (IsWrong result) }
 {
-    let Some(from) = rule_numbered(from) else {
-        return Done::wrong();
-    };
-    let Some(ty) = held.take(alloc) else {
+    let Some((from, ty)) = held.take_for(alloc, rule_numbered(from)) else {
         return Done::wrong();
     };
     let done = read_first(alloc, &ty, from, octets);
@@ -121,13 +106,7 @@ pub extern "C" fn asn1x_convert_first(
         (λ shape from to. HasConvertedFirst from to shape octets.now out.old out.new result)
         (IsNoOne result × (out.new ≡ out.old)) }
 {
-    let Some(from) = rule_numbered(from) else {
-        return One::wrong();
-    };
-    let Some(to) = canonical_numbered(to) else {
-        return One::wrong();
-    };
-    let Some(ty) = held.take(alloc) else {
+    let Some(((from, to), ty)) = held.take_for(alloc, rules_numbered(from, to)) else {
         return One::wrong();
     };
     let one = convert_first(alloc, &ty, from, to, octets, out);
@@ -150,10 +129,7 @@ pub extern "C" fn asn1x_show_first(
         (λ shape from. HasShownFirst from shape octets.now out.old out.new result)
         (IsNoOne result × (out.new ≡ out.old)) }
 {
-    let Some(from) = rule_numbered(from) else {
-        return One::wrong();
-    };
-    let Some(ty) = held.take(alloc) else {
+    let Some((from, ty)) = held.take_for(alloc, rule_numbered(from)) else {
         return One::wrong();
     };
     let one = show_first(alloc, &ty, from, octets, out);
