@@ -39,8 +39,18 @@ static CANONICAL_RULES: [&str; 2] = ["cer", "der"];
 pub fn program<'a>(alloc: Global) -> Result<Command<'a>, AllocError>
     ensures { IfOk result (λ program. IsProgram (app_of program)) }
 {
-    let show = show_command(alloc)?;
-    let check = check_command(alloc)?;
+    let show = reading_command(
+        alloc,
+        "show",
+        "Print a line of text for each value",
+        help_with!("asn1x show calls.asn Call calls.ber"),
+    )?;
+    let check = reading_command(
+        alloc,
+        "check",
+        "Count the values",
+        help_with!("asn1x check calls.asn Call calls.der --from der"),
+    )?;
     let convert = convert_command(alloc)?;
     let program = own_command(alloc).subcommand(show)?;
     let program = program.subcommand(check)?;
@@ -58,23 +68,16 @@ fn own_command<'a>(alloc: Global) -> Command<'a>
         .subcommand_required(true)
 }
 
-// Prints values as text.
-fn show_command<'a>(alloc: Global) -> Result<Command<'a>, AllocError>
-    ensures { IfOk result (TakesInput (new_app (codes "show"))) }
+// A command of this name that reads values and prints text.
+fn reading_command<'a>(
+    alloc: Global,
+    name: &'a str,
+    about: &'a str,
+    help: &'a str,
+) -> Result<Command<'a>, AllocError>
+    ensures { IfOk result (TakesInput (new_app name.entry.now)) }
 {
-    let command = Command::new(alloc, "show")
-        .about("Print a line of text for each value")
-        .after_help(help_with!("asn1x show calls.asn Call calls.ber"));
-    with_input(alloc, command, READ_HEX)
-}
-
-// Counts values.
-fn check_command<'a>(alloc: Global) -> Result<Command<'a>, AllocError>
-    ensures { IfOk result (TakesInput (new_app (codes "check"))) }
-{
-    let command = Command::new(alloc, "check")
-        .about("Count the values")
-        .after_help(help_with!("asn1x check calls.asn Call calls.der --from der"));
+    let command = Command::new(alloc, name).about(about).after_help(help);
     with_input(alloc, command, READ_HEX)
 }
 
