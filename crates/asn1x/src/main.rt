@@ -9,7 +9,12 @@ use std::io::{self, Read};
 use std::process::ExitCode;
 
 fn main(rt: HostRuntime) -> ExitCode {
-    ExitCode::from(status(&rt, line, no_words, |line| run_line(&rt, line)))
+    ExitCode::from(status(
+        &rt,
+        |alloc, words| line(alloc, words),
+        |alloc, error| no_words(alloc, error),
+        |line| run_line(&rt, line),
+    ))
 }
 
 // Reads the module's file, opens the input and runs a command line over them. The path `-` is the standard input.

@@ -21,7 +21,12 @@ impl Files for Disk<'_> {
 }
 
 fn main(rt: HostRuntime) -> ExitCode {
-    ExitCode::from(status(&rt, line, no_words, |line| run_line(&rt, line)))
+    ExitCode::from(status(
+        &rt,
+        |alloc, words| line(alloc, words),
+        |alloc, error| no_words(alloc, error),
+        |line| run_line(&rt, line),
+    ))
 }
 
 // Runs a command line over the files of the system.

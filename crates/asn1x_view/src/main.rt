@@ -8,7 +8,12 @@ use std::process::ExitCode;
 use view::{FileSystem, Line, line, no_words, run};
 
 fn main(rt: HostRuntime) -> ExitCode {
-    ExitCode::from(status(&rt, line, no_words, |line| run_line(&rt, line)))
+    ExitCode::from(status(
+        &rt,
+        |alloc, words| line(alloc, words),
+        |alloc, error| no_words(alloc, error),
+        |line| run_line(&rt, line),
+    ))
 }
 
 // Runs a command line over the files of the process.
