@@ -1,5 +1,10 @@
 //! Fetches the words that the program was called with.
 
+ghost use Rattle.std.specs.Prelude.{MatchResult};
+ghost use Rattle.std.specs.Fn.{FnOnceReturnsAt};
+ghost use Rattle.command_words.specs.Fault.{IsLineStatus};
+ghost use Rattle.command_words.specs.Status.{IsMade};
+
 use crate::LineFault;
 use std::alloc::Global;
 use std::env::{self, Env};
@@ -17,6 +22,7 @@ where
     requires line { J.IsAlwaysCallable line }
     requires no_words { N.IsAlwaysCallable no_words }
     requires run { F.IsAlwaysCallable run }
+    ensures { (made : _) × IsMade J.FnOnce N.FnOnce line no_words made × MatchResult made (λ command. FnOnceReturnsAt F.FnOnce run command result) (λ fault. IsLineStatus fault result) }
 {
     match line_of_words(rt, line, no_words) {
         Ok(line) => run(&line),
@@ -32,6 +38,7 @@ where
     N: FnOnce(Global, &io::Error) -> LineFault,
     requires line { J.IsAlwaysCallable line }
     requires no_words { N.IsAlwaysCallable no_words }
+    ensures { IsMade J.FnOnce N.FnOnce line no_words result }
 {
     let words = match env::args(rt) {
         Ok(words) => words,
