@@ -85,10 +85,7 @@ pub fn read_canonical(
     ensures well_formed { IsWellFormed (ty_view ty.now) }
 {
     let mut slot = None;
-    let used = match read_into(alloc, rule, ty, octets, &mut slot) {
-        Ok(used) => used,
-        Err(refusal) => return Err(refusal),
-    };
+    let used = read_into(alloc, rule, ty, octets, &mut slot)?;
     let Some(value) = slot else { unreachable!() };
     Ok((value, used))
 }
@@ -117,9 +114,5 @@ pub fn read_into(
     ensures numbers { IfErr result IsOfStrictReading }
     ensures well_formed { IsWellFormed (ty_view ty.now) }
 {
-    let node = ty.as_type();
-    match read_one(alloc, rule, node, MAX_ENCODING, octets, slot) {
-        Ok(used) => Ok(used),
-        Err(refusal) => Err(refusal),
-    }
+    read_one(alloc, rule, ty.as_type(), MAX_ENCODING, octets, slot)
 }
