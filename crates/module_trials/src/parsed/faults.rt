@@ -1,6 +1,7 @@
 //! The numbers and the places of faults.
 
 use super::{refused, with_type};
+use std::alloc::Global;
 use std::test::Fail;
 
 #[test]
@@ -60,179 +61,164 @@ fn faults_of_modules(rt: HostRuntime) {
     }
 }
 
-#[test]
-fn faults_of_types(rt: HostRuntime) -> Result<(), Fail> {
-    // (type, number, octet of the type; zeros where it is read)
-    let cases: [(&str, u32, u32); 76] = [
-        ("BOOLEAN", 0, 0),
-        ("BIT STRING", 0, 0),
-        ("OBJECT IDENTIFIER", 0, 0),
-        ("U", 0, 0),
-        ("#", 21, 1),
-        ("::=", 22, 1),
-        ("a", 22, 1),
-        ("5", 22, 1),
-        ("BEGIN", 22, 1),
-        ("OPTIONAL", 22, 1),
-        ("REAL", 32, 1),
-        ("ANY", 32, 1),
-        ("...", 32, 1),
-        ("(", 22, 1),
-        ("{", 22, 1),
-        ("BIT", 22, 5),
-        ("BIT INTEGER", 22, 5),
-        ("OBJECT", 22, 8),
-        ("INTEGER (5)", 32, 9),
-        ("INTEGER { a(0) }", 32, 9),
-        ("BIT STRING (SIZE (5))", 32, 12),
-        ("OCTET STRING { a(0) }", 22, 14),
-        ("OCTET STRING (SIZE (5))", 32, 14),
-        ("NULL { }", 22, 6),
-        ("NULL NULL", 23, 6),
-        ("NULL a", 22, 6),
-        ("NULL |", 32, 6),
-        ("NULL WITH", 32, 6),
-        ("[0] NULL", 0, 0),
-        ("[APPLICATION 31] IMPLICIT NULL", 0, 0),
-        ("[PRIVATE 5] EXPLICIT NULL", 0, 0),
-        ("[UNIVERSAL 1] NULL", 32, 2),
-        ("[268435455] NULL", 0, 0),
-        ("[268435456] NULL", 31, 2),
-        ("[-1] NULL", 22, 2),
-        ("[] NULL", 22, 2),
-        ("[0 NULL", 22, 4),
-        ("[0] IMPLICIT EXPLICIT NULL", 22, 14),
-        ("SEQUENCE { }", 0, 0),
-        ("SET { }", 0, 0),
-        ("SEQUENCE", 22, 10),
-        ("SEQUENCE NULL", 22, 10),
-        ("SEQUENCE (SIZE (1)) OF NULL", 22, 10),
-        ("SEQUENCE OF NULL", 0, 0),
-        ("SEQUENCE OF a NULL", 22, 13),
-        ("SEQUENCE { a NULL }", 0, 0),
-        ("SEQUENCE { a NULL, }", 22, 20),
-        ("SEQUENCE { , a NULL }", 22, 12),
-        ("SEQUENCE { a NULL b NULL }", 22, 19),
-        ("SEQUENCE { A NULL }", 22, 12),
-        ("SEQUENCE { a }", 22, 14),
-        ("SEQUENCE { BOOLEAN NULL }", 23, 12),
-        ("SEQUENCE { COMPONENTS OF T }", 32, 12),
-        ("SEQUENCE { a NULL, ... }", 32, 20),
-        ("SEQUENCE { a INTEGER (5) }", 32, 22),
-        ("SEQUENCE { a INTEGER { b(1) } }", 32, 22),
-        ("SEQUENCE { a NULL OPTIONAL }", 0, 0),
-        ("SEQUENCE { a NULL OPTIONAL DEFAULT TRUE }", 22, 28),
-        ("SEQUENCE { a NULL DEFAULT TRUE OPTIONAL }", 22, 32),
-        ("SEQUENCE { a INTEGER OPTIONAL (5) }", 22, 31),
-        ("SEQUENCE { a INTEGER DEFAULT 1 (5) }", 22, 32),
-        ("SEQUENCE { a SET { } (5) }", 32, 22),
-        ("SEQUENCE { a U (5) }", 32, 16),
-        ("SEQUENCE { a NULL DEFAULT }", 22, 27),
-        ("SEQUENCE { a NULL DEFAULT NULL }", 22, 27),
-        ("SEQUENCE { a NULL DEFAULT REAL }", 32, 27),
-        ("SEQUENCE { a NULL DEFAULT { } }", 22, 27),
-        ("SEQUENCE { a INTEGER DEFAULT -0 }", 22, 31),
-        ("SEQUENCE { a INTEGER DEFAULT -a }", 22, 31),
-        ("CHOICE { }", 22, 10),
-        ("CHOICE { a NULL, b U }", 0, 0),
-        ("CHOICE { a NULL OPTIONAL }", 22, 17),
-        ("CHOICE { BOOLEAN NULL }", 23, 10),
-        ("CHOICE { a NULL, }", 22, 18),
-        ("CHOICE OF NULL", 22, 8),
-        ("CHOICE { a [0] NULL, ... }", 32, 22),
-    ];
-    for (body, number, octet) in cases {
-        let text = with_type(rt.alloc(), body)?;
-        let (line, column) = if number == 0 {
-            (0, 0)
-        } else {
-            (1, octet.saturating_add(30))
-        };
-        assert_eq!(rt;
-            refused(rt.alloc(), &text),
-            (number, line, column),
-            "at {body:?}"
-        );
+// Fails at the first row that does not hold, and where there is none.
+fn check_types(alloc: Global, rows: &str) -> Result<(), Fail> {
+    if rows.is_empty() {
+        return Err("a table without rows".into());
+    }
+    for row in rows.lines() {
+        if !holds(alloc, row)? {
+            return Err(Fail::new(format_args!("not so: {row}")));
+        }
     }
     Ok(())
 }
 
+// Whether a row's type is refused with its number and at its octet, or read where they are zeros.
+fn holds(alloc: Global, row: &str) -> Result<bool, Fail> {
+    let (body, wanted) = row.rsplit_once(" | ").ok_or("no bar")?;
+    let (number, octet) = wanted.split_once(' ').ok_or("one number")?;
+    let (number, octet) = (number.parse::<u32>()?, octet.parse::<u32>()?);
+    let (line, column) = if number == 0 {
+        (0, 0)
+    } else {
+        (1, octet.saturating_add(30))
+    };
+    let text = with_type(alloc, body)?;
+    Ok(refused(alloc, &text) == (number, line, column))
+}
+
+// type | number and octet of the type; zeros where it is read
+const TYPES: &str = "\
+BOOLEAN | 0 0
+BIT STRING | 0 0
+OBJECT IDENTIFIER | 0 0
+U | 0 0
+# | 21 1
+::= | 22 1
+a | 22 1
+5 | 22 1
+BEGIN | 22 1
+OPTIONAL | 22 1
+REAL | 32 1
+ANY | 32 1
+... | 32 1
+( | 22 1
+{ | 22 1
+BIT | 22 5
+BIT INTEGER | 22 5
+OBJECT | 22 8
+INTEGER (5) | 32 9
+INTEGER { a(0) } | 32 9
+BIT STRING (SIZE (5)) | 32 12
+OCTET STRING { a(0) } | 22 14
+OCTET STRING (SIZE (5)) | 32 14
+NULL { } | 22 6
+NULL NULL | 23 6
+NULL a | 22 6
+NULL | | 32 6
+NULL WITH | 32 6
+[0] NULL | 0 0
+[APPLICATION 31] IMPLICIT NULL | 0 0
+[PRIVATE 5] EXPLICIT NULL | 0 0
+[UNIVERSAL 1] NULL | 32 2
+[268435455] NULL | 0 0
+[268435456] NULL | 31 2
+[-1] NULL | 22 2
+[] NULL | 22 2
+[0 NULL | 22 4
+[0] IMPLICIT EXPLICIT NULL | 22 14
+SEQUENCE { } | 0 0
+SET { } | 0 0
+SEQUENCE | 22 10
+SEQUENCE NULL | 22 10
+SEQUENCE (SIZE (1)) OF NULL | 22 10
+SEQUENCE OF NULL | 0 0
+SEQUENCE OF a NULL | 22 13
+SEQUENCE { a NULL } | 0 0
+SEQUENCE { a NULL, } | 22 20
+SEQUENCE { , a NULL } | 22 12
+SEQUENCE { a NULL b NULL } | 22 19
+SEQUENCE { A NULL } | 22 12
+SEQUENCE { a } | 22 14
+SEQUENCE { BOOLEAN NULL } | 23 12
+SEQUENCE { COMPONENTS OF T } | 32 12
+SEQUENCE { a NULL, ... } | 32 20
+SEQUENCE { a INTEGER (5) } | 32 22
+SEQUENCE { a INTEGER { b(1) } } | 32 22
+SEQUENCE { a NULL OPTIONAL } | 0 0
+SEQUENCE { a NULL OPTIONAL DEFAULT TRUE } | 22 28
+SEQUENCE { a NULL DEFAULT TRUE OPTIONAL } | 22 32
+SEQUENCE { a INTEGER OPTIONAL (5) } | 22 31
+SEQUENCE { a INTEGER DEFAULT 1 (5) } | 22 32
+SEQUENCE { a SET { } (5) } | 32 22
+SEQUENCE { a U (5) } | 32 16
+SEQUENCE { a NULL DEFAULT } | 22 27
+SEQUENCE { a NULL DEFAULT NULL } | 22 27
+SEQUENCE { a NULL DEFAULT REAL } | 32 27
+SEQUENCE { a NULL DEFAULT { } } | 22 27
+SEQUENCE { a INTEGER DEFAULT -0 } | 22 31
+SEQUENCE { a INTEGER DEFAULT -a } | 22 31
+CHOICE { } | 22 10
+CHOICE { a NULL, b U } | 0 0
+CHOICE { a NULL OPTIONAL } | 22 17
+CHOICE { BOOLEAN NULL } | 23 10
+CHOICE { a NULL, } | 22 18
+CHOICE OF NULL | 22 8
+CHOICE { a [0] NULL, ... } | 32 22";
+
+#[test]
+fn faults_of_types(rt: HostRuntime) -> Result<(), Fail> {
+    check_types(rt.alloc(), TYPES)
+}
+
+// type | number and octet of the type; zeros where it is read
+const ITEMS_AND_BITS: &str = "\
+ENUMERATED { a } | 0 0
+ENUMERATED { a, b } | 0 0
+ENUMERATED { a(0) } | 0 0
+ENUMERATED { a(-1), b } | 0 0
+ENUMERATED { a(-0) } | 22 17
+ENUMERATED { a(00) } | 21 16
+ENUMERATED { a() } | 22 16
+ENUMERATED { a(1 } | 22 18
+ENUMERATED { a(b) } | 22 16
+ENUMERATED { a (1) (2) } | 22 20
+ENUMERATED { } | 22 14
+ENUMERATED { a, } | 22 17
+ENUMERATED { TRUE } | 23 14
+ENUMERATED { a, ... } | 32 17
+ENUMERATED { a(170141183460469231731687303715884105727) } | 0 0
+ENUMERATED { a(170141183460469231731687303715884105728) } | 31 16
+ENUMERATED { a(-170141183460469231731687303715884105728) } | 0 0
+ENUMERATED { a(-170141183460469231731687303715884105729) } | 31 17
+ENUMERATED a | 22 12
+BIT STRING { a(0) } | 0 0
+BIT STRING { a(0), b(5) } | 0 0
+BIT STRING { a(65535) } | 0 0
+BIT STRING { a(65536) } | 31 16
+BIT STRING { a(00) } | 21 16
+BIT STRING { } | 22 14
+BIT STRING { a } | 22 16
+BIT STRING { a() } | 22 16
+BIT STRING { a(-1) } | 22 16
+BIT STRING { a(b) } | 22 16
+BIT STRING { a(0 } | 22 18
+BIT STRING { a(0) (1) } | 22 19
+BIT STRING { a(0) b(1) } | 22 19
+BIT STRING { a(0), } | 22 20
+BIT STRING { A(0) } | 22 14
+BIT STRING { BOOLEAN(0) } | 23 14
+BIT STRING { REAL(0) } | 32 14
+BIT STRING { | 23 14
+BIT STRING { a(0), ... } | 32 20
+BIT STRING { a(0) } (SIZE (1)) | 32 21
+BIT STRING { a(0) } { b(1) } | 22 21
+SEQUENCE { a BIT STRING { b(0) } OPTIONAL } | 0 0
+SEQUENCE { a BIT STRING { b(0) } (5) } | 32 34
+SET OF BIT STRING { a(0) } | 0 0";
+
 #[test]
 fn faults_of_items_and_bits(rt: HostRuntime) -> Result<(), Fail> {
-    // (type, number, octet of the type; zeros where it is read)
-    let cases: [(&str, u32, u32); 43] = [
-        ("ENUMERATED { a }", 0, 0),
-        ("ENUMERATED { a, b }", 0, 0),
-        ("ENUMERATED { a(0) }", 0, 0),
-        ("ENUMERATED { a(-1), b }", 0, 0),
-        ("ENUMERATED { a(-0) }", 22, 17),
-        ("ENUMERATED { a(00) }", 21, 16),
-        ("ENUMERATED { a() }", 22, 16),
-        ("ENUMERATED { a(1 }", 22, 18),
-        ("ENUMERATED { a(b) }", 22, 16),
-        ("ENUMERATED { a (1) (2) }", 22, 20),
-        ("ENUMERATED { }", 22, 14),
-        ("ENUMERATED { a, }", 22, 17),
-        ("ENUMERATED { TRUE }", 23, 14),
-        ("ENUMERATED { a, ... }", 32, 17),
-        (
-            "ENUMERATED { a(170141183460469231731687303715884105727) }",
-            0,
-            0,
-        ),
-        (
-            "ENUMERATED { a(170141183460469231731687303715884105728) }",
-            31,
-            16,
-        ),
-        (
-            "ENUMERATED { a(-170141183460469231731687303715884105728) }",
-            0,
-            0,
-        ),
-        (
-            "ENUMERATED { a(-170141183460469231731687303715884105729) }",
-            31,
-            17,
-        ),
-        ("ENUMERATED a", 22, 12),
-        ("BIT STRING { a(0) }", 0, 0),
-        ("BIT STRING { a(0), b(5) }", 0, 0),
-        ("BIT STRING { a(65535) }", 0, 0),
-        ("BIT STRING { a(65536) }", 31, 16),
-        ("BIT STRING { a(00) }", 21, 16),
-        ("BIT STRING { }", 22, 14),
-        ("BIT STRING { a }", 22, 16),
-        ("BIT STRING { a() }", 22, 16),
-        ("BIT STRING { a(-1) }", 22, 16),
-        ("BIT STRING { a(b) }", 22, 16),
-        ("BIT STRING { a(0 }", 22, 18),
-        ("BIT STRING { a(0) (1) }", 22, 19),
-        ("BIT STRING { a(0) b(1) }", 22, 19),
-        ("BIT STRING { a(0), }", 22, 20),
-        ("BIT STRING { A(0) }", 22, 14),
-        ("BIT STRING { BOOLEAN(0) }", 23, 14),
-        ("BIT STRING { REAL(0) }", 32, 14),
-        ("BIT STRING {", 23, 14),
-        ("BIT STRING { a(0), ... }", 32, 20),
-        ("BIT STRING { a(0) } (SIZE (1))", 32, 21),
-        ("BIT STRING { a(0) } { b(1) }", 22, 21),
-        ("SEQUENCE { a BIT STRING { b(0) } OPTIONAL }", 0, 0),
-        ("SEQUENCE { a BIT STRING { b(0) } (5) }", 32, 34),
-        ("SET OF BIT STRING { a(0) }", 0, 0),
-    ];
-    for (body, number, octet) in cases {
-        let text = with_type(rt.alloc(), body)?;
-        let (line, column) = if number == 0 {
-            (0, 0)
-        } else {
-            (1, octet.saturating_add(30))
-        };
-        assert_eq!(rt;
-            refused(rt.alloc(), &text),
-            (number, line, column),
-            "at {body:?}"
-        );
-    }
-    Ok(())
+    check_types(rt.alloc(), ITEMS_AND_BITS)
 }
