@@ -33,24 +33,6 @@ impl Nest<'_> {
         if is_node(ty) {
             return self.put(value, used, whole);
         }
-        self.put_wrapped(alloc, ty, tag, value, used, whole)
-    }
-
-    // Puts a value that has come of a CHOICE, by the value of the chosen type. A call of its own, since few
-    // parts are of a CHOICE.
-    #[inline(never)]
-    fn put_wrapped(
-        &mut self,
-        alloc: Global,
-        ty: &Ty,
-        tag: Tag,
-        value: Value,
-        used: usize,
-        whole: &mut Option<Value>,
-    ) -> Result<usize, NoMemory>
-        requires { MayCome self.old (ty_view ty.now) used whole.old }
-        ensures { IfOk result (IsPlaced self.old self.new (ty_view ty.now) tag (value_view value) used whole.new) }
-    {
         let wrapped = wrap(alloc, ty, tag, value)?;
         self.put(wrapped, used, whole)
     }
