@@ -1,5 +1,5 @@
 -- Lemmas on where a reader stands in a value.
-use Rattle.std.proofs.Common.{◌≡◌, ◌+◌, ◌<◌, ◌≤◌, inl, inr, ℕ, List, [], ◌∷◌, ◌++◌, Option, None, Some, Result, Ok, Err, IfOk, IfErr, OnOk, length, take, drop, refl, sym, ap, ◌∙◌, subst, arith, append-nil, append_assoc, length-append, length-drop, length-take}
+use Rattle.std.proofs.Common.{◌≡◌, ◌+◌, ◌<◌, ◌≤◌, inl, inr, ℕ, List, [], ◌∷◌, ◌++◌, Option, None, Some, Result, Ok, Err, IfOk, IfErr, OnOk, OnErr, length, take, drop, refl, sym, ap, ap₂, ◌∙◌, subst, arith, append-nil, append_assoc, length-append, length-drop, length-take}
 use Rattle.std.proofs.lemmas.List.{take-append-drop, take_all}
 use Rattle.octets.specs.Rule.{ber}
 use Rattle.octets.proofs.ShortestLemmas.{IsLength-size}
@@ -7,6 +7,7 @@ use Rattle.types.specs.Encoding.{IsAccepted}
 use Rattle.types.specs.Shape.{Val}
 use Rattle.types.specs.View.{ty_view, value_view}
 use Rattle.types.specs.declared.refusal.Refusal.{Refusal}
+use Rattle.types.specs.declared.refusal.Refusal.TheVariants.{Truncated}
 use Rattle.types.specs.declared.value.Value.{Value}
 use Rattle.berreader.specs.declared.cursor.Cursor.{Cursor}
 use Rattle.encoding_parts.specs.declared.frame.Frame.{Frame}
@@ -20,7 +21,7 @@ use Rattle.berreader.specs.Cut.{IsCut, IsCutIn, IsNestCut}
 use Rattle.encoding_parts.specs.Cut.{IsStringCut}
 use Rattle.encoding_parts.specs.Refuses.{Refuses}
 use Rattle.berreader.specs.Stack.{layers_of}
-use Rattle.berreader.specs.Cursor.{ends_in, octets_in, taken_by, taken_of, with_string, AreTaken, CanFinish, HasPassed, HasTaken, IsSoundCursor, IsSoundIn, IsStep, IsTaken, IsWhole}
+use Rattle.berreader.specs.Cursor.{ends_in, octets_in, taken_by, taken_of, with_string, AreTaken, CanFinish, HasPassed, HasTaken, IsSoundCursor, IsSoundIn, IsStep, IsTaken, IsWhole, Steps}
 use Rattle.berreader.specs.Strings.{IsClosed, IsFound, IsOpenedString, IsSoundString, IsString}
 use Rattle.berreader.proofs.StringLemmas.{passed_on, cannot_finish, sound_on}
 
@@ -234,21 +235,30 @@ sound_found old nest (Some string) octets None used h sound = sound_opened old (
 sound_found old nest (Some string) octets (Some value) used h sound = absurd h
 
 -- and so is what it answers
-pub nest_step : (old : Cursor) (nest : Nest) (string : Option OpenString) (octets : List ℕ) (whole : Option Value) (r : Result ℕ Refusal) → old.string ≡ None → IfOk r (λ used. IsFound old.nest nest octets string whole used) → IfOk r (λ used. IsStep old (record { nest = nest; string = string }) octets whole used)
+nest_step : (old : Cursor) (nest : Nest) (string : Option OpenString) (octets : List ℕ) (whole : Option Value) (r : Result ℕ Refusal) → old.string ≡ None → IfOk r (λ used. IsFound old.nest nest octets string whole used) → IfOk r (λ used. IsStep old (record { nest = nest; string = string }) octets whole used)
 nest_step old nest string octets whole (Ok used) none h = step_found old nest string octets whole used none h
 nest_step old nest string octets whole (Err e) none h = tt
 
-pub nest_sound : (old : Cursor) (nest : Nest) (string : Option OpenString) (octets : List ℕ) (whole : Option Value) (r : Result ℕ Refusal) → IfOk r (λ used. IsFound old.nest nest octets string whole used) → OnOk r (nests.IsSoundNest nest) → OnOk r (IsSoundCursor (record { nest = nest; string = string }))
+nest_sound : (old : Cursor) (nest : Nest) (string : Option OpenString) (octets : List ℕ) (whole : Option Value) (r : Result ℕ Refusal) → IfOk r (λ used. IsFound old.nest nest octets string whole used) → OnOk r (nests.IsSoundNest nest) → OnOk r (IsSoundCursor (record { nest = nest; string = string }))
 nest_sound old nest string octets whole (Ok used) h sound = sound_found old nest string octets whole used h sound
 nest_sound old nest string octets whole (Err e) h sound = tt
 
-pub nest_refused : (old : Cursor) (octets : List ℕ) (r : Result ℕ Refusal) → old.string ≡ None → IfErr r (Refuses (nests.CanFinish old.nest) (IsNestCut old.nest) octets) → IfErr r (Refuses (CanFinish old) (IsCut old) octets)
+nest_refused : (old : Cursor) (octets : List ℕ) (r : Result ℕ Refusal) → old.string ≡ None → IfErr r (Refuses (nests.CanFinish old.nest) (IsNestCut old.nest) octets) → IfErr r (Refuses (CanFinish old) (IsCut old) octets)
 nest_refused old octets (Ok used) none h = tt
 nest_refused old octets (Err e) none h = record {
   truncated = λ is f. h.truncated is (finishes_nest old octets none f);
   cut = λ is. subst (λ s. IsCutIn old.nest s octets) (sym none) (h.cut is);
   never = λ final more f. h.never final more (finishes_nest old (octets ++ more) none f);
   numbers = h.numbers;
+}
+
+pub nest_steps : (old : Cursor) (nest : Nest) (string : Option OpenString) (octets : List ℕ) (whole : Option Value) (r : Result ℕ Refusal) → old.string ≡ None → IfOk r (λ used. IsFound old.nest nest octets string whole used) → OnOk r (nests.IsSoundNest nest)
+    → IfErr r (Refuses (nests.CanFinish old.nest) (IsNestCut old.nest) octets) → (r ≡ Err Truncated → nest ≡ old.nest) → OnErr r (string ≡ None) → Steps old (record { nest = nest; string = string }) octets whole r
+nest_steps old nest string octets whole r none found sound refused unchanged kept = record {
+  taken = nest_step old nest string octets whole r none found;
+  sound = nest_sound old nest string octets whole r found sound;
+  refused = nest_refused old octets r none refused;
+  unchanged = λ is. ap₂ (λ n s. let c : Cursor = record { nest = n; string = s } in c) (unchanged is) (subst (λ q. OnErr q (string ≡ None)) is kept ∙ sym none);
 }
 
 -- a part of the string that has begun was passed

@@ -1,13 +1,17 @@
 -- Where a reader stands in a value: the open encodings, and the string that has begun in the innermost, if one has.
-use Rattle.std.specs.Prelude.{◌≡◌, ◌+◌, ◌<◌, ◌≤◌, ⊤, ℕ, List, [], ◌++◌, Option, Some, None, length, take, drop}
+use Rattle.std.specs.Prelude.{◌≡◌, ◌+◌, ◌<◌, ◌≤◌, ⊤, ℕ, List, [], ◌++◌, Option, Some, None, Result, Err, IfOk, IfErr, OnOk, length, take, drop}
 use Rattle.octets.specs.Rule.{ber}
 use Rattle.types.specs.Encoding.{IsAccepted}
+use Rattle.types.specs.declared.refusal.Refusal.{Refusal}
+use Rattle.types.specs.declared.refusal.Refusal.TheVariants.{Truncated}
 use Rattle.types.specs.declared.value.Value.{Value}
 use Rattle.types.specs.Shape.{Val}
 use Rattle.types.specs.View.{ty_view, value_view}
+use Rattle.encoding_parts.specs.Refuses.{Refuses}
 use Rattle.berreader.specs.declared.cursor.Cursor.{Cursor}
 use Rattle.berreader.specs.declared.nest.Nest.{Nest}
 use Rattle.berreader.specs.declared.nest.OpenString.{OpenString}
+use Rattle.berreader.specs.Cut.{IsCut}
 use Rattle.berreader.specs.Nest as nests
 use Rattle.berreader.specs.Stack.{layers_of}
 use Rattle.berreader.specs.Strings.{IsSoundString, IsString}
@@ -104,3 +108,10 @@ pub record IsWhole (old new : Cursor) (octets : List ℕ) (value : Val) (used : 
 abbrev pub IsStep : Cursor → Cursor → List ℕ → Option Value → ℕ → Type 0
 IsStep old new octets None used = IsTaken old new octets used
 IsStep old new octets (Some value) used = IsWhole old new octets (value_view value) used
+
+-- what a step leads to: octets are taken, or are refused; where more may come, nothing has changed
+pub record Steps (old new : Cursor) (octets : List ℕ) (whole : Option Value) (result : Result ℕ Refusal) : Type 0 where
+  pub taken : IfOk result (λ used. IsStep old new octets whole used)
+  pub sound : OnOk result (IsSoundCursor new)
+  pub refused : IfErr result (Refuses (CanFinish old) (IsCut old) octets)
+  pub unchanged : result ≡ Err Truncated → new ≡ old

@@ -1,12 +1,10 @@
 //! Where a reader stands in a value, and the steps by which it goes on, from one part or segment to the
 //! next. A step is one of the nest, or one in the constructed string that has begun in it.
 
-ghost use Rattle.std.specs.Prelude.{◌≡◌, Some, None, [], IfOk, IfErr, OnOk};
+ghost use Rattle.std.specs.Prelude.{◌≡◌, None, []};
 ghost use Rattle.types.specs.View.{ty_view};
-ghost use Rattle.encoding_parts.specs.Refuses.{Refuses};
 ghost use Rattle.berreader.specs.Stack.{layers_of, IsCounted};
-ghost use Rattle.berreader.specs.Cut.{IsCut};
-ghost use Rattle.berreader.specs.Cursor.{taken_of, CanFinish, AreTaken, IsSoundCursor, IsStep};
+ghost use Rattle.berreader.specs.Cursor.{taken_of, AreTaken, IsSoundCursor, Steps};
 
 use crate::nest::{Nest, OpenString};
 use crate::stack::Stack;
@@ -50,10 +48,7 @@ impl<'a> Cursor<'a> {
     ) -> Result<usize, Refusal>
         requires sound { IsSoundCursor self.old }
         requires whole { whole.old ≡ None }
-        ensures taken { IfOk result (λ used. IsStep self.old self.new octets.now whole.new used) }
-        ensures sound { OnOk result (IsSoundCursor self.new) }
-        ensures refused { IfErr result (Refuses (CanFinish self.old) (IsCut self.old) octets.now) }
-        ensures unchanged { result ≡ Err Refusal.Truncated → self.new ≡ self.old }
+        ensures { Steps self.old self.new octets.now whole.new result }
     {
         if self.string.is_none() {
             self.nest.step(alloc, octets, &mut self.string, whole)
@@ -85,10 +80,7 @@ impl<'a> Cursor<'a> {
     ) -> Result<usize, Refusal>
         requires sound { IsSoundCursor self.old }
         requires whole { whole.old ≡ None }
-        ensures taken { IfOk result (λ used. IsStep self.old self.new octets.now whole.new used) }
-        ensures sound { OnOk result (IsSoundCursor self.new) }
-        ensures refused { IfErr result (Refuses (CanFinish self.old) (IsCut self.old) octets.now) }
-        ensures unchanged { result ≡ Err Refusal.Truncated → self.new ≡ self.old }
+        ensures { Steps self.old self.new octets.now whole.new result }
     {
         if let Some(string) = &mut self.string {
             if !string.segments.is_closed() {
@@ -101,10 +93,8 @@ impl<'a> Cursor<'a> {
         let Some(string) = self.string.take() else {
             return self.nest.step(alloc, octets, &mut self.string, whole);
         };
-        match self.nest.close_string(alloc, string, whole) {
-            Ok(_) => Ok(0),
-            Err(refusal) => Err(refusal),
-        }
+        self.nest.close_string(alloc, string, whole)?;
+        Ok(0)
     }
 
     // How many octets of the value have been taken.
