@@ -1,6 +1,7 @@
 -- Lemmas on what a refusal says of the octets.
 use Rattle.std.proofs.Common.{◌≡◌, List, ℕ, ◌++◌, Ok, Err, IfErr, IsErrAnd, ap, subst}
 use Rattle.std.specs.declared.result.Result.{Result}
+use Rattle.octets.proofs.ResultLemmas.{IfErr-from}
 use Rattle.types.specs.declared.refusal.Refusal.{Refusal}
 use Rattle.types.specs.declared.refusal.Refusal.TheVariants.{EndOfContents, Identifier, Missing, Repeated, Truncated}
 use Rattle.types.specs.Refusal.{IsFinal, IsOfReading}
@@ -16,6 +17,10 @@ renamed refusal why Can Cut octets truncated final numbers h = record {
   never = λ f. h.never (final f);
   numbers = numbers h.numbers;
 }
+
+-- a refusal that goes through a `?`
+pub final_passed : {T : Type 0} (r : Result T Refusal) (refusal : Refusal) (None : Type 0) → IsErrAnd r (λ e. e ≡ refusal) → (IsFinal refusal → None) → IfErr r (λ e. IsFinal e → None)
+final_passed r refusal None same never = IfErr-from r (λ e. e ≡ refusal) (λ e. IsFinal e → None) same (λ e is final. never (subst IsFinal is final))
 
 -- what a call says of each refusal
 pub gathered : {T : Type 0} (r : Result T Refusal) (Can Cut : List ℕ → Type 0) (octets : List ℕ) → (r ≡ Err Truncated → Can octets → ⊥) → (r ≡ Err Truncated → Cut octets) → IfErr r (λ refusal. IsFinal refusal → (more : List ℕ) → Can (octets ++ more) → ⊥) → IfErr r IsOfReading → IfErr r (Refuses Can Cut octets)

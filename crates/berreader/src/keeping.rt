@@ -28,19 +28,15 @@ impl Pieces<'_> {
             let (_, rest) = piece.split_at(at);
             let count = octets_missing(&self.pending).min(rest.len());
             let (next, _) = rest.split_at(count);
-            match self.take_cut(next, whole) {
-                Ok(left) => match whole {
-                    None => at += count,
-                    Some(_) => return Ok((at + count).saturating_sub(left)),
-                },
-                Err(refusal) => return Err(refusal),
+            let left = self.take_cut(next, whole)?;
+            match whole {
+                None => at += count,
+                Some(_) => return Ok((at + count).saturating_sub(left)),
             }
         }
         let (_, rest) = piece.split_at(at);
-        match self.take_rest(rest, whole) {
-            Ok(used) => Ok(at + used),
-            Err(refusal) => Err(refusal),
-        }
+        let used = self.take_rest(rest, whole)?;
+        Ok(at + used)
     }
 
     // Takes octets behind those that are kept, and returns how many are left: none, unless a value is whole.
@@ -55,9 +51,7 @@ impl Pieces<'_> {
             HasBeenFed self.old before → ¬ HasValue (shape_of self.old) ((before ++ octets.now) ++ more)) }
         ensures numbers { IfErr result IsOfFeeding }
     {
-        if let Err(refusal) = self.keep(octets) {
-            return Err(refusal);
-        }
+        self.keep(octets)?;
         let used = match self.cursor.step(self.alloc, &self.pending, whole) {
             Ok(used) => used,
             Err(refusal) => {
@@ -74,10 +68,8 @@ impl Pieces<'_> {
             return Ok(left);
         }
         let kept = std::mem::replace(&mut self.pending, Vec::new(self.alloc));
-        match self.take_whole(&kept[used..], whole) {
-            Ok(more) => Ok(kept.len() - used - more),
-            Err(refusal) => Err(refusal),
-        }
+        let more = self.take_whole(&kept[used..], whole)?;
+        Ok(kept.len() - used - more)
     }
 
     // Whether no octets are kept.
@@ -94,10 +86,8 @@ impl Pieces<'_> {
         ensures refused { self.new.refused ≡ self.old.refused }
         ensures numbers { IfErr result (λ refusal. refusal ≡ Refusal.NoMemory) }
     {
-        match self.pending.extend_from_slice(octets) {
-            Ok(()) => Ok(()),
-            Err(_) => Err(Refusal::NoMemory),
-        }
+        self.pending.extend_from_slice(octets)?;
+        Ok(())
     }
 }
 

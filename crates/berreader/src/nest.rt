@@ -76,13 +76,12 @@ impl<'a> Nest<'a> {
         ensures unchanged { result ≡ Err Refusal.Truncated → self.new ≡ self.old }
         ensures kept { OnErr result (string.new ≡ None) }
     {
-        match self.end_here(octets) {
-            Ok(Some(used)) => self.close(alloc, used, whole),
-            Ok(None) => match self.part(alloc, octets, string, whole) {
+        match self.end_here(octets)? {
+            Some(used) => self.close(alloc, used, whole),
+            None => match self.part(alloc, octets, string, whole) {
                 Ok(used) => Ok(used),
                 Err(refusal) => Err(self.refusal_inside(refusal)),
             },
-            Err(refusal) => Err(refusal),
         }
     }
 

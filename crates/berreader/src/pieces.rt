@@ -62,12 +62,10 @@ impl<'a> Pieces<'a> {
         if !self.keeps_none() {
             return self.more(octets.len());
         }
-        match self.take_whole(octets, whole) {
-            Ok(used) => match whole {
-                None => self.more(used),
-                Some(_) => Ok(used),
-            },
-            Err(refusal) => Err(refusal),
+        let used = self.take_whole(octets, whole)?;
+        match whole {
+            None => self.more(used),
+            Some(_) => Ok(used),
         }
     }
 

@@ -96,10 +96,7 @@ impl<'a> Reader<'a> {
         ensures numbers { IfErr result IsOfFeeding }
     {
         let mut slot = None;
-        let used = match self.feed_into(piece, &mut slot) {
-            Ok(used) => used,
-            Err(refusal) => return Err(refusal),
-        };
+        let used = self.feed_into(piece, &mut slot)?;
         let Some(value) = slot else {
             return Ok(Step::More);
         };

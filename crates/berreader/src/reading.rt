@@ -42,9 +42,8 @@ pub fn read(alloc: Global, ty: &WellTyped, octets: &[u8]) -> Result<(Value, usiz
     ensures well_formed { IsWellFormed (ty_view ty.now) }
 {
     let mut reader = Reader::new(alloc, ty);
-    match reader.feed(octets) {
-        Ok(Step::Done { value, used }) => Ok((value, used)),
-        Ok(Step::More) => Err(Refusal::Truncated),
-        Err(refusal) => Err(refusal),
+    match reader.feed(octets)? {
+        Step::Done { value, used } => Ok((value, used)),
+        Step::More => Err(Refusal::Truncated),
     }
 }
