@@ -56,10 +56,7 @@ impl Batch {
         ensures refused { IfErr result (IsNotAdded (P.stands writer.now (value_view value.now)) P.can_be_too_long) }
     {
         let before = self.octets.len();
-        match put(writer, value, encoding, &mut self.octets) {
-            Ok(()) => {}
-            Err(refusal) => return Err(refusal),
-        }
+        put(writer, value, encoding, &mut self.octets)?;
         let length = self.octets.len() - before;
         match self.lengths.push(length) {
             Ok(()) => Ok(()),
@@ -102,10 +99,7 @@ impl Batch {
         let mut rest = piece;
         while !rest.is_empty() {
             let is_whole = reader.finish().is_ok();
-            let used = match reader.feed(rest, &mut slot) {
-                Ok(used) => used,
-                Err(refusal) => return Err(refusal),
-            };
+            let used = reader.feed(rest, &mut slot)?;
             let Some(value) = &slot else {
                 return Ok(());
             };
@@ -115,10 +109,8 @@ impl Batch {
             } else {
                 None
             };
-            match self.add(writer, value, encoding) {
-                Ok(()) => rest = behind,
-                Err(refusal) => return Err(refusal),
-            }
+            self.add(writer, value, encoding)?;
+            rest = behind;
         }
         Ok(())
     }
@@ -133,16 +125,13 @@ fn put<P: Put>(
 ) -> Result<(), Refusal>
     requires conforms { Conforms (P.shape writer.now) (value_view value.now) }
     requires stands { IfSome encoding (λ octets. P.stands writer.now (value_view value.now) octets.now) }
-    ensures appended { OnOk result
-        (Appends (P.stands writer.now (value_view value.now)) out.old.items out.new.items) }
+    ensures appended { OnOk result (Appends (P.stands writer.now (value_view value.now)) out.old.items out.new.items) }
     ensures unchanged { OnErr result (out.new.items ≡ out.old.items) }
     ensures refused { IfErr result (IsNotAdded (P.stands writer.now (value_view value.now)) P.can_be_too_long) }
 {
     let Some(octets) = encoding else {
         return writer.put(value, out);
     };
-    match out.extend_from_slice(octets) {
-        Ok(()) => Ok(()),
-        Err(_) => Err(Refusal::NoMemory),
-    }
+    out.extend_from_slice(octets)?;
+    Ok(())
 }

@@ -29,9 +29,7 @@ impl Put for Lines<'_> {
         if out.is_empty() {
             return self.put_first(value, out);
         }
-        let Ok(text) = show(self.alloc, self.ty, value) else {
-            return Err(Refusal::NoMemory);
-        };
+        let text = show(self.alloc, self.ty, value)?;
         put_line(text, out)
     }
 }
@@ -49,13 +47,8 @@ impl Lines<'_> {
         let Ok(before) = String::from_utf8(room) else {
             unreachable!();
         };
-        let Ok(mut text) = show_behind(self.alloc, self.ty, value, before) else {
-            return Err(Refusal::NoMemory);
-        };
-        match end_line(&mut text) {
-            Ok(()) => {}
-            Err(refusal) => return Err(refusal),
-        }
+        let mut text = show_behind(self.alloc, self.ty, value, before)?;
+        end_line(&mut text)?;
         *out = text.into_bytes();
         Ok(())
     }
@@ -67,14 +60,9 @@ fn put_line(mut text: String, out: &mut Vec<u8>) -> Result<(), Refusal>
     ensures unchanged { OnErr result (out.new.items ≡ out.old.items) }
     ensures refused { IfErr result (λ refusal. refusal ≡ Refusal.NoMemory) }
 {
-    match end_line(&mut text) {
-        Ok(()) => {}
-        Err(refusal) => return Err(refusal),
-    }
-    match out.extend_from_slice(text.as_bytes()) {
-        Ok(()) => Ok(()),
-        Err(_) => Err(Refusal::NoMemory),
-    }
+    end_line(&mut text)?;
+    out.extend_from_slice(text.as_bytes())?;
+    Ok(())
 }
 
 // Appends a line feed.
@@ -82,8 +70,6 @@ fn end_line(text: &mut String) -> Result<(), Refusal>
     ensures ended { OnOk result (string_bytes text.new ≡ string_bytes text.old ++ 10 ∷ []) }
     ensures refused { IfErr result (λ refusal. refusal ≡ Refusal.NoMemory) }
 {
-    match text.push('\n') {
-        Ok(()) => Ok(()),
-        Err(_) => Err(Refusal::NoMemory),
-    }
+    text.push('\n')?;
+    Ok(())
 }

@@ -119,9 +119,6 @@ pub fn pass_all<P: Put, S: Source, K: Sink>(
             });
         }
         total += octets.len() as u64;
-        match pass(reader, writer, batch, sink, octets, done) {
-            Ok(now) => done = now,
-            Err(stopped) => return Err(stopped),
-        }
+        done = pass(reader, writer, batch, sink, octets, done)?;
     }
 }

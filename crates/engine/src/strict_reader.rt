@@ -51,24 +51,15 @@ impl<'a> StrictReader<'a> {
         ensures fed { (shape : Shape) (old : List ℕ) → StandsStrictly shape self.old old →
             IsFed (StandsStrictly shape self.new) (canonical_rule_of self.old.rule) shape result slot.new old piece.now }
     {
-        let used = match self.reader.feed_into(piece, slot) {
-            Ok(used) => used,
-            Err(refusal) => return Err(refusal),
-        };
+        let used = self.reader.feed_into(piece, slot)?;
         let Some(_) = slot else {
-            return match keep(&mut self.begun, piece) {
-                Ok(()) => Ok(used),
-                Err(refusal) => Err(refusal),
-            };
+            keep(&mut self.begun, piece)?;
+            return Ok(used);
         };
         let (last, _) = piece.split_at(used);
-        match judge(self.alloc, self.rule, self.ty, &mut self.begun, last) {
-            Ok(value) => {
-                *slot = Some(value);
-                Ok(used)
-            }
-            Err(refusal) => Err(refusal),
-        }
+        let value = judge(self.alloc, self.rule, self.ty, &mut self.begun, last)?;
+        *slot = Some(value);
+        Ok(used)
     }
 
     /// Takes octets as `AnyReader` does.
@@ -102,10 +93,8 @@ fn keep(begun: &mut Vec<u8>, octets: &[u8]) -> Result<(), Refusal>
     ensures kept { OnOk result (begun.new.items ≡ begun.old.items ++ octets.now) }
     ensures refused { IfErr result (λ refusal. refusal ≡ Refusal.NoMemory) }
 {
-    match begun.extend_from_slice(octets) {
-        Ok(()) => Ok(()),
-        Err(_) => Err(Refusal::NoMemory),
-    }
+    begun.extend_from_slice(octets)?;
+    Ok(())
 }
 
 // The value whose encoding by the rule the octets kept and the last ones are, which BER takes. No octet is kept then.
@@ -117,18 +106,14 @@ fn judge(
     last: &[u8],
 ) -> Result<Value, Refusal>
     requires { IsSomeAccepted ber (ty_view ty.now) (begun.old.items ++ last.now) }
-    ensures accepted { IfOk result (λ value.
-        IsAccepted (canonical_rule_of rule) (ty_view ty.now) (value_view value) (begun.old.items ++ last.now)) }
+    ensures accepted { IfOk result (λ value. IsAccepted (canonical_rule_of rule) (ty_view ty.now) (value_view value) (begun.old.items ++ last.now)) }
     ensures none_kept { OnOk result (begun.new.items ≡ []) }
-    ensures never { result ≡ Err Refusal.NotCanonical →
-        ¬ IsSomeAccepted (canonical_rule_of rule) (ty_view ty.now) (begun.old.items ++ last.now) }
+    ensures never { result ≡ Err Refusal.NotCanonical → ¬ IsSomeAccepted (canonical_rule_of rule) (ty_view ty.now) (begun.old.items ++ last.now) }
     ensures numbers { IfErr result IsOfJudging }
 {
-    match keep(begun, last) {
-        Ok(()) => {}
-        Err(refusal) => return Err(refusal),
-    }
-    let judged = read_all(alloc, rule, ty, begun.as_slice());
+    keep(begun, last)?;
+    let octets = begun.as_slice();
+    let judged = read_all(alloc, rule, ty, octets);
     begun.clear();
     judged
 }

@@ -1,6 +1,7 @@
 use Rattle.std.proofs.Common.{rules, ◌≡◌, [], length, refl, sym, subst, arith, ◌∙◌}
 use Rattle.std.specs.Io.KnownBytes.{Consumes}
 use Rattle.engine.specs.AnyReader.{read_rule}
+use Rattle.octets.proofs.ResultLemmas.{IfErr-from}
 use Rattle.engine.specs.Stream.{IsStopped, OfStream}
 use Rattle.engine.proofs.FeedingLemmas.{none_begun, empty_is}
 use Rattle.engine.proofs.CallLemmas.{starts, goes_on, stops, source_fails, has_given, too_long, ends_early, ends}
@@ -55,27 +56,28 @@ pub loop-piece-preserved : goal.loop-piece-preserved
 loop-piece-preserved g c =
     let gives = subst (Consumes (g.S.Source.left c.loop-piece.source) (g.S.Source.left c.read_from.new.source)) (sym c.octets-octets.ensures) c.in-Ok.ensures.given in
     record {
-      copies = c.in-Ok-pass.ensures.copies ∙ c.loop-piece.invariant.copies;
-      same_rule = c.in-Ok-pass.ensures.rule_stays ∙ c.loop-piece.invariant.same_rule;
-      stands = goes_on _ _ _ _ _ _ _ _ _ _ _ _ _ _ _ c.octets-octets.result.now c.loop-piece.invariant.stands gives refl (rw c.loop-piece.invariant.same_rule at c.in-Ok-pass.ensures.passed.passed);
+      copies = c.in_ok-done.ensures.copies ∙ c.loop-piece.invariant.copies;
+      same_rule = c.in_ok-done.ensures.rule_stays ∙ c.loop-piece.invariant.same_rule;
+      stands = goes_on _ _ _ _ _ _ _ _ _ _ _ _ _ _ _ c.octets-octets.result.now c.loop-piece.invariant.stands gives refl (rw c.loop-piece.invariant.same_rule at c.in_ok-done.ensures.passed.passed);
       source = c.in-Ok.ensures.count;
-      sink = c.in-Ok-pass.ensures.sink;
-      few = omega (arith, c.in-Ok-pass.ensures.passed.few, c.loop-piece.invariant.few);
+      sink = c.in_ok-done.ensures.sink;
+      few = omega (arith, c.in_ok-done.ensures.passed.few, c.loop-piece.invariant.few);
       within = omega (arith, c.if-octets-total.false, c.loop-piece.invariant.within);
     }
 
-pub returns-in-Err-pass-clause-stopped : goal.returns-in-Err-pass-clause-stopped
-returns-in-Err-pass-clause-stopped g c =
+pub returns-in_err-done-clause-stopped : goal.returns-in_err-done-clause-stopped
+returns-in_err-done-clause-stopped g c = IfErr-from c.from_residual.result _ _ c.from_residual.ensures.1 (λ stopped same.
     let gives = subst (Consumes (g.S.Source.left c.loop-piece.source) (g.S.Source.left c.read_from.new.source)) (sym c.octets-octets.ensures) c.in-Ok.ensures.given in
-    stops _ _ _ _ _ _ _ _ _ _ _ _ _ _ c.octets-octets.result.now c.loop-piece.invariant.stands gives (rw c.loop-piece.invariant.same_rule at c.in-Err-pass.ensures.stopped.stopped)
+    rw same (stops _ _ _ _ _ _ _ _ _ _ _ _ _ _ c.octets-octets.result.now c.loop-piece.invariant.stands gives (rw c.loop-piece.invariant.same_rule at c.in_err-done.ensures.stopped.stopped)))
 
 pub pass-requires-clause-stands : goal.pass-requires-clause-stands
 pass-requires-clause-stands g c =
     let s = c.loop-piece.invariant.stands in
     (s.rest, rw (sym c.loop-piece.invariant.same_rule) at s.stands)
 
-pub returns-in-Err-pass-clause-numbers : goal.returns-in-Err-pass-clause-numbers
-returns-in-Err-pass-clause-numbers g c = rw c.loop-piece.invariant.same_rule at c.in-Err-pass.ensures.stopped.numbers
+pub returns-in_err-done-clause-numbers : goal.returns-in_err-done-clause-numbers
+returns-in_err-done-clause-numbers g c = IfErr-from c.from_residual.result _ _ c.from_residual.ensures.1 (λ stopped same.
+    rw same (rw c.loop-piece.invariant.same_rule at c.in_err-done.ensures.stopped.numbers))
 
 pub pass-requires-clause-copied : goal.pass-requires-clause-copied
 pass-requires-clause-copied g c = λ copies v octets accepted.

@@ -5,6 +5,7 @@ use Rattle.types.proofs.EncodedLemmas.{encoded_conforms}
 use Rattle.engine.specs.AnyReader.{read_rule}
 use Rattle.engine.proofs.PassingLemmas.{gathers_none, gathers_more}
 use Rattle.types.specs.Encoding.{IsAccepted}
+use Rattle.octets.proofs.ResultLemmas.{IfErr-from}
 use Rattle.engine.proofs.FeedingLemmas.{none_begun, cut_piece, finished_none, gathered_all, feed_refused, add_refused}
 use Rattle.engine.proofs.batch.Batch.gather.Goals as goal
 use Rattle.engine.proofs.batch.Batch.gather.Goals.{then-self+then-is_whole, else-self}
@@ -20,7 +21,7 @@ loop-rest-init g c = record {
 pub add-requires-clause-conforms : goal.add-requires-clause-conforms
 add-requires-clause-conforms g c =
     let shape = g.P.Put.shape c.args.writer.now in
-    let fed = rw c.loop-rest.invariant.same_rule at (rw c.in-Some.is at c.in-Ok.ensures.fed) in
+    let fed = rw c.loop-rest.invariant.same_rule at (rw c.in-Some.is at c.in_ok-used.ensures.fed) in
     let i = c.loop-rest.invariant.gathers c.requires.stands.0 c.requires.stands.1 in
     let f = fed shape i.0 i.1.stands in
     encoded_conforms (read_rule c.args.reader.now) shape (value_view c.in-Some.value) _ f.0.accepted.encoding
@@ -29,13 +30,13 @@ pub add-requires-clause-stands : goal.add-requires-clause-stands
 add-requires-clause-stands g c =
     let shape = g.P.Put.shape c.args.writer.now in
     let v = value_view c.in-Some.value in
-    let fed = rw c.loop-rest.invariant.same_rule at (rw c.in-Some.is at c.in-Ok.ensures.fed) in
+    let fed = rw c.loop-rest.invariant.same_rule at (rw c.in-Some.is at c.in_ok-used.ensures.fed) in
     let i = c.loop-rest.invariant.gathers c.requires.stands.0 c.requires.stands.1 in
     let accepted = (fed shape i.0 i.1.stands).0.accepted in
     elim c.if-self.branch [
       | then-self+then-is_whole w ↦
           let none = finished_none c.finish.result i.0 (c.finish.ensures shape i.0 i.1.stands) (rw c.is_ok-is_whole.ensures.value at w.if-is_whole.true) in
-          let whole : i.0 ++ take c.in-Ok.used c.loop-rest.rest.now ≡ c.split_at.result.0.now = ap (λ x. x ++ take c.in-Ok.used c.loop-rest.rest.now) none ∙ sym c.split_at.ensures.front in
+          let whole : i.0 ++ take c.in_ok-used.used c.loop-rest.rest.now ≡ c.split_at.result.0.now = ap (λ x. x ++ take c.in_ok-used.used c.loop-rest.rest.now) none ∙ sym c.split_at.ensures.front in
           rw w.encoding-is (c.requires.copied (rw c.loop-rest.invariant.copies at w.if-self.true) v c.split_at.result.0.now (subst (IsAccepted (read_rule c.args.reader.now) shape v) whole accepted))
       | else-self w ↦ rw w.encoding-is tt
     ]
@@ -47,14 +48,14 @@ loop-rest-preserved g c =
     let Stands = g.P.Put.stands c.args.writer.now in
     let v = value_view c.in-Some.value in
     let left = c.loop-rest.rest.now in
-    let used = c.in-Ok.used in
-    let fed = rw c.loop-rest.invariant.same_rule at (rw c.in-Some.is at c.in-Ok.ensures.fed) in
+    let used = c.in_ok-used.used in
+    let fed = rw c.loop-rest.invariant.same_rule at (rw c.in-Some.is at c.in_ok-used.ensures.fed) in
     let here = c.loop-rest.invariant.gathers c.requires.stands.0 c.requires.stands.1 in
     let done = (fed shape here.0 here.1.stands).0 in
-    let added = c.in-Ok-add.ensures.added in
+    let added = c.in_ok-add.ensures.added in
     record {
-      copies = c.in-Ok-add.ensures.copies ∙ c.loop-rest.invariant.copies;
-      same_rule = c.in-Ok.ensures.rule_stays ∙ c.loop-rest.invariant.same_rule;
+      copies = c.in_ok-add.ensures.copies ∙ c.loop-rest.invariant.copies;
+      same_rule = c.in_ok-used.ensures.rule_stays ∙ c.loop-rest.invariant.same_rule;
       gathers = λ old unfinished.
           let i = c.loop-rest.invariant.gathers old unfinished in
           let f = fed shape i.0 i.1.stands in (
@@ -66,28 +67,28 @@ loop-rest-preserved g c =
       few = omega (arith, ap length added.lengths_are, length_push c.loop-rest.self.lengths.items (length added.part), c.loop-rest.invariant.few, done.some, done.there, ap length c.split_at.ensures.back, length-drop used left);
     }
 
-pub returns-in-Err-add-clause-refused : goal.returns-in-Err-add-clause-refused
-returns-in-Err-add-clause-refused g c = λ old unfinished.
+pub returns-in_err-add-clause-refused : goal.returns-in_err-add-clause-refused
+returns-in_err-add-clause-refused g c = IfErr-from c.from_residual-in_err-add.result _ _ c.from_residual-in_err-add.ensures.1 (λ refusal same old unfinished.
     let rule = read_rule c.args.reader.now in
     let shape = g.P.Put.shape c.args.writer.now in
     let Stands = g.P.Put.stands c.args.writer.now in
     let left = c.loop-rest.rest.now in
-    let used = c.in-Ok.used in
-    let fed = rw c.loop-rest.invariant.same_rule at (rw c.in-Some.is at c.in-Ok.ensures.fed) in
+    let used = c.in_ok-used.used in
+    let fed = rw c.loop-rest.invariant.same_rule at (rw c.in-Some.is at c.in_ok-used.ensures.fed) in
     let i = c.loop-rest.invariant.gathers old unfinished in
     let f = fed shape i.0 i.1.stands in
-    add_refused rule shape Stands c.in-Err-add.refusal (value_view c.in-Some.value) _ _ _ _ _ (i.0 ++ left) (i.0 ++ take used left) (drop used left)
-    c.in-Err-add.ensures.octets c.in-Err-add.ensures.lengths (cut_piece i.0 left (drop used left) used refl) f.0.accepted c.in-Err-add.ensures.refused.numbers
-    c.in-Err-add.ensures.refused.too_long i.2
+    rw same (add_refused rule shape Stands c.in_err-add.field-0.0 (value_view c.in-Some.value) _ _ _ _ _ (i.0 ++ left) (i.0 ++ take used left) (drop used left)
+    c.in_err-add.ensures.octets c.in_err-add.ensures.lengths (cut_piece i.0 left (drop used left) used refl) f.0.accepted c.in_err-add.ensures.refused.numbers
+    c.in_err-add.ensures.refused.too_long i.2))
 
-pub returns-in-Err-clause-refused : goal.returns-in-Err-clause-refused
-returns-in-Err-clause-refused g c = λ old unfinished.
+pub returns-in_err-used-clause-refused : goal.returns-in_err-used-clause-refused
+returns-in_err-used-clause-refused g c = IfErr-from c.from_residual.result _ _ c.from_residual.ensures.1 (λ refusal same old unfinished.
     let rule = read_rule c.args.reader.now in
     let shape = g.P.Put.shape c.args.writer.now in
     let Stands = g.P.Put.stands c.args.writer.now in
     let i = c.loop-rest.invariant.gathers old unfinished in
-    let f = (rw c.loop-rest.invariant.same_rule at c.in-Err.ensures.fed) shape i.0 i.1.stands in
-    feed_refused rule shape Stands c.in-Err.refusal _ _ _ i.0 c.loop-rest.rest.now (search rules) f.0 f.1 i.2
+    let f = (rw c.loop-rest.invariant.same_rule at c.in_err-used.ensures.fed) shape i.0 i.1.stands in
+    rw same (feed_refused rule shape Stands c.in_err-used.field-0.0 _ _ _ i.0 c.loop-rest.rest.now (search rules) f.0 f.1 i.2))
 
 pub returns-clause-gathered : goal.returns-clause-gathered
 returns-clause-gathered g c = λ old unfinished.
@@ -103,14 +104,14 @@ feed-requires g c =
 pub loop-rest-smaller : goal.loop-rest-smaller
 loop-rest-smaller g c =
     let shape = g.P.Put.shape c.args.writer.now in
-    let fed = rw c.loop-rest.invariant.same_rule at (rw c.in-Some.is at c.in-Ok.ensures.fed) in
+    let fed = rw c.loop-rest.invariant.same_rule at (rw c.in-Some.is at c.in_ok-used.ensures.fed) in
     let here = c.loop-rest.invariant.gathers c.requires.stands.0 c.requires.stands.1 in
     let done = (fed shape here.0 here.1.stands).0 in
-    omega (arith, done.some, done.there, ap length c.split_at.ensures.back, length-drop c.in-Ok.used c.loop-rest.rest.now)
+    omega (arith, done.some, done.there, ap length c.split_at.ensures.back, length-drop c.in_ok-used.used c.loop-rest.rest.now)
 
 pub returns-in_default-clause-gathered : goal.returns-in_default-clause-gathered
 returns-in_default-clause-gathered g c = λ old unfinished.
-    let fed = rw c.loop-rest.invariant.same_rule at (rw c.in_default.is at c.in-Ok.ensures.fed) in
+    let fed = rw c.loop-rest.invariant.same_rule at (rw c.in_default.is at c.in_ok-used.ensures.fed) in
     let i = c.loop-rest.invariant.gathers old unfinished in
     let f = fed (g.P.Put.shape c.args.writer.now) i.0 i.1.stands in
     record { rest = i.0 ++ c.loop-rest.rest.now; gathers = i.2; stands = record { stands = f.0; none = f.1 } }

@@ -1,39 +1,47 @@
-use Rattle.std.proofs.Common.{Some, None, Ok, Err, ap, refl}
+use Rattle.std.proofs.Common.{◌++◌, Some, None, Ok, Err, ap, refl}
 use Rattle.engine.specs.Rule.{canonical_rule_of}
+use Rattle.octets.proofs.ResultLemmas.{Err-same}
 use Rattle.engine.proofs.ReaderLemmas.{open_fed}
 use Rattle.engine.proofs.TranscodingLemmas.{to_is_canonical}
-use Rattle.engine.proofs.StrictReaderLemmas.{kept_by_ber, strict_more, strict_done, strict_refused, strict_error}
+use Rattle.engine.proofs.StrictReaderLemmas.{kept_by_ber, memory_ran_out, strict_more, strict_done, strict_refused, strict_error}
 use Rattle.engine.proofs.strict_reader.StrictReader.feed_begun.Goals as goal
 
 pub judge-requires : goal.judge-requires
 judge-requires c =
     let shape = c.requires.0 in
     let s = c.requires.2 in
-    let fed = open_fed shape c.args.self.now.reader c.feed_into.new.self c.requires.1 c.args.piece.now (Ok c.in-Ok.used) (Some c.in-Some.field-0) s.reader_stands
-    c.in-Ok.ensures.shape (rw c.in-Some.is at c.in-Ok.ensures.value) (λ _. tt) tt in
-    kept_by_ber shape c.args.self.now c.feed_into.new.self c.requires.1 c.args.piece.now c.split_at.result.0.now c.in-Some.field-0 c.in-Ok.used s fed c.split_at.ensures.front
+    let fed = open_fed shape c.args.self.now.reader c.feed_into.new.self c.requires.1 c.args.piece.now (Ok c.in_ok-used.used) (Some c.in-Some.field-0) s.reader_stands
+    c.in_ok-used.ensures.shape (rw c.in-Some.is at c.in_ok-used.ensures.value) (λ _. tt) tt in
+    kept_by_ber shape c.args.self.now c.feed_into.new.self c.requires.1 c.args.piece.now c.split_at.result.0.now c.in-Some.field-0 c.in_ok-used.used s fed c.split_at.ensures.front
 
-pub returns-in-Ok-keep-clause-fed : goal.returns-in-Ok-keep-clause-fed
-returns-in-Ok-keep-clause-fed c = λ shape old s.
-    let fed = open_fed shape c.args.self.now.reader c.feed_into.new.self old c.args.piece.now (Ok c.in-Ok.used) None s.reader_stands
-    c.in-Ok.ensures.shape (rw c.in_default.is at c.in-Ok.ensures.value) (λ _. tt) tt in
-    rw c.in_default.is (strict_more (canonical_rule_of c.args.self.now.rule) shape c.args.self.now _ old c.args.piece.now c.in-Ok.used (to_is_canonical c.args.self.now.rule) s refl fed c.in-Ok-keep.ensures.kept)
+pub returns-in_default-clause-fed : goal.returns-in_default-clause-fed
+returns-in_default-clause-fed c = λ shape old s.
+    let fed = open_fed shape c.args.self.now.reader c.feed_into.new.self old c.args.piece.now (Ok c.in_ok-used.used) None s.reader_stands
+    c.in_ok-used.ensures.shape (rw c.in_default.is at c.in_ok-used.ensures.value) (λ _. tt) tt in
+    rw c.in_default.is (strict_more (canonical_rule_of c.args.self.now.rule) shape c.args.self.now _ old c.args.piece.now c.in_ok-used.used (to_is_canonical c.args.self.now.rule) s refl fed c.in_ok-keep.ensures.kept)
 
-pub returns-in-Ok-judge-clause-fed : goal.returns-in-Ok-judge-clause-fed
-returns-in-Ok-judge-clause-fed c = λ shape old s.
-    let fed = open_fed shape c.args.self.now.reader c.feed_into.new.self old c.args.piece.now (Ok c.in-Ok.used) (Some c.in-Some.field-0) s.reader_stands
-    c.in-Ok.ensures.shape (rw c.in-Some.is at c.in-Ok.ensures.value) (λ _. tt) tt in
-    strict_done (canonical_rule_of c.args.self.now.rule) shape c.args.self.now _ old c.args.piece.now c.split_at.result.0.now c.in-Some.field-0 c.in-Ok-judge.value c.in-Ok.used
-    s refl fed c.split_at.ensures.front c.in-Ok-judge.ensures.accepted c.in-Ok-judge.ensures.none_kept
+pub returns-clause-fed : goal.returns-clause-fed
+returns-clause-fed c = λ shape old s.
+    let fed = open_fed shape c.args.self.now.reader c.feed_into.new.self old c.args.piece.now (Ok c.in_ok-used.used) (Some c.in-Some.field-0) s.reader_stands
+    c.in_ok-used.ensures.shape (rw c.in-Some.is at c.in_ok-used.ensures.value) (λ _. tt) tt in
+    strict_done (canonical_rule_of c.args.self.now.rule) shape c.args.self.now _ old c.args.piece.now c.split_at.result.0.now c.in-Some.field-0 c.in_ok-value.value c.in_ok-used.used
+    s refl fed c.split_at.ensures.front c.in_ok-value.ensures.accepted c.in_ok-value.ensures.none_kept
 
-pub returns-in-Err-judge-clause-fed : goal.returns-in-Err-judge-clause-fed
-returns-in-Err-judge-clause-fed c = λ shape old s.
-    let fed = open_fed shape c.args.self.now.reader c.feed_into.new.self old c.args.piece.now (Ok c.in-Ok.used) (Some c.in-Some.field-0) s.reader_stands
-    c.in-Ok.ensures.shape (rw c.in-Some.is at c.in-Ok.ensures.value) (λ _. tt) tt in
-    strict_refused (canonical_rule_of c.args.self.now.rule) shape c.args.self.now c.feed_into.new.self old c.args.piece.now c.split_at.result.0.now c.in-Some.field-0 c.in-Ok.used c.in-Err-judge.refusal
-    (to_is_canonical c.args.self.now.rule) s fed c.split_at.ensures.front c.in-Err-judge.ensures.numbers (λ is. c.in-Err-judge.ensures.never (ap Err is))
+pub returns-in_err-value-clause-fed : goal.returns-in_err-value-clause-fed
+returns-in_err-value-clause-fed c = λ shape old s.
+    let fed = open_fed shape c.args.self.now.reader c.feed_into.new.self old c.args.piece.now (Ok c.in_ok-used.used) (Some c.in-Some.field-0) s.reader_stands
+    c.in_ok-used.ensures.shape (rw c.in-Some.is at c.in_ok-used.ensures.value) (λ _. tt) tt in
+    rw (Err-same c.from_residual-in_err-value.result _ c.from_residual-in_err-value.ensures.1)
+    (strict_refused (canonical_rule_of c.args.self.now.rule) shape c.args.self.now c.feed_into.new.self old c.args.piece.now c.split_at.result.0.now c.in-Some.field-0 c.in_ok-used.used c.in_err-value.field-0.0
+    (to_is_canonical c.args.self.now.rule) s fed c.split_at.ensures.front c.in_err-value.ensures.numbers (λ is. c.in_err-value.ensures.never (ap Err is)))
 
-pub returns-in-Err-clause-fed : goal.returns-in-Err-clause-fed
-returns-in-Err-clause-fed c = λ shape old s.
-    let fed = open_fed shape c.args.self.now.reader c.feed_into.new.self old c.args.piece.now (Err c.in-Err.refusal) c.feed_into.new.slot s.reader_stands tt tt c.in-Err.ensures.never c.in-Err.ensures.numbers in
-    strict_error (canonical_rule_of c.args.self.now.rule) shape c.args.self.now c.feed_into.new.self old c.args.piece.now c.in-Err.refusal c.feed_into.new.slot (to_is_canonical c.args.self.now.rule) s fed
+pub returns-in_err-used-clause-fed : goal.returns-in_err-used-clause-fed
+returns-in_err-used-clause-fed c = λ shape old s.
+    let fed = open_fed shape c.args.self.now.reader c.feed_into.new.self old c.args.piece.now (Err c.in_err-used.field-0.0) c.feed_into.new.slot s.reader_stands tt tt c.in_err-used.ensures.never c.in_err-used.ensures.numbers in
+    rw (Err-same c.from_residual.result _ c.from_residual.ensures.1)
+    (strict_error (canonical_rule_of c.args.self.now.rule) shape c.args.self.now c.feed_into.new.self old c.args.piece.now c.in_err-used.field-0.0 c.feed_into.new.slot (to_is_canonical c.args.self.now.rule) s fed)
+
+pub returns-in_err-keep-clause-fed : goal.returns-in_err-keep-clause-fed
+returns-in_err-keep-clause-fed c = λ shape old s.
+    rw (Err-same c.from_residual-in_err-keep.result _ c.from_residual-in_err-keep.ensures.1)
+    (memory_ran_out (canonical_rule_of c.args.self.now.rule) shape (old ++ c.args.piece.now) c.in_err-keep.field-0.0 c.in_err-keep.ensures.refused)
