@@ -84,30 +84,24 @@ impl<S: Source> Reading<'_, S> {
         ensures numbers { IfErr result (IsOfChecking (read_rule self.old.reader)) }
     {
         loop {
-            match self.fill() {
-                Ok(true) => {}
-                Ok(false) => match self.reader.finish() {
-                    Ok(()) => return Ok(None),
-                    Err(refusal) => return Err(refusal),
-                },
-                Err(refusal) => return Err(refusal),
+            if !self.fill()? {
+                self.reader.finish()?;
+                return Ok(None);
             }
             let (_, rest) = self.piece.octets().split_at(self.at);
             let count = rest.len();
             let mut slot = None;
-            match self.reader.feed(rest, &mut slot) {
-                Ok(used) => match slot {
-                    None => {
-                        self.at += count;
-                        self.read += count as u64;
-                    }
-                    Some(value) => {
-                        self.at += used;
-                        self.read += used as u64;
-                        return Ok(Some(value));
-                    }
-                },
-                Err(refusal) => return Err(refusal),
+            let used = self.reader.feed(rest, &mut slot)?;
+            match slot {
+                None => {
+                    self.at += count;
+                    self.read += count as u64;
+                }
+                Some(value) => {
+                    self.at += used;
+                    self.read += used as u64;
+                    return Ok(Some(value));
+                }
             }
         }
     }
