@@ -5,14 +5,13 @@ ghost use Rattle.types.specs.FirstTags.{IsUsable};
 ghost use Rattle.types.specs.Shape.{Shape};
 ghost use Rattle.types.specs.View.{ty_view};
 ghost use Rattle.encoding_parts.specs.Parts.{IsGoodType};
+ghost use Rattle.encoding_parts.specs.Renewed.{new_items};
 ghost use Rattle.berslice.specs.Reading.{IsRead, IsItemRead, AreMoreItemsRead};
-ghost use Rattle.berslice.specs.Renewed.{new_items};
 
 use crate::heads::{ends_at, opened};
 use crate::places::Places;
 use crate::reading::{fill, read_alternative, read_one};
-use crate::renewed::Renewed;
-use encoding_parts::take_list;
+use encoding_parts::Renewed;
 use octets::Tag;
 use std::alloc::Global;
 use types::{Ty, Value};
@@ -37,7 +36,7 @@ pub fn read_list(
     if levels == 0 {
         return None;
     }
-    let mut list = Renewed::over(old_items(alloc, inner, slot));
+    let mut list = Renewed::over(alloc, inner, slot);
     let used = fill_list(
         alloc,
         inner,
@@ -48,15 +47,6 @@ pub fn read_list(
     );
     fill(slot, Value::Items(list.into_items()));
     inside.close(octets, used)
-}
-
-// The items of the list that the slot holds: of a type whose values have room to give, or, emptied, of any other.
-fn old_items(alloc: Global, ty: &Ty, slot: &mut Option<Value>) -> Vec<Value> {
-    let mut items = take_list(alloc, slot);
-    if let Ty::Boolean(_) | Ty::Integer(_) | Ty::Enumerated(_, _) | Ty::Null(_) = ty {
-        items.clear();
-    }
-    items
 }
 
 /// Appends the items at the front of `octets` that are read at once, and returns how many octets they have. It goes as

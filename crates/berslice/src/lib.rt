@@ -12,7 +12,6 @@ mod leaf;
 mod members;
 mod places;
 mod reading;
-mod renewed;
 
 pub use items::read_items;
 pub use reading::read_whole;

@@ -9,3 +9,4 @@ pub mod Parts
 pub mod HeldParts
 pub mod Cut
 pub mod Refuses
+pub mod Renewed

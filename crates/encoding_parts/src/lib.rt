@@ -17,6 +17,7 @@ mod joined;
 mod leaf;
 mod lengths;
 mod parts;
+mod renewed;
 mod segments;
 mod set_components;
 mod short;
@@ -32,6 +33,7 @@ pub use joined::{Joined, Kind, kind_of, segment_tag};
 pub use leaf::{begin_string, contents_refusal, read_leaf};
 pub use lengths::can_have_length;
 pub use parts::read_opening;
+pub use renewed::Renewed;
 pub use segments::{Segments, read_end};
 pub use set_components::{
     SetComponent, SetComponents, is_default, not_due, set_component_due, set_components_of,

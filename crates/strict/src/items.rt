@@ -17,7 +17,7 @@ use crate::canonical::Canonical;
 use crate::ends::ends;
 use crate::head::Inside;
 use crate::parts::read_one;
-use encoding_parts::take_list;
+use encoding_parts::Renewed;
 use octets::MAX_ENCODING;
 use std::alloc::Global;
 use types::{Refusal, Ty, Value};
@@ -43,26 +43,24 @@ pub fn read_items(
     ensures value { IfOk result (λ used. (tag : Tag) → IsInsideRead (rule_of rule) (list_of ordered tag (ty_view inner.now)) inside.now.definite inside.now.room octets.now slot.new used) }
     ensures refused { IfErr result (RefusesStrictly (HasItems (rule_of rule) (ty_view inner.now) ordered inside.now.definite inside.now.room []) (AreFewer inside.now.definite inside.now.room) octets.now) }
 {
-    let mut items = take_list(alloc, slot);
-    items.clear();
+    let mut list = Renewed::over(alloc, inner, slot);
     let mut at = 0;
     let mut before = 0;
     while !ends(inside.definite, inside.room - at, &octets[at..])? {
-        let mut item = None;
+        let mut item = list.take_old();
         let room = inside.room - at;
         let used = read_one(alloc, rule, inner, room, &octets[at..], &mut item)?;
         let Some(value) = item else { unreachable!() };
         if is_out_of_order(ordered, &octets[at..at + used], &octets[before..at]) {
             return Err(Refusal::NotCanonical);
         }
-        if items.reserve(1).is_err() {
+        if !list.put(value, 0, used, octets.len() - at) {
             return Err(Refusal::NoMemory);
         }
-        items.push_reserved(value);
         before = at;
         at += used;
     }
-    *slot = Some(Value::Items(items));
+    *slot = Some(Value::Items(list.into_items()));
     Ok(at)
 }
 

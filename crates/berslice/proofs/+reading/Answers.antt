@@ -14,7 +14,7 @@ use Rattle.encoding_parts.specs.Parts.{IsDue, IsGoodType}
 use Rattle.encoding_parts.specs.HeldParts.{parts_view}
 use Rattle.berslice.specs.Heads.{IsOpened}
 use Rattle.berslice.specs.Reading.{IsRead, AreContentsRead, IsComponentRead, AreComponentsRead, AreMoreItemsRead}
-use Rattle.berslice.specs.Renewed.{new_items}
+use Rattle.encoding_parts.specs.Renewed.{new_items}
 use Rattle.berslice.proofs.ReadingLemmas.{both_of, IfSome-map, read_some, explicit_contents, sequence_contents, constructed_read, sequence_of_read, set_of_read, no_more_items, one_item_more, item_behind, all_items, no_components, component_read, all_components, component_stands, good_components, good_component, good_alternative, chosen_read, no_members, member_behind, member_read, member_some, field_type, due_field, set_contents, good_members}
 use Rattle.berslice.proofs.+reading.Goals as goal
 

@@ -2,7 +2,7 @@ use Rattle.std.proofs.Common.{◌≡◌, length, map, take, ◌-◌}
 use Rattle.types.specs.View.{ty_view, field_view}
 use Rattle.encoding_parts.specs.HeldParts.{parts_view}
 use Rattle.berslice.specs.Reading.{AreComponentsRead, AreMoreItemsRead, AreMembersRead}
-use Rattle.berslice.specs.Renewed.{new_items}
+use Rattle.encoding_parts.specs.Renewed.{new_items}
 use Rattle.berslice.proofs.+reading.Given as goal
 
 abbrev pub invariant-components::read_components-loop-place : goal.invariant-components::read_components-loop-place

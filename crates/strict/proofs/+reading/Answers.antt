@@ -17,6 +17,7 @@ use Rattle.types.proofs.LimitLemmas.{alternative_type}
 use Rattle.types.proofs.ViewLemmas.{ty-Sequence, ty-Set, ty-SequenceOf, ty-SetOf, ty-Explicit}
 use Rattle.encoding_parts.specs.HeldParts.{IsNode}
 use Rattle.encoding_parts.specs.Parts.{IsGoodType, IsSlotOf}
+use Rattle.encoding_parts.specs.Renewed.{new_items}
 use Rattle.strict.specs.Canonical.{rule_of}
 use Rattle.strict.specs.Begun.{IsBegun}
 use Rattle.strict.specs.Head.{EndsHere, IsEndKnown, AreFewer}
@@ -42,8 +43,8 @@ use Rattle.strict.proofs.SetLemmas.{members_inside, good_members}
 use Rattle.strict.proofs.+reading.Answers.Members as set
 mod Members
 
-pub items::read_items-loop-items-init : goal.items::read_items-loop-items-init
-items::read_items-loop-items-init t c = no_items (rule_of c.args.rule) (ty_view c.args.inner.now) c.args.ordered c.args.inside.now.definite c.args.inside.now.room c.args.octets.now c.clear.new.self.items (search rules)
+pub items::read_items-loop-list-init : goal.items::read_items-loop-list-init
+items::read_items-loop-list-init t c = no_items (rule_of c.args.rule) (ty_view c.args.inner.now) c.args.ordered c.args.inside.now.definite c.args.inside.now.room c.args.octets.now (new_items c.over-list.result) c.over-list.ensures
 
 pub items::read_items-returns-in_err-ends-clause-refused : goal.items::read_items-returns-in_err-ends-clause-refused
 items::read_items-returns-in_err-ends-clause-refused t c =
@@ -52,9 +53,9 @@ items::read_items-returns-in_err-ends-clause-refused t c =
     let type = ty_view c.args.inner.now in
     let d = c.args.inside.now.definite in
     let room = c.args.inside.now.room in
-    let at = c.loop-items.at in
-    let read = c.loop-items.invariant in
-    let last = between octets c.loop-items.before at in
+    let at = c.loop-list.at in
+    let read = c.loop-list.invariant in
+    let last = between octets c.loop-list.before at in
     refused_through c.from_residual.result c.from_residual.ensures.1
     (refused_behind at c.in_err-ends.ensures.refused (λ more h. item_or_end rule type c.args.ordered d (room - at) last (drop at octets ++ more) c.requires.good (read.forth more h)) (λ k. fewer_behind d room at octets read.within read.there k))
 
@@ -65,9 +66,9 @@ items::read_items-returns-in_err-used-clause-refused t c =
     let type = ty_view c.args.inner.now in
     let d = c.args.inside.now.definite in
     let room = c.args.inside.now.room in
-    let at = c.loop-items.at in
-    let read = c.loop-items.invariant in
-    let last = between octets c.loop-items.before at in
+    let at = c.loop-list.at in
+    let read = c.loop-list.invariant in
+    let last = between octets c.loop-list.before at in
     let inner = take (length octets - at) (drop at octets) in
     let off : c.in_ok-ends.field-0 ≡ false = search rules in
     let known : IsEndKnown false d (room - at) inner = subst (λ b. IsEndKnown b d (room - at) inner) off c.in_ok-ends.ensures.value in
@@ -84,52 +85,53 @@ items::read_items-returns-then-is_out_of_order-clause-refused t c = refused_for_
     let type = ty_view c.args.inner.now in
     let d = c.args.inside.now.definite in
     let room = c.args.inside.now.room in
-    let at = c.loop-items.at in
-    let before = c.loop-items.before in
+    let at = c.loop-list.at in
+    let before = c.loop-list.before in
     let used = c.in_ok-used.used in
     let v = c.in-Some.value in
     let read : IsRead rule type (room - at) (drop at octets) (Some v) used = subst₂ (λ x s. IsRead rule type (room - at) x s used) (take_rest octets at) c.in-Some.is c.in_ok-used.ensures.value in
     let size : (at + used) - at ≡ used = omega arith in
     let told = subst (λ n. c.is_out_of_order.result ≡ true → (c.args.ordered ≡ true) × (is_lt (slice_cmp nat_cmp (take n (drop at octets)) (between octets before at)) ≡ true)) size c.is_out_of_order.ensures.0 c.if-is_out_of_order.true in
-    none_out_of_order rule type c.args.ordered d room octets more c.loop-items.items.items v before at used c.requires.good c.loop-items.invariant read told.0 told.1 h)
+    none_out_of_order rule type c.args.ordered d room octets more (new_items c.loop-list.list) v before at used c.requires.good c.loop-list.invariant read told.0 told.1 h)
 
-pub items::read_items-loop-items-smaller : goal.items::read_items-loop-items-smaller
-items::read_items-loop-items-smaller t c =
+pub items::read_items-loop-list-smaller : goal.items::read_items-loop-list-smaller
+items::read_items-loop-list-smaller t c =
     let octets = c.args.octets.now in
     let rule = rule_of c.args.rule in
     let type = ty_view c.args.inner.now in
     let room = c.args.inside.now.room in
-    let at = c.loop-items.at in
+    let at = c.loop-list.at in
     let read = subst (λ x. IsRead rule type (room - at) x c.read_one.new.slot c.in_ok-used.used) (take_rest octets at) c.in_ok-used.ensures.value in
     let some = read_some rule type (room - at) (drop at octets) c.read_one.new.slot c.in_ok-used.used c.requires.good read in
-    omega (arith, some, read.0, length-drop at octets, c.loop-items.invariant.there)
+    omega (arith, some, read.0, length-drop at octets, c.loop-list.invariant.there)
 
-pub items::read_items-loop-items-preserved : goal.items::read_items-loop-items-preserved
-items::read_items-loop-items-preserved t c =
+pub items::read_items-loop-list-preserved : goal.items::read_items-loop-list-preserved
+items::read_items-loop-list-preserved t c =
     let octets = c.args.octets.now in
     let rule = rule_of c.args.rule in
     let type = ty_view c.args.inner.now in
     let d = c.args.inside.now.definite in
     let room = c.args.inside.now.room in
-    let at = c.loop-items.at in
-    let before = c.loop-items.before in
+    let at = c.loop-list.at in
+    let before = c.loop-list.before in
     let used = c.in_ok-used.used in
     let v = c.in-Some.value in
     let read : IsRead rule type (room - at) (drop at octets) (Some v) used = subst₂ (λ x s. IsRead rule type (room - at) x s used) (take_rest octets at) c.in-Some.is c.in_ok-used.ensures.value in
     let size : (at + used) - at ≡ used = omega arith in
     let told = subst (λ n. c.is_out_of_order.result ≡ false → c.args.ordered ≡ true → is_lt (slice_cmp nat_cmp (take n (drop at octets)) (between octets before at)) ≡ false) size c.is_out_of_order.ensures.1 c.if-is_out_of_order.false in
-    let more = item_read rule type c.args.ordered d room octets c.loop-items.items.items v before at used c.requires.good c.loop-items.invariant read told in
-    subst (λ l. AreItemsRead rule type c.args.ordered d room octets l at (at + used)) (sym (c.push_reserved.ensures.items ∙ ap (λ l. l ++ (v ∷ [])) c.reserve.ensures.items)) more
+    let more = item_read rule type c.args.ordered d room octets (new_items c.loop-list.list) v before at used c.requires.good c.loop-list.invariant read told in
+    subst (λ l. AreItemsRead rule type c.args.ordered d room octets l at (at + used)) (sym (c.put.ensures.put (search rules) ∙ ap (λ l. l ++ (v ∷ [])) c.take_old-item.ensures)) more
 
 pub items::read_items-returns-clause-value : goal.items::read_items-returns-clause-value
 items::read_items-returns-clause-value t c = λ tag.
     let octets = c.args.octets.now in
     let d = c.args.inside.now.definite in
     let room = c.args.inside.now.room in
-    let at = c.loop-items.at in
+    let at = c.loop-list.at in
     let on : c.in_ok-ends.field-0 ≡ true = search rules in
     let ends : EndsHere d (room - at) (drop at octets) = subst₂ (λ b x. IsEndKnown b d (room - at) x) on (take_rest octets at) c.in_ok-ends.ensures.value in
-    list_read c.args.rule c.args.ordered tag (ty_view c.args.inner.now) d room octets c.loop-items.items c.loop-items.before at c.loop-items.invariant ends
+    list_read c.args.rule c.args.ordered tag (ty_view c.args.inner.now) d room octets c.into_items.result c.loop-list.before at
+    (subst (λ l. AreItemsRead (rule_of c.args.rule) (ty_view c.args.inner.now) c.args.ordered d room octets l c.loop-list.before at) (sym c.into_items.ensures) c.loop-list.invariant) ends
 
 pub parts::read_chosen-returns-in_err-tag-clause-refused : goal.parts::read_chosen-returns-in_err-tag-clause-refused
 parts::read_chosen-returns-in_err-tag-clause-refused t c =

@@ -1,5 +1,6 @@
 use Rattle.std.proofs.Common.{◌≡◌, length, map, take, drop, ◌-◌}
 use Rattle.types.specs.View.{ty_view, field_view}
+use Rattle.encoding_parts.specs.Renewed.{new_items}
 use Rattle.strict.specs.Canonical.{rule_of}
 use Rattle.strict.specs.Items.{AreItemsRead}
 use Rattle.strict.specs.Components.{AreComponentsRead}
@@ -11,11 +12,11 @@ invariant-components::read_components-loop-place l =
     AreComponentsRead (rule_of l.rule) (map field_view (take l.place l.fields)) (map field_view (drop l.place l.fields)) l.inside.definite l.inside.room l.octets (take l.place l.slots.items) l.at
     × (length l.slots.items ≡ length l.fields)
 
-abbrev pub invariant-items::read_items-loop-items : goal.invariant-items::read_items-loop-items
-invariant-items::read_items-loop-items l = AreItemsRead (rule_of l.rule) (ty_view l.inner) l.ordered l.inside.definite l.inside.room l.octets l.items.items l.before l.at
+abbrev pub invariant-items::read_items-loop-list : goal.invariant-items::read_items-loop-list
+invariant-items::read_items-loop-list l = AreItemsRead (rule_of l.rule) (ty_view l.inner) l.ordered l.inside.definite l.inside.room l.octets (new_items l.list) l.before l.at
 
-abbrev pub decreases-items::read_items-loop-items : goal.decreases-items::read_items-loop-items
-decreases-items::read_items-loop-items l = length l.octets - l.at
+abbrev pub decreases-items::read_items-loop-list : goal.decreases-items::read_items-loop-list
+decreases-items::read_items-loop-list l = length l.octets - l.at
 
 abbrev pub invariant-members::read_members-loop-slots : goal.invariant-members::read_members-loop-slots
 invariant-members::read_members-loop-slots l = AreMembersRead (rule_of l.rule) (map field_view l.fields) l.slots.items l.last l.inside.definite l.inside.room l.octets l.at

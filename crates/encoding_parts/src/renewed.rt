@@ -1,9 +1,11 @@
 //! Lists that are made in the room of old ones.
 
 ghost use Rattle.std.specs.Prelude.{◌≡◌, ◌++◌, ◌∷◌, [], false, IsTrue, ◌<◌, vec_len, vec_capacity};
-ghost use Rattle.berslice.specs.Renewed.{new_items};
+ghost use Rattle.encoding_parts.specs.Renewed.{new_items};
 
-use types::Value;
+use crate::slots::take_list;
+use std::alloc::Global;
+use types::{Ty, Value};
 
 /// A list of so many items is a long one.
 const LONG: usize = 4096;
@@ -18,15 +20,20 @@ pub struct Renewed {
 }
 
 impl Renewed {
-    // None of the items is new.
-    pub fn over(items: Vec<Value>) -> Renewed
+    /// A list without new items, in the room of the list that the slot holds. Its old items are of the type, and are
+    /// dropped where values of it have no room to give. Takes no memory.
+    pub fn over(alloc: Global, ty: &Ty, slot: &mut Option<Value>) -> Renewed
         ensures { new_items result ≡ [] }
     {
+        let mut items = take_list(alloc, slot);
+        if let Ty::Boolean(_) | Ty::Integer(_) | Ty::Enumerated(_, _) | Ty::Null(_) = ty {
+            items.clear();
+        }
         let count = 0;
         Renewed { items, count }
     }
 
-    // All of the items are new.
+    /// A list of which all items are new. Takes no memory.
     pub fn behind(items: Vec<Value>) -> Renewed
         ensures { new_items result ≡ items.items }
     {
@@ -34,7 +41,7 @@ impl Renewed {
         Renewed { items, count }
     }
 
-    // Takes out the old item in whose place the next one goes, if there is one.
+    /// Takes out the old item in whose place the next one goes, if there is one. Takes no memory.
     #[inline(always)]
     pub fn take_old(&mut self) -> Option<Value>
         ensures { new_items self.new ≡ new_items self.old }
@@ -46,8 +53,9 @@ impl Renewed {
         Some(std::mem::replace(&mut self.items[place], Value::Null))
     }
 
-    // Puts an item behind the new ones, and says whether it has; not where memory runs out. Where a list has room for
-    // no more items, it makes some, as `reserve` says.
+    /// Puts an item behind the new ones, and says whether it has; not where memory runs out. It is one of `used` octets,
+    /// with which so many are `left` of those at hand, and so many items had come `before` these. By that the list makes
+    /// room where it has none: for as many items as there are, but for no more than can come.
     #[inline(always)]
     pub fn put(&mut self, item: Value, before: usize, used: usize, left: usize) -> bool
         ensures put { IsTrue result → new_items self.new ≡ new_items self.old ++ (item ∷ []) }
@@ -67,7 +75,7 @@ impl Renewed {
         true
     }
 
-    // The new items.
+    /// The new items. The others are dropped.
     pub fn into_items(self) -> Vec<Value>
         ensures { result.items ≡ new_items self }
     {

@@ -1,7 +1,7 @@
 -- Lists that are made in the room of old ones.
 use Rattle.std.specs.Prelude.{List, take}
 use Rattle.types.specs.declared.value.Value.{Value}
-use Rattle.berslice.specs.declared.renewed.Renewed.{Renewed}
+use Rattle.encoding_parts.specs.declared.renewed.Renewed.{Renewed}
 
 -- the new items, which stand in front of the old ones
 abbrev pub new_items : Renewed → List Value
