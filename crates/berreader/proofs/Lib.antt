@@ -12,6 +12,7 @@ pub mod HeldLemmas
 pub mod NestStepLemmas
 pub mod ItemsLemmas
 pub mod RefusedLemmas
+pub mod RoomLemmas
 pub mod StringLemmas
 pub mod CursorLemmas
 pub mod CutLemmas

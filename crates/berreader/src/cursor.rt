@@ -58,13 +58,19 @@ impl<'a> Cursor<'a> {
     }
 
     // Takes items of a list that are whole in the octets, where no string has begun.
-    pub fn take_items(&mut self, alloc: Global, octets: &[u8], stepped: &mut usize) -> usize
+    pub fn take_items(
+        &mut self,
+        alloc: Global,
+        octets: &[u8],
+        stepped: &mut usize,
+        room: &mut Vec<Value>,
+    ) -> usize
         requires { IsSoundCursor self.old }
         ensures taken { AreTaken self.old self.new octets.now result }
         ensures sound { IsSoundCursor self.new }
     {
         match &self.string {
-            None => self.nest.take_items(alloc, octets, stepped),
+            None => self.nest.take_items(alloc, octets, stepped, room),
             Some(_) => 0,
         }
     }

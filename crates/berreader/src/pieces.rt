@@ -23,6 +23,8 @@ pub struct Pieces<'a> {
     pub pending: Vec<u8>,
     /// What an earlier piece was refused with.
     pub refused: Option<Refusal>,
+    /// The room of a list that was read before, for the next one.
+    pub room: Vec<Value>,
 }
 
 impl<'a> Pieces<'a> {
@@ -35,6 +37,7 @@ impl<'a> Pieces<'a> {
     {
         self.cursor = Cursor::new(self.alloc, self.cursor.nest.ty);
         self.pending = Vec::new(self.alloc);
+        self.room = Vec::new(self.alloc);
         self.refused = Some(refusal);
     }
 
@@ -89,7 +92,7 @@ impl<'a> Pieces<'a> {
         loop {
             at += self
                 .cursor
-                .take_items(self.alloc, &octets[at..], &mut stepped);
+                .take_items(self.alloc, &octets[at..], &mut stepped, &mut self.room);
             let rest = &octets[at..];
             match self.cursor.step(self.alloc, rest, whole) {
                 Ok(used) => match whole {

@@ -67,6 +67,7 @@ impl<'a> Reader<'a> {
                 cursor: Cursor::new(alloc, ty.as_type()),
                 pending: Vec::new(alloc),
                 refused: None,
+                room: Vec::new(alloc),
             },
         }
     }
@@ -105,7 +106,7 @@ impl<'a> Reader<'a> {
 
     /// Takes a piece as `feed` does, which answers `Done` where the slot then holds the value, of which so many octets
     /// of the piece are the last, and `More` where it is empty. The value goes into the room of the one that the slot
-    /// held, as far as it has room there.
+    /// held, as far as it has room there; one that pieces cut, into that of a list alone.
     ///
     /// Refused as `feed` refuses. The slot is then empty.
     pub fn feed_into(&mut self, piece: &[u8], slot: &mut Option<Value>) -> Result<usize, Refusal>
@@ -133,7 +134,8 @@ impl<'a> Reader<'a> {
             return Ok(0);
         }
         if pieces.is_fresh() {
-            if let Some(used) = read_whole(pieces.alloc, pieces.cursor.nest.ty, piece, slot) {
+            let ty = pieces.cursor.nest.ty;
+            if let Some(used) = read_whole(pieces.alloc, ty, piece, slot, &mut pieces.room) {
                 return Ok(used);
             }
         }

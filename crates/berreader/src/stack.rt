@@ -10,7 +10,7 @@ use encoding_parts::{Frame, HeldParts, INLINE_FRAMES};
 use octets::{NoMemory, Tag};
 use smallvec::SmallVec;
 use std::alloc::Global;
-use types::Ty;
+use types::{Ty, Value};
 
 /// An open constructed encoding.
 #[derive(Debug, Drop)]
@@ -112,7 +112,14 @@ impl<'a> Stack<'a> {
 
     // Takes the items at the front that are read at once, behind so many octets of the value, if the innermost one is a
     // list and they end within it, and answers how many octets they have.
-    pub fn take_items(&mut self, alloc: Global, levels: usize, taken: usize, octets: &[u8]) -> usize
+    pub fn take_items(
+        &mut self,
+        alloc: Global,
+        levels: usize,
+        taken: usize,
+        octets: &[u8],
+        room: &mut Vec<Value>,
+    ) -> usize
         requires { AreSound (layers_of self.old) }
         ensures there { result ≤ length octets.now }
         ensures items { AreItemsInside levels (layers_of self.old) (layers_of self.new) taken octets.now result }
@@ -127,10 +134,21 @@ impl<'a> Stack<'a> {
         let inside = &octets[..octets.len().min(top.frame.end - taken)];
         match &mut top.held_parts {
             HeldParts::Items(inner, items) => {
+                move_in(items, room);
                 read_items(alloc, inner, levels, inside, top.frame.definite, items)
             }
             HeldParts::Explicit(_, _) | HeldParts::Sequence(_, _) | HeldParts::Set(_) => 0,
         }
+    }
+}
+
+// Gives a list that has no items yet the room of an older one.
+fn move_in(items: &mut Vec<Value>, room: &mut Vec<Value>)
+    ensures { items.new.items ≡ items.old.items }
+{
+    if items.is_empty() && room.capacity() > items.capacity() {
+        std::mem::swap(items, room);
+        items.clear();
     }
 }
 

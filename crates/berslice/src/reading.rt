@@ -1,6 +1,6 @@
 //! Values and their parts, each by a call that nests in that of what holds it.
 
-ghost use Rattle.std.specs.Prelude.{◌≡◌, ◌↔◌, ◌<◌, ◌≤◌, Some, None, length, take, IfSome, IsSome};
+ghost use Rattle.std.specs.Prelude.{◌≡◌, ◌↔◌, ◌<◌, ◌≤◌, [], Some, None, length, take, IfSome, IsSome, MatchOption};
 ghost use Rattle.octets.specs.Rule.{ber};
 ghost use Rattle.types.specs.Encoding.{IsAccepted};
 ghost use Rattle.types.specs.Shape.{Shape};
@@ -14,7 +14,7 @@ use crate::heads::{Inside, opened};
 use crate::items::read_list;
 use crate::leaf::read_leaf;
 use crate::members::read_members;
-use encoding_parts::{by_tag, clear, put_chosen, take_chosen};
+use encoding_parts::{by_tag, clear, put_chosen, take_chosen, take_list};
 use octets::{Head, MAX_ENCODING, read_identifier};
 use std::alloc::Global;
 use types::{Alternative, Ty, Value};
@@ -24,18 +24,27 @@ use types::{Alternative, Ty, Value};
 /// by part, and refuses what there is to refuse. So it is with a constructed string.
 ///
 /// Takes memory as the value does, beside the room of the value that `whole` holds, into which goes what has room
-/// there; None where there is too little.
-pub fn read_whole(alloc: Global, ty: &Ty, octets: &[u8], whole: &mut Option<Value>) -> Option<usize>
+/// there; None where there is too little. A list that `whole` holds then goes to `room`, without its items.
+pub fn read_whole(
+    alloc: Global,
+    ty: &Ty,
+    octets: &[u8],
+    whole: &mut Option<Value>,
+    room: &mut Vec<Value>,
+) -> Option<usize>
     requires good { IsGoodType (ty_view ty.now) }
     ensures there { IfSome result (λ used. used ≤ length octets.now) }
     ensures value { IfSome result (λ used. IfSome whole.new (λ value.
         IsAccepted ber (ty_view ty.now) (value_view value) (take used octets.now))) }
     ensures some { IsSome result ↔ IsSome whole.new }
+    ensures room { MatchOption result (room.new.items ≡ []) (λ _. room.new ≡ room.old) }
 {
     let front = &octets[..octets.len().min(MAX_ENCODING)];
     match read_one(alloc, ty, MAX_NESTED, front, whole) {
         Some(used) => Some(used),
         None => {
+            *room = take_list(alloc, whole);
+            room.clear();
             clear(whole);
             None
         }

@@ -10,7 +10,8 @@ use types::{Value, WellTyped};
 // What is read at once, and how many octets it has.
 fn at_once(alloc: Global, ty: &WellTyped, octets: &[u8]) -> Option<(Value, usize)> {
     let mut whole = None;
-    let used = read_whole(alloc, ty.as_type(), octets, &mut whole)?;
+    let mut room = Vec::new(alloc);
+    let used = read_whole(alloc, ty.as_type(), octets, &mut whole, &mut room)?;
     Some((whole?, used))
 }
 

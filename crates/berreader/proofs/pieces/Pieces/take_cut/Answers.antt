@@ -14,7 +14,7 @@ returns-then-is_missing-clause-value c = λ before fed.
     let mid = c.keep.new.self in
     let kept = c.deref.ensures.value in
     let octets = before ++ c.args.octets.now in
-    let new : Pieces = record { alloc = mid.alloc; cursor = c.step.new.self; pending = mid.pending; refused = mid.refused } in
+    let new : Pieces = record { alloc = mid.alloc; cursor = c.step.new.self; pending = mid.pending; refused = mid.refused; room = mid.room } in
     let at = kept_at c.args.self.now mid before c.args.octets.now fed c.keep.ensures.cursor c.in_ok-keep.ensures.kept in
     let said = c.in-Err.ensures in
     let missing = c.is_missing.ensures.0 c.if-is_missing.true in
@@ -35,7 +35,7 @@ returns-then-is_some-clause-value c = λ before fed.
     let mid = c.keep.new.self in
     let used = c.in-Ok.used in
     let whole = c.step.new.whole in
-    let new : Pieces = record { alloc = mid.alloc; cursor = c.step.new.self; pending = c.clear.new.self; refused = mid.refused } in
+    let new : Pieces = record { alloc = mid.alloc; cursor = c.step.new.self; pending = c.clear.new.self; refused = mid.refused; room = mid.room } in
     let at = kept_at old mid before c.args.octets.now fed c.keep.ensures.cursor c.in_ok-keep.ensures.kept in
     let step = subst (λ o. IsStep mid.cursor new.cursor o whole used) c.deref.ensures.value c.in-Ok.ensures.taken in
     let some : is_some whole ≡ true = sym c.is_some.ensures ∙ c.if-is_some.true in
@@ -49,7 +49,7 @@ returns-clause-value c = λ before fed.
     let more = c.in_ok-more.more in
     let kept = c.deref-2.result.now in
     let slice = take (length kept - used) (drop used kept) in
-    let next : Pieces = record { alloc = mid.alloc; cursor = c.step.new.self; pending = c.replace-kept.new.dest; refused = mid.refused } in
+    let next : Pieces = record { alloc = mid.alloc; cursor = c.step.new.self; pending = c.replace-kept.new.dest; refused = mid.refused; room = mid.room } in
     let at = kept_at old mid before c.args.octets.now fed c.keep.ensures.cursor c.in_ok-keep.ensures.kept in
     let none = none_of c.step.new.whole (sym c.is_some.ensures ∙ c.if-is_some.false) in
     let step = taken_is mid.cursor next.cursor mid.pending.items used c.step.new.whole none (subst (λ o. IsStep mid.cursor next.cursor o c.step.new.whole used) c.deref.ensures.value c.in-Ok.ensures.taken) in
@@ -65,7 +65,7 @@ returns-in_err-more-clause-never c =
     let used = c.in-Ok.used in
     let kept = c.deref-2.result.now in
     let slice = take (length kept - used) (drop used kept) in
-    let next : Pieces = record { alloc = mid.alloc; cursor = c.step.new.self; pending = c.replace-kept.new.dest; refused = mid.refused } in
+    let next : Pieces = record { alloc = mid.alloc; cursor = c.step.new.self; pending = c.replace-kept.new.dest; refused = mid.refused; room = mid.room } in
     let at = kept_at old mid before c.args.octets.now fed c.keep.ensures.cursor c.in_ok-keep.ensures.kept in
     let none = none_of c.step.new.whole (sym c.is_some.ensures ∙ c.if-is_some.false) in
     let step = taken_is mid.cursor next.cursor mid.pending.items used c.step.new.whole none (subst (λ o. IsStep mid.cursor next.cursor o c.step.new.whole used) c.deref.ensures.value c.in-Ok.ensures.taken) in

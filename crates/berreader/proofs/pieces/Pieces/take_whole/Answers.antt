@@ -13,9 +13,9 @@ loop-used-preserved c =
     let octets = c.args.octets.now in
     let used = c.in-Ok.used in
     let self = c.loop-used.self in
-    let new : Pieces = record { alloc = self.alloc; cursor = c.step.new.self; pending = self.pending; refused = self.refused } in
+    let new : Pieces = record { alloc = self.alloc; cursor = c.step.new.self; pending = self.pending; refused = self.refused; room = c.take_items-at.new.room } in
     let at = c.loop-used.at + c.take_items-at.result in
-    let now : Pieces = record { alloc = self.alloc; cursor = c.take_items-at.new.self; pending = self.pending; refused = self.refused } in
+    let now : Pieces = record { alloc = self.alloc; cursor = c.take_items-at.new.self; pending = self.pending; refused = self.refused; room = c.take_items-at.new.room } in
     let taken = c.take_items-at.ensures in
     let way = items_on_the_way c.args.self.now self now octets c.loop-used.at c.take_items-at.result c.loop-used.invariant.0 taken.taken taken.sound refl refl in
     let step = taken_behind now.cursor new.cursor octets at used c.step.new.whole c.in-None.is c.in-Ok.ensures.taken in
@@ -27,9 +27,9 @@ returns-in-Some-clause-value c = λ before on.
     let used = c.in-Ok.used in
     let value = c.in-Some.field-0 in
     let self = c.loop-used.self in
-    let new : Pieces = record { alloc = self.alloc; cursor = c.step.new.self; pending = self.pending; refused = self.refused } in
+    let new : Pieces = record { alloc = self.alloc; cursor = c.step.new.self; pending = self.pending; refused = self.refused; room = c.take_items-at.new.room } in
     let at = c.loop-used.at + c.take_items-at.result in
-    let now : Pieces = record { alloc = self.alloc; cursor = c.take_items-at.new.self; pending = self.pending; refused = self.refused } in
+    let now : Pieces = record { alloc = self.alloc; cursor = c.take_items-at.new.self; pending = self.pending; refused = self.refused; room = c.take_items-at.new.room } in
     let taken = c.take_items-at.ensures in
     let way = items_on_the_way c.args.self.now self now octets c.loop-used.at c.take_items-at.result c.loop-used.invariant.0 taken.taken taken.sound refl refl in
     subst (λ w. IsTakenWhole c.args.self.now new before octets w (at + used)) (sym c.in-Some.is)
@@ -41,7 +41,7 @@ returns-then-not-is_missing-clause-never c = λ final before more on.
     let octets = c.args.octets.now in
     let self = c.loop-used.self in
     let at = c.loop-used.at + c.take_items-at.result in
-    let now : Pieces = record { alloc = self.alloc; cursor = c.take_items-at.new.self; pending = self.pending; refused = self.refused } in
+    let now : Pieces = record { alloc = self.alloc; cursor = c.take_items-at.new.self; pending = self.pending; refused = self.refused; room = c.take_items-at.new.room } in
     let taken = c.take_items-at.ensures in
     let way = items_on_the_way c.args.self.now self now octets c.loop-used.at c.take_items-at.result c.loop-used.invariant.0 taken.taken taken.sound refl refl in
     none_on_the_way c.args.self.now now octets before more at way
@@ -52,7 +52,7 @@ returns-in-Err-clause-value c = λ before on.
     let octets = c.args.octets.now in
     let self = c.loop-used.self in
     let at = c.loop-used.at + c.take_items-at.result in
-    let now : Pieces = record { alloc = self.alloc; cursor = c.take_items-at.new.self; pending = self.pending; refused = self.refused } in
+    let now : Pieces = record { alloc = self.alloc; cursor = c.take_items-at.new.self; pending = self.pending; refused = self.refused; room = c.take_items-at.new.room } in
     let taken = c.take_items-at.ensures in
     let way = items_on_the_way c.args.self.now self now octets c.loop-used.at c.take_items-at.result c.loop-used.invariant.0 taken.taken taken.sound refl refl in
     let truncated : Refusal.Truncated ≡ c.in-Err.refusal = sym (c.is_missing.ensures.0 c.if-not-is_missing.false) in
