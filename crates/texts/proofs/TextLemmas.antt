@@ -1,5 +1,5 @@
 -- Lemmas on texts of values, part by part.
-use Rattle.std.proofs.Common.{◌≡◌, ◌∙◌, ◌+◌, ◌-◌, ◌<◌, ◌≤◌, ◌++◌, ℕ, zero, suc, Bool, false, cond, List, [], ◌∷◌, Option, Some, None, OnOk, codes, length, map, take, drop, get_or, min, replicate, refl, sym, ap, ap₂, subst, subst₂, arith, append_assoc, length-drop, take_all}
+use Rattle.std.proofs.Common.{◌≡◌, ◌∙◌, ◌+◌, ◌-◌, ◌/◌, ◌%◌, ◌<◌, ◌≤◌, ◌++◌, ℕ, zero, suc, Bool, false, cond, List, [], ◌∷◌, Option, Some, None, OnOk, codes, length, map, take, drop, get_or, min, nat_eq, replicate, refl, sym, ap, ap₂, subst, subst₂, arith, append_assoc, length-drop, take_all}
 use Rattle.std.proofs.lemmas.List.{append-nil, map-append, take-map, take_more, take-append-drop, length-replicate}
 use Rattle.std.specs.declared.result.Result.{Result}
 use Rattle.octets.proofs.ResultLemmas.{OnOk-map}
@@ -122,7 +122,26 @@ pub bits_padded : (bits : List Bool) (octets others : List ℕ) (unused other : 
 bits_padded bits octets others unused other h g =
     ap (λ u. bits_before octets u) (sym (one_padding bits octets others other unused h g).unused) ∙ bits_before-parts octets other bits (replicate other false) h.bits_are (length-replicate other false)
 
-pub digits_more : (front : List ℕ) (i x : ℕ) (old now new : List ℕ) → i < length front → x ≡ get_or front i 0 → now ≡ old ++ map bit_digit (bits_of (take i front)) → new ≡ now ++ map bit_digit (take 8 (bits_of_octet x)) → new ≡ old ++ map bit_digit (bits_of (take (i + 1) front))
+-- the digits of an octet are those of its high four bits, and then those of its low ones
+pub eight_digits : (octet : ℕ) (old mid new : List ℕ) → mid ≡ old ++ map bit_digit (drop 4 (bits_of_octet (octet / 16))) → new ≡ mid ++ map bit_digit (drop 4 (bits_of_octet (octet % 16)))
+    → new ≡ old ++ map bit_digit (bits_of_octet octet)
+unfolding bits_of_octet
+eight_digits octet old mid new first second =
+    let bit = λ (n : ℕ) (rest : List Bool). nat_eq n 1 ∷ rest in
+    let high = drop 4 (bits_of_octet (octet / 16)) in
+    let low = drop 4 (bits_of_octet (octet % 16)) in
+    let same : bits_of_octet octet ≡ high ++ low =
+    ap₂ bit (let e : octet / 128 % 2 ≡ octet / 16 / 8 % 2 = omega arith in e)
+    (ap₂ bit (let e : octet / 64 % 2 ≡ octet / 16 / 4 % 2 = omega arith in e)
+    (ap₂ bit (let e : octet / 32 % 2 ≡ octet / 16 / 2 % 2 = omega arith in e)
+    (ap₂ bit (let e : octet / 16 % 2 ≡ octet / 16 / 1 % 2 = omega arith in e)
+    (ap₂ bit (let e : octet / 8 % 2 ≡ octet % 16 / 8 % 2 = omega arith in e)
+    (ap₂ bit (let e : octet / 4 % 2 ≡ octet % 16 / 4 % 2 = omega arith in e)
+    (ap₂ bit (let e : octet / 2 % 2 ≡ octet % 16 / 2 % 2 = omega arith in e)
+    (ap₂ bit (let e : octet / 1 % 2 ≡ octet % 16 / 1 % 2 = omega arith in e) refl))))))) in
+    second ∙ (ap (λ m. m ++ map bit_digit low) first ∙ (append_assoc old (map bit_digit high) (map bit_digit low) ∙ ap (λ d. old ++ d) (sym (ap (map bit_digit) same ∙ map-append bit_digit high low))))
+
+pub digits_more : (front : List ℕ) (i x : ℕ) (old now new : List ℕ) → i < length front → x ≡ get_or front i 0 → now ≡ old ++ map bit_digit (bits_of (take i front)) → new ≡ now ++ map bit_digit (bits_of_octet x) → new ≡ old ++ map bit_digit (bits_of (take (i + 1) front))
 unfolding bits_of_octet
 digits_more front i x old now new below at h g =
     let before = take i front in

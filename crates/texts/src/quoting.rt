@@ -1,6 +1,6 @@
 //! Texts of strings.
 
-ghost use Rattle.std.specs.Prelude.{◌≡◌, ◌≤◌, ◌<◌, ◌++◌, IsAscii, IsTrue, OnOk, flat_map, length, map, string_bytes, take, true};
+ghost use Rattle.std.specs.Prelude.{◌≡◌, ◌≤◌, ◌<◌, ◌++◌, IsAscii, IsTrue, OnOk, drop, flat_map, length, map, string_bytes, take, true};
 ghost use Rattle.primitives.specs.Bits.{bits_of_octet, bits_before};
 ghost use Rattle.texts.specs.Leaf.{bit_digit as digit_of_bit, hex_digit as digit_of_hex, bits_text, octets_text, hex_digits, quoted_octet, quoted_text, are_printable, readable_text, text_of_kind};
 
@@ -28,6 +28,7 @@ pub fn put_bits_before(octets: &[u8], unused: u8, out: &mut String) -> Result<()
     requires { unused ≤ 7 }
     ensures { OnOk result (string_bytes out.new ≡ string_bytes out.old ++ bits_text (bits_before octets.now unused)) }
 {
+    out.reserve(octets.len().saturating_mul(8).saturating_add(3))?;
     out.push_str("'")?;
     put_digits(octets, unused, out)?;
     out.push_str("'B")?;
@@ -43,9 +44,44 @@ fn put_digits(octets: &[u8], unused: u8, out: &mut String) -> Result<(), NoMemor
         return Ok(());
     };
     for octet in front {
-        put_first_digits(*octet, 8, out)?;
+        put_eight_digits(*octet, out)?;
     }
     put_first_digits(*last, 8 - unused as usize, out)
+}
+
+// Appends a digit for each bit of an octet.
+fn put_eight_digits(octet: u8, out: &mut String) -> Result<(), NoMemory>
+    ensures { OnOk result (string_bytes out.new ≡ string_bytes out.old ++ map digit_of_bit (bits_of_octet octet)) }
+{
+    out.push_str(four_digits(octet / 16))?;
+    out.push_str(four_digits(octet % 16))?;
+    Ok(())
+}
+
+// A digit for each of the last four bits.
+#[tactic(auto, unfolding(primitives::specs::Bits::bits_of_octet))]
+fn four_digits(value: u8) -> &'static str
+    requires { value < 16 }
+    ensures { result.now ≡ map digit_of_bit (drop 4 (bits_of_octet value)) }
+{
+    match value {
+        0 => "0000",
+        1 => "0001",
+        2 => "0010",
+        3 => "0011",
+        4 => "0100",
+        5 => "0101",
+        6 => "0110",
+        7 => "0111",
+        8 => "1000",
+        9 => "1001",
+        10 => "1010",
+        11 => "1011",
+        12 => "1100",
+        13 => "1101",
+        14 => "1110",
+        _ => "1111",
+    }
 }
 
 // Appends a digit for each of the first bits of an octet.
