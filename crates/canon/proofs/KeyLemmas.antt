@@ -1,18 +1,18 @@
 -- Lemmas on octets that are compared by the number of the first ones.
 use Rattle.std.proofs.Common.{◌≡◌, ◌∙◌, inl, inr, ◌+◌, ◌-◌, ◌*◌, ◌^◌, ◌<◌, ◌≤◌, ℕ, zero, suc, List, [], ◌∷◌, length, drop, get_or, map, refl, sym, ap, subst, arith, All, drop-cons}
-use Rattle.std.specs.Ordering.{nat_cmp, MatchOrdering}
+use Rattle.std.specs.Ordering.{nat_cmp, ordering_then, MatchOrdering}
 use Rattle.std.specs.Cmp.{ranked}
+use Rattle.std.specs.Cmp.Lexicographic.{slice_cmp}
 use Rattle.std.specs.declared.cmp.Ordering.{Ordering}
 use Rattle.std.specs.declared.cmp.Ordering.TheVariants.{Less, Equal, Greater}
 use Rattle.std.proofs.Math.Nat.{add-mul, mul_assoc, one-le-pow, pow-zero, pow-suc}
 use Rattle.std.proofs.Math.Seq.{drop-nil}
-use Rattle.std.proofs.lemmas.List.{drop_all}
+use Rattle.std.proofs.lemmas.List.{drop_all, length-take}
 use Rattle.std.proofs.lemmas.Nat.{mul-add-lt}
 use Rattle.octets.proofs.DigitLemmas.{All-tail, mul-above}
 use Rattle.types.specs.Order.{IsPaddedAtMost}
 use Rattle.canon.specs.Span.{part_of, key_of}
-use Rattle.canon.specs.Keyed.{with_key, HasKey, compared}
-use Rattle.canon.proofs.SortLemmas.{all_at}
+use Rattle.canon.specs.Keyed.{HasKey, compared}
 use Rattle.canon.specs.declared.spans.Span.{Span}
 use Rattle.canon.specs.declared.spans.Keyed.{Keyed}
 use Rattle.std.proofs.lemmas.List.Elements.{All-take, All-drop}
@@ -132,14 +132,22 @@ compared_decides buffer octets a b is of h =
       | inr same ↦ key_of-same 16 x y (within b.span) (within a.span) (sym of ∙ same.0 ∙ is) same.1
     ]
 
--- spans with their keys, and without them again
-pub keys_are : (buffer : List ℕ) (spans : List Span) → All (HasKey buffer) (map (with_key buffer) spans)
-keys_are buffer spans = all_at (with_key buffer) (HasKey buffer) spans (λ j d below. refl)
+nothing_behind : (buffer : List ℕ) (span : Span) → span.end - span.start ≤ 16 → drop 16 (part_of buffer span) ≡ []
+nothing_behind buffer span short = drop_all 16 (part_of buffer span) (omega (arith, short, length-take (span.end - span.start) (drop span.start buffer)))
 
-pub spans_again : (buffer : List ℕ) (spans : List Span) → map (λ (one : Keyed). one.span) (map (with_key buffer) spans) ≡ spans
-spans_again buffer [] = refl
-spans_again buffer (s ∷ spans) = ap (λ r. s ∷ r) (spans_again buffer spans)
+same_key : (x : ℕ) (o : Ordering) → MatchOrdering o (x < x) (x ≡ x) (x < x) → Equal ≡ ordering_then o Equal
+same_key x Less h = absurd (omega (arith, h))
+same_key x Equal h = refl
+same_key x Greater h = absurd (omega (arith, h))
 
+-- nothing is behind two keys that are the same
+pub compared_same : (buffer : List ℕ) (a b : Keyed) → a.key ≡ b.key → a.span.end - a.span.start ≤ 16 → b.span.end - b.span.start ≤ 16 → Equal ≡ slice_cmp nat_cmp (compared buffer a) (compared buffer b)
+compared_same buffer a b same short low =
+    let left : compared buffer a ≡ b.key ∷ [] = ap (λ k. k ∷ drop 16 (part_of buffer a.span)) same ∙ ap (λ r. b.key ∷ r) (nothing_behind buffer a.span short) in
+    let right : compared buffer b ≡ b.key ∷ [] = ap (λ r. b.key ∷ r) (nothing_behind buffer b.span low) in
+    same_key b.key (nat_cmp b.key b.key) (ranked b.key b.key (nat_cmp b.key b.key) refl) ∙ ap (λ xs. slice_cmp nat_cmp xs (b.key ∷ [])) (sym left) ∙ ap (slice_cmp nat_cmp (compared buffer a)) (sym right)
+
+-- parts by their spans
 pub parts_again : (buffer : List ℕ) (fs : List Keyed) → map (part_of buffer) (map (λ (one : Keyed). one.span) fs) ≡ map (λ (one : Keyed). part_of buffer one.span) fs
 parts_again buffer [] = refl
 parts_again buffer (f ∷ fs) = ap (λ r. part_of buffer f.span ∷ r) (parts_again buffer fs)

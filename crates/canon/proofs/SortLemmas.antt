@@ -1,6 +1,6 @@
 -- Lemmas on lists in order: those that a sort made, and that each list has one in order.
 use Rattle.std.proofs.Common.{◌≡◌, ◌⊎◌, inl, inr, ◌+◌, ◌<◌, ℕ, zero, suc, Bool, true, false, List, [], ◌∷◌, length, get_or, map, refl, sym, ap, subst, arith, All, AllPairs, Contains, IsPermutation}
-use Rattle.std.specs.Prelude.{not, MatchBool, slice_index_or}
+use Rattle.std.specs.Prelude.{⊤, not, MatchBool, slice_index_or}
 use Rattle.std.specs.List.{AllAdjacentBelow, IsAllAdjacentAnswer}
 use Rattle.std.specs.Ordering.{nat_cmp, is_lt, ordering_then, MatchOrdering}
 use Rattle.std.specs.declared.cmp.Ordering.{Ordering}
@@ -70,8 +70,11 @@ module _ {X : Type 0} (f : X → List ℕ) where
   rises_order : IsStrictWeakOrder rises
   rises_order = ranks_by nat_list_cmp_total f
 
-  pub ascends_from_rises : (xs : List X) → IsSortedBy rises xs → Ascends (map f xs)
-  ascends_from_rises xs h = pairs_at f IsPaddedAtMost xs (λ i j d p q. le_from_cmp (f (get_or xs i d)) (f (get_or xs j d)) (sorted_far rises rises_order xs h i j d (omega arith) q))
+  -- where the order of what f gives is that of some octets
+  pub ascends_by : (octets : X → List ℕ) (Good : X → Type 0) (xs : List X) → ((a b : X) → Good a → Good b → IsPaddedAtMost (f a) (f b) → IsPaddedAtMost (octets a) (octets b)) → All Good xs → IsSortedBy rises xs → Ascends (map octets xs)
+  ascends_by octets Good xs decides good h =
+      pairs_at octets IsPaddedAtMost xs (λ i j d p q.
+      decides (get_or xs i d) (get_or xs j d) (good i d (omega arith)) (good j d q) (le_from_cmp (f (get_or xs i d)) (f (get_or xs j d)) (sorted_far rises rises_order xs h i j d (omega arith) q)))
 
   sorted_by_calls : {F : Type 0} {g : Mut F (Bor X × (Bor X × Unit {0})) Ordering} {s : F} (xs : List X)
       → ((lt : X → X → Bool) → IsStrictWeakOrder lt → ComparesAs g lt s → IsSortedBy lt xs)
@@ -82,16 +85,13 @@ module _ {X : Type 0} (f : X → List ℕ) where
   pub ascends_from_sort : {F : Type 0} {g : Mut F (Bor X × (Bor X × Unit {0})) Ordering} {s : F} (xs : List X)
       → ((lt : X → X → Bool) → IsStrictWeakOrder lt → ComparesAs g lt s → IsSortedBy lt xs)
       → ((a : Bor X × (Bor X × Unit {0})) (r : Ordering) (s' : F) → Called g s a r s' → (r ≡ slice_cmp nat_cmp (f a.0.now) (f a.1.0.now)) × (s' ≡ s)) → Ascends (map f xs)
-  ascends_from_sort xs up h = ascends_from_rises xs (sorted_by_calls xs up h)
+  ascends_from_sort xs up h = ascends_by f (λ x. ⊤) xs (λ a b g k m. m) (λ j d below. tt) (sorted_by_calls xs up h)
 
   -- the same, where the order of what f gives is that of some octets
   pub ascends_from_sort_by : {F : Type 0} {g : Mut F (Bor X × (Bor X × Unit {0})) Ordering} {s : F} (octets : X → List ℕ) (Good : X → Type 0) (xs : List X)
       → ((a b : X) → Good a → Good b → IsPaddedAtMost (f a) (f b) → IsPaddedAtMost (octets a) (octets b)) → All Good xs → ((lt : X → X → Bool) → IsStrictWeakOrder lt → ComparesAs g lt s → IsSortedBy lt xs)
       → ((a : Bor X × (Bor X × Unit {0})) (r : Ordering) (s' : F) → Called g s a r s' → (r ≡ slice_cmp nat_cmp (f a.0.now) (f a.1.0.now)) × (s' ≡ s)) → Ascends (map octets xs)
-  ascends_from_sort_by octets Good xs decides good up h =
-      pairs_at octets IsPaddedAtMost xs (λ i j d p q.
-      decides (get_or xs i d) (get_or xs j d) (good i d (omega arith)) (good j d q)
-      (le_from_cmp (f (get_or xs i d)) (f (get_or xs j d)) (sorted_far rises rises_order xs (sorted_by_calls xs up h) i j d (omega arith) q)))
+  ascends_from_sort_by octets Good xs decides good up h = ascends_by octets Good xs decides good (sorted_by_calls xs up h)
 
 not_before : (a b : Tag) (o : Ordering) → MatchOrdering o (ComesBefore a b) (a ≡ b) (ComesBefore b a) → is_lt o ≡ false → ComesBefore a b → ⊥
 not_before a b Less h test before = cc

@@ -5,8 +5,9 @@ use Rattle.octets.specs.Front.{Appends}
 use Rattle.types.specs.Shape.{Val}
 use Rattle.types.specs.Encoding.{Meaning}
 use Rattle.types.specs.Order.{Ascends}
-use Rattle.canon.specs.Span.{part_of, RisesByTag}
+use Rattle.canon.specs.Span.{part_of, key_of, RisesByTag}
 use Rattle.canon.specs.declared.spans.Span.{Span}
+use Rattle.canon.specs.declared.spans.Keyed.{Keyed}
 use Rattle.canon.specs.declared.spans.Tagged.{Tagged}
 
 -- octets of some kind were appended, where the span says
@@ -24,11 +25,12 @@ Cuts from [] (p ∷ ps) = ⊥
 Cuts from (s ∷ ss) [] = ⊥
 Cuts from (s ∷ ss) (p ∷ ps) = (s.start ≡ from) × (s.end ≡ from + length p) × Cuts (from + length p) ss ps
 
--- encodings of items stand in a buffer
-pub record AreLaid (IsItem : Meaning) (values : List Val) (spans : List Span) (old new : List ℕ) : Type 0 where
+-- encodings of items stand in a buffer, each with its key
+pub record AreLaid (IsItem : Meaning) (values : List Val) (parts : List Keyed) (old new : List ℕ) : Type 0 where
   pub encodings : List (List ℕ)
   pub each : AllZip IsItem values encodings
-  pub cuts : Cuts (length old) spans encodings
+  pub cuts : Cuts (length old) (map (λ part. part.span) parts) encodings
+  pub keys : map (λ part. part.key) parts ≡ map (key_of 16) encodings
   pub is : new ≡ old ++ concat encodings
 
 -- what stood in a buffer still stands at its front

@@ -1,6 +1,6 @@
 //! Parts of one buffer, put in order.
 
-ghost use Rattle.std.specs.Prelude.{◌≡◌, ◌≤◌, ◌++◌, length, take, drop, map, not, All, IsTrue, IfOk, OnOk, OnErr, IsPermutation};
+ghost use Rattle.std.specs.Prelude.{◌≡◌, ◌≤◌, ◌-◌, ◌↔◌, ◌++◌, length, take, drop, map, not, All, IsTrue, IfOk, OnOk, OnErr, IsPermutation};
 ghost use Rattle.std.specs.List.{concat};
 ghost use Rattle.std.specs.Ordering.{nat_cmp, is_lt};
 ghost use Rattle.std.specs.Cmp.Lexicographic.{slice_cmp};
@@ -49,44 +49,49 @@ pub(crate) fn part(buffer: &[u8], span: Span) -> &[u8]
     &buffer[start..end]
 }
 
-// Puts the parts that the spans mean, which are all that stands from `from` on, in ascending order. Mostly they
-// come in order, and nothing is sorted or moved.
+// A part with its key.
+pub(crate) fn with_key_of(buffer: &[u8], span: Span) -> Keyed
+    ensures { result ≡ with_key buffer.now span }
+{
+    Keyed {
+        key: key(part(buffer, span)),
+        span,
+    }
+}
+
+// Puts parts, which are all that stands from `from` on, in ascending order. Mostly they come in order, and
+// nothing is sorted or moved.
 pub(crate) fn arrange(
     alloc: Global,
     out: &mut Vec<u8>,
     from: usize,
-    spans: &[Span],
+    parts: Vec<Keyed>,
 ) -> Result<(), NoMemory>
-    requires { IsCutInto from spans.now out.old.items }
-    ensures arranged { OnOk result (IsArranged from spans.now out.old.items out.new.items) }
+    requires cut { IsCutInto from (map (λ one. one.span) parts.items) out.old.items }
+    requires keys { All (HasKey out.old.items) parts.items }
+    ensures arranged { OnOk result
+        (IsArranged from (map (λ one. one.span) parts.items) out.old.items out.new.items) }
     ensures kept { OnErr result (Keeps (take from out.old.items) out.new.items) }
 {
-    if ascend(out, spans) {
+    if ascend(out, &parts) {
         return Ok(());
     }
-    let sorted = sort_up(alloc, out, spans)?;
-    join_again(alloc, out, from, &sorted)
+    let mut sorted = parts;
+    sort_by_keys(out, &mut sorted);
+    let spans = spans_behind(alloc, &sorted)?;
+    join_again(alloc, out, from, &spans)
 }
 
 // Whether each part is at most the next.
-fn ascend(buffer: &[u8], spans: &[Span]) -> bool
-    ensures { IsTrue result → Ascends (map (part_of buffer.now) spans.now) }
+fn ascend(buffer: &[u8], parts: &[Keyed]) -> bool
+    requires { All (HasKey buffer.now) parts.now }
+    ensures { IsTrue result → Ascends (map (λ one. part_of buffer.now one.span) parts.now) }
 {
-    spans.is_sorted_by(
+    parts.is_sorted_by(
         |a, b| -> bool
-            ensures { result ≡ not (is_lt (slice_cmp nat_cmp (part_of buffer.entry.now b.now) (part_of buffer.entry.now a.now))) }
-        { !part(buffer, *b).cmp(&part(buffer, *a)).is_lt() },
+            ensures { result ≡ not (is_lt (slice_cmp nat_cmp (compared buffer.entry.now b.now) (compared buffer.entry.now a.now))) }
+        { !compare(buffer, *b, *a).is_lt() },
     )
-}
-
-// The spans in ascending order of the octets that they mean.
-fn sort_up(alloc: Global, buffer: &[u8], spans: &[Span]) -> Result<Vec<Span>, NoMemory>
-    ensures permutation { IfOk result (λ sorted. IsPermutation spans.now sorted.items) }
-    ensures ascends { IfOk result (λ sorted. Ascends (map (part_of buffer.now) sorted.items)) }
-{
-    let mut keyed = keys_of(alloc, buffer, spans)?;
-    sort_by_keys(buffer, &mut keyed);
-    spans_behind(alloc, &keyed)
 }
 
 // The spans without their keys.
@@ -94,27 +99,6 @@ fn spans_behind(alloc: Global, keyed: &[Keyed]) -> Result<Vec<Span>, NoMemory>
     ensures { IfOk result (λ spans. spans.items ≡ map (λ one. one.span) keyed.now) }
 {
     Ok(keyed.iter().map(|one| one.span).collect(alloc)?)
-}
-
-// Each span with its key.
-fn keys_of(alloc: Global, buffer: &[u8], spans: &[Span]) -> Result<Vec<Keyed>, NoMemory>
-    ensures { IfOk result (λ keyed. keyed.items ≡ map (with_key buffer.now) spans.now) }
-{
-    Ok(
-        spans
-            .iter()
-            .map(
-                |span| -> Keyed
-                    ensures { result ≡ with_key buffer.entry.now span.now }
-                {
-                    Keyed {
-                        key: key(part(buffer, *span)),
-                        span: *span,
-                    }
-                },
-            )
-            .collect(alloc)?,
-    )
 }
 
 // The first 16 octets as a number, with zeros for those that are not there.
@@ -132,8 +116,7 @@ fn key(octets: &[u8]) -> u128
     number
 }
 
-// Puts spans in ascending order of the octets that they mean. Keys decide mostly: octets are read again only
-// where those are equal.
+// Puts parts in ascending order. Keys decide mostly: octets are read again only where those are equal.
 fn sort_by_keys(buffer: &[u8], keyed: &mut Vec<Keyed>)
     requires keys { All (HasKey buffer.now) keyed.old.items }
     ensures permutation { IsPermutation keyed.old.items keyed.new.items }
@@ -146,14 +129,24 @@ fn sort_by_keys(buffer: &[u8], keyed: &mut Vec<Keyed>)
     );
 }
 
-// Compares keys, and then what is behind them.
+// Compares keys, and then what is behind them, if anything is.
 fn compare(buffer: &[u8], a: Keyed, b: Keyed) -> Ordering
     ensures { result ≡ slice_cmp nat_cmp (compared buffer.now a) (compared buffer.now b) }
 {
     if a.key != b.key {
         return a.key.cmp(&b.key);
     }
+    if is_all_key(a.span) && is_all_key(b.span) {
+        return Ordering::Equal;
+    }
     behind(part(buffer, a.span)).cmp(&behind(part(buffer, b.span)))
+}
+
+// Whether a part has no octet behind the first 16.
+fn is_all_key(span: Span) -> bool
+    ensures { IsTrue result ↔ span.end - span.start ≤ 16 }
+{
+    span.end.saturating_sub(span.start) <= 16
 }
 
 // The octets behind the first 16.

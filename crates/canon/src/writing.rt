@@ -16,7 +16,7 @@ use crate::leaf::put_leaf;
 use crate::leaves::put_leaves;
 use crate::parts::{chosen_in, items_in, slots_in};
 use crate::rule::CanonicalRule;
-use crate::spans::{Span, Tagged, arrange, arrange_by_tag, part};
+use crate::spans::{Span, Tagged, arrange, arrange_by_tag, part, with_key_of};
 use crate::tags::order_tag;
 use octets::NoMemory;
 use std::alloc::Global;
@@ -135,13 +135,13 @@ fn put_in_order(
         result out.old.items out.new.items }
 {
     let from = out.len();
-    let mut spans = Vec::new(alloc);
-    spans.reserve(items.len())?;
+    let mut parts = Vec::new(alloc);
+    parts.reserve(items.len())?;
     for item in items {
         let span = put_span(alloc, rule, ty, item, out)?;
-        spans.push(span)?;
+        parts.push(with_key_of(out, span))?;
     }
-    arrange(alloc, out, from, &spans)
+    arrange(alloc, out, from, parts)
 }
 
 // Appends the encodings of components, in order of declaration.

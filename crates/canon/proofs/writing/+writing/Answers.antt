@@ -1,4 +1,4 @@
-use Rattle.std.proofs.Common.{◌≡◌, ◌∙◌, ◌+◌, ◌<◌, ℕ, suc, List, Option, Some, None, length, take, get_or, map, inl, inr, refl, sym, ap, subst, subst₂, arith, rules}
+use Rattle.std.proofs.Common.{◌≡◌, ◌∙◌, ◌+◌, ◌<◌, ℕ, suc, List, [], ◌∷◌, ◌++◌, Option, Some, None, length, take, get_or, map, inl, inr, refl, sym, ap, subst, subst₂, arith, rules}
 use Rattle.std.proofs.lemmas.List.{take_all}
 use Rattle.octets.specs.Front.{Appends}
 use Rattle.octets.proofs.ResultLemmas.{OnOk-map}
@@ -14,10 +14,11 @@ use Rattle.types.specs.Order.{IsOrderTag}
 use Rattle.types.specs.Shape.{Shape, Slots, Val}
 use Rattle.types.specs.View.{ty_view, value_view, components_view}
 use Rattle.types.proofs.ViewLemmas.{ty-Sequence, ty-Set, ty-SequenceOf, ty-SetOf, ty-Choice, ty-Explicit}
-use Rattle.canon.specs.declared.spans.Span.{Span}
+use Rattle.canon.specs.declared.spans.Keyed.{Keyed}
 use Rattle.canon.specs.declared.spans.Tagged.{Tagged}
+use Rattle.canon.specs.Keyed.{with_key}
 use Rattle.canon.specs.Node.{HasGoodNodes, ArePartsOf, AreItems, AreItemsInOrder, AreComponents, AreComponentsByTag}
-use Rattle.canon.specs.Part.{AreLaid, IsArranged, IsCutInto, IsPut, Keeps}
+use Rattle.canon.specs.Part.{AreLaid, IsPut, Keeps}
 use Rattle.canon.specs.Rule.{rule_of}
 use Rattle.canon.specs.Span.{part_of}
 use Rattle.canon.specs.Writes.{Writes}
@@ -28,7 +29,7 @@ use Rattle.canon.proofs.LeavesLemmas.{leaves_conform, leaves_alike, item_behind}
 use Rattle.canon.proofs.NodeLemmas.{choice_parts, has_items, has_slots, parts_around}
 use Rattle.canon.proofs.OpeningLemmas.{opened_kept}
 use Rattle.canon.proofs.PartLemmas.{part_put}
-use Rattle.canon.proofs.PutLemmas.{laid_more, laid_cut, order_made}
+use Rattle.canon.proofs.PutLemmas.{laid_more, laid_cut, laid_keys, order_made}
 use Rattle.canon.proofs.SimpleLemmas.{rule_is_canonical}
 use Rattle.canon.proofs.StepLemmas.{as_many_slots, present_at}
 use Rattle.canon.proofs.ForwardLemmas.{chosen_in_choice}
@@ -228,13 +229,19 @@ put_in_order-loop-item-preserved t c =
     let items = c.args.items.now in
     let i = c.loop-item.item-index in
     let IsItem = IsEncoding (rule_of c.args.rule) (ty_view c.args.ty.now) in
-    let laid = laid_more IsItem items i c.item-item.result c.loop-item.spans.items c.in_ok-span.span c.args.out.now.items c.loop-item.out.items c.put_span.new.out.items (omega arith) c.item-item.is c.loop-item.invariant c.in_ok-span.ensures.put in
-    subst (λ (ss : List Span). AreLaid IsItem (map value_view (take (i + 1) items)) ss c.args.out.now.items c.put_span.new.out.items) (sym c.in_ok-push.ensures.items) laid
+    let old = c.args.out.now.items in
+    let new = c.put_span.new.out.items in
+    let span = c.in_ok-span.span in
+    let one : c.with_key_of.result ≡ with_key new span = c.with_key_of.ensures ∙ ap (λ (b : List ℕ). with_key b span) c.deref.ensures.value in
+    let laid = laid_more IsItem items i c.item-item.result c.loop-item.parts.items (with_key new span) old c.loop-item.out.items new (omega arith) c.item-item.is c.loop-item.invariant c.in_ok-span.ensures.put refl in
+    subst (λ (ps : List Keyed). AreLaid IsItem (map value_view (take (i + 1) items)) ps old new) (sym (c.in_ok-push.ensures.items ∙ ap (λ p. c.loop-item.parts.items ++ p ∷ []) one)) laid
 
 pub put_in_order-arrange-requires : goal.put_in_order-arrange-requires
 put_in_order-arrange-requires t c =
-    subst (λ (ss : List Span). IsCutInto c.len-from.result ss c.loop-item.out.items) (sym c.deref.ensures.value)
-    (laid_cut _ _ c.loop-item.spans.items c.args.out.now.items c.loop-item.out.items c.len-from.result (omega (arith, c.len-from.ensures)) c.loop-item.invariant)
+    let parts = c.loop-item.parts.items in
+    let old = c.args.out.now.items in
+    let new = c.loop-item.out.items in
+    record { cut = laid_cut _ _ parts old new c.loop-item.invariant c.len-from.result (omega (arith, c.len-from.ensures)); keys = laid_keys _ _ parts old new c.loop-item.invariant }
 
 pub put_in_order-returns : goal.put_in_order-returns
 put_in_order-returns t c =
@@ -243,13 +250,13 @@ put_in_order-returns t c =
     let old = c.args.out.now.items in
     let mid = c.loop-item.out.items in
     let new = c.arrange.new.out.items in
-    let spans = c.loop-item.spans.items in
+    let parts = c.loop-item.parts.items in
     let from = c.len-from.result in
     let at : from ≡ length old = omega (arith, c.len-from.ensures) in
     let all : take c.loop-item.item-index items ≡ items = take_all c.loop-item.item-index items (omega arith) in
-    let laid : AreLaid IsItem (map value_view items) spans old mid = subst (λ (vs : List Value). AreLaid IsItem (map value_view vs) spans old mid) all c.loop-item.invariant in
+    let laid : AreLaid IsItem (map value_view items) parts old mid = subst (λ (vs : List Value). AreLaid IsItem (map value_view vs) parts old mid) all c.loop-item.invariant in
     record {
-      appended = OnOk-map c.arrange.result _ _ (λ made. order_made IsItem (map value_view items) spans old mid new from at laid (subst (λ (ss : List Span). IsArranged from ss mid new) c.deref.ensures.value made)) c.arrange.ensures.arranged;
+      appended = OnOk-map c.arrange.result _ _ (λ made. order_made IsItem (map value_view items) parts old mid laid new from at made) c.arrange.ensures.arranged;
       kept = kept c.arrange.result (Keeps (take from mid) new) (Keeps old new) (keeps_taken old _ mid new from at c.loop-item.invariant.is) c.arrange.ensures.kept;
     }
 

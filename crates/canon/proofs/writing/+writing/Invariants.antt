@@ -13,7 +13,7 @@ abbrev pub invariant-put_items-loop-item : goal.invariant-put_items-loop-item
 invariant-put_items-loop-item l = Appends (AreItems (IsEncoding (rule_of l.rule) (ty_view l.ty)) (map value_view (take l.item-index l.items))) l.initial.out.items l.out.items
 
 abbrev pub invariant-put_in_order-loop-item : goal.invariant-put_in_order-loop-item
-invariant-put_in_order-loop-item l = AreLaid (IsEncoding (rule_of l.rule) (ty_view l.ty)) (map value_view (take l.item-index l.items)) l.spans.items l.initial.out.items l.out.items
+invariant-put_in_order-loop-item l = AreLaid (IsEncoding (rule_of l.rule) (ty_view l.ty)) (map value_view (take l.item-index l.items)) l.parts.items l.initial.out.items l.out.items
 
 abbrev pub invariant-put_components-loop-place : goal.invariant-put_components-loop-place
 invariant-put_components-loop-place l = Appends (BeginsComponents (rule_of l.rule) l.fields l.slots l.place) l.initial.out.items l.out.items
