@@ -122,7 +122,7 @@ read_fits xs i number d below octets h one =
     omega (arith, whole, above, most)
 
 -- what parts are compared by decides their order
-pub compared_decides : (buffer : List ℕ) → All (λ d. d < 256) buffer → (a b : Keyed) → HasKey buffer a → HasKey buffer b → IsPaddedAtMost (compared buffer b) (compared buffer a) → IsPaddedAtMost (part_of buffer b.span) (part_of buffer a.span)
+pub compared_decides : (buffer : List ℕ) → All (λ d. d < 256) buffer → (a b : Keyed ℕ) → HasKey buffer a → HasKey buffer b → IsPaddedAtMost (compared buffer b) (compared buffer a) → IsPaddedAtMost (part_of buffer b.span) (part_of buffer a.span)
 compared_decides buffer octets a b is of h =
     let within : (span : Span) → All (λ d. d < 256) (part_of buffer span) = λ span. All-take (λ d. d < 256) (span.end - span.start) (drop span.start buffer) (All-drop (λ d. d < 256) span.start buffer octets) in
     let x = part_of buffer b.span in
@@ -141,13 +141,13 @@ same_key x Equal h = refl
 same_key x Greater h = absurd (omega (arith, h))
 
 -- nothing is behind two keys that are the same
-pub compared_same : (buffer : List ℕ) (a b : Keyed) → a.key ≡ b.key → a.span.end - a.span.start ≤ 16 → b.span.end - b.span.start ≤ 16 → Equal ≡ slice_cmp nat_cmp (compared buffer a) (compared buffer b)
+pub compared_same : (buffer : List ℕ) (a b : Keyed ℕ) → a.key ≡ b.key → a.span.end - a.span.start ≤ 16 → b.span.end - b.span.start ≤ 16 → Equal ≡ slice_cmp nat_cmp (compared buffer a) (compared buffer b)
 compared_same buffer a b same short low =
     let left : compared buffer a ≡ b.key ∷ [] = ap (λ k. k ∷ drop 16 (part_of buffer a.span)) same ∙ ap (λ r. b.key ∷ r) (nothing_behind buffer a.span short) in
     let right : compared buffer b ≡ b.key ∷ [] = ap (λ r. b.key ∷ r) (nothing_behind buffer b.span low) in
     same_key b.key (nat_cmp b.key b.key) (ranked b.key b.key (nat_cmp b.key b.key) refl) ∙ ap (λ xs. slice_cmp nat_cmp xs (b.key ∷ [])) (sym left) ∙ ap (slice_cmp nat_cmp (compared buffer a)) (sym right)
 
 -- parts by their spans
-pub parts_again : (buffer : List ℕ) (fs : List Keyed) → map (part_of buffer) (map (λ (one : Keyed). one.span) fs) ≡ map (λ (one : Keyed). part_of buffer one.span) fs
+pub parts_again : (buffer : List ℕ) (fs : List (Keyed ℕ)) → map (part_of buffer) (map (λ (one : Keyed ℕ). one.span) fs) ≡ map (λ (one : Keyed ℕ). part_of buffer one.span) fs
 parts_again buffer [] = refl
 parts_again buffer (f ∷ fs) = ap (λ r. part_of buffer f.span ∷ r) (parts_again buffer fs)

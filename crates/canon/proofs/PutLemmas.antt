@@ -38,7 +38,7 @@ cuts_read old (s ∷ ss) (p ∷ ps) buffer h e =
     ap (λ b. b ∷ map (part_of buffer) ss) first ∙ ap (λ r. p ∷ r) rest
 
 -- the keys of encodings that stand in a buffer
-keys_stand : (parts : List Keyed) (buffer : List ℕ) → map (λ (p : Keyed). p.key) parts ≡ map (key_of 16) (map (part_of buffer) (map (λ (p : Keyed). p.span) parts)) → All (HasKey buffer) parts
+keys_stand : (parts : List (Keyed ℕ)) (buffer : List ℕ) → map (λ (p : Keyed ℕ). p.key) parts ≡ map (key_of 16) (map (part_of buffer) (map (λ (p : Keyed ℕ). p.span) parts)) → All (HasKey buffer) parts
 keys_stand [] buffer h = All-nil (HasKey buffer)
 keys_stand (p ∷ parts) buffer h = All-cons (HasKey buffer) p parts (ap (λ ks. get_or ks 0 0) h) (keys_stand parts buffer (ap (drop 1) h))
 
@@ -46,11 +46,11 @@ pub none_laid : (IsItem : Meaning) (out : List ℕ) → AreLaid IsItem [] [] out
 none_laid IsItem out = record { encodings = []; each = tt; cuts = tt; keys = refl; is = sym (append-nil out) }
 
 -- one more behind
-pub laid_more : (IsItem : Meaning) (xs : List Value) (i : ℕ) (x : Value) (ps : List Keyed) (p : Keyed) (old mid new : List ℕ) → i < length xs → x ≡ get_or xs i x → AreLaid IsItem (map value_view (take i xs)) ps old mid → IsPut (IsItem (value_view x)) mid new p.span → HasKey new p
+pub laid_more : (IsItem : Meaning) (xs : List Value) (i : ℕ) (x : Value) (ps : List (Keyed ℕ)) (p : Keyed ℕ) (old mid new : List ℕ) → i < length xs → x ≡ get_or xs i x → AreLaid IsItem (map value_view (take i xs)) ps old mid → IsPut (IsItem (value_view x)) mid new p.span → HasKey new p
     → AreLaid IsItem (map value_view (take (i + 1) xs)) (ps ++ p ∷ []) old new
 laid_more IsItem xs i x ps p old mid new l at h a key =
-    let span = λ (one : Keyed). one.span in
-    let number = λ (one : Keyed). one.key in
+    let span = λ (one : Keyed ℕ). one.span in
+    let number = λ (one : Keyed ℕ). one.key in
     let was : length mid ≡ length old + length (concat h.encodings) = ap length h.is ∙ length-append old (concat h.encodings) in
     let now : length new ≡ length mid + length a.octets = ap length a.is ∙ length-append mid a.octets in
     let stood : number p ≡ key_of 16 a.octets = key ∙ ap (key_of 16) (part_put (IsItem (value_view x)) mid new p.span a) in
@@ -63,9 +63,9 @@ laid_more IsItem xs i x ps p old mid new l at h a key =
       is = a.is ∙ ap (λ z. z ++ a.octets) h.is ∙ append_assoc old (concat h.encodings) a.octets ∙ ap (λ z. old ++ z) (sym (concat_push h.encodings a.octets));
     }
 
-module _ (IsItem : Meaning) (values : List Val) (ps : List Keyed) (old new : List ℕ) (h : AreLaid IsItem values ps old new) where
+module _ (IsItem : Meaning) (values : List Val) (ps : List (Keyed ℕ)) (old new : List ℕ) (h : AreLaid IsItem values ps old new) where
   abbrev spans : List Span
-  spans = map (λ (p : Keyed). p.span) ps
+  spans = map (λ (p : Keyed ℕ). p.span) ps
 
   laid_read : map (part_of new) spans ≡ h.encodings
   laid_read = cuts_read old spans h.encodings new h.cuts h.is

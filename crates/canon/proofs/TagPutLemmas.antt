@@ -5,6 +5,7 @@ use Rattle.std.proofs.lemmas.List.{map-append, get_or-map}
 use Rattle.std.proofs.lemmas.List.Sorted.{IsPermutation-map}
 use Rattle.octets.specs.Front.{Appends}
 use Rattle.octets.specs.Rule.{Rule, IsCanonical}
+use Rattle.octets.specs.declared.tag.Tag.{Tag}
 use Rattle.octets.specs.Tag.{ComesBefore}
 use Rattle.types.specs.declared.ty.Field.{Field}
 use Rattle.types.specs.declared.value.Value.{Value}
@@ -16,7 +17,7 @@ use Rattle.types.specs.Order.{IsOrderTag}
 use Rattle.types.specs.Encoding.{IsEncoding, AreSlotEncodings, standing}
 use Rattle.types.proofs.ListLemmas.{distinct_right}
 use Rattle.canon.specs.declared.spans.Span.{Span}
-use Rattle.canon.specs.declared.spans.Tagged.{Tagged}
+use Rattle.canon.specs.declared.spans.Keyed.{Keyed}
 use Rattle.canon.specs.Node.{AreComponentsByTag}
 use Rattle.canon.specs.Part.{IsPut, Cuts, IsCutInto, IsArrangedByTag}
 use Rattle.canon.specs.Span.{part_of, RisesByTag}
@@ -29,8 +30,8 @@ use Rattle.canon.proofs.TagOrderLemmas.{TaggedOctets, AreTagged, no_tagged, late
 abbrev octets_in : List TaggedOctets → List (List ℕ)
 octets_in parts = map (λ (p : TaggedOctets). p.octets) parts
 
-abbrev spans_in : List Tagged → List Span
-spans_in tagged = map (λ (t : Tagged). t.span) tagged
+abbrev spans_in : List (Keyed Tag) → List Span
+spans_in tagged = map (λ (t : Keyed Tag). t.span) tagged
 
 -- encodings of components, with their order tags
 pub record AreTaggedOf (rule : Rule) (components : Components) (slots : Slots) (parts : List TaggedOctets) : Type 0 where
@@ -40,9 +41,9 @@ pub record AreTaggedOf (rule : Rule) (components : Components) (slots : Slots) (
   pub stand : octets_in parts ≡ standing encodings
 
 -- those before this place stand in a buffer, and with what encodes the later ones they are all
-pub record LaidTo (rule : Rule) (fields : List Field) (slots : List (Option Value)) (i : ℕ) (tagged : List Tagged) (old new : List ℕ) : Type 0 where
+pub record LaidTo (rule : Rule) (fields : List Field) (slots : List (Option Value)) (i : ℕ) (tagged : List (Keyed Tag)) (old new : List ℕ) : Type 0 where
   pub parts : List TaggedOctets
-  pub tags : map (λ (t : Tagged). t.tag) tagged ≡ map (λ (p : TaggedOctets). p.tag) parts
+  pub tags : map (λ (t : Keyed Tag). t.key) tagged ≡ map (λ (p : TaggedOctets). p.tag) parts
   pub cuts : Cuts (length old) (spans_in tagged) (octets_in parts)
   pub is : new ≡ old ++ concat (octets_in parts)
   pub more : (rest : List TaggedOctets) → AreTaggedOf rule (components_view (drop i fields)) (slots_view (drop i slots)) rest → AreTaggedOf rule (components_view fields) (slots_view slots) (parts ++ rest)
@@ -54,7 +55,7 @@ module _ (rule : Rule) (fields : List Field) (slots : List (Option Value)) where
   distinct_from : (i : ℕ) (f : Field) → i < length fields → f ≡ get_or fields i f → AreDistinct (tags_of_components (components_view (drop i fields))) → AreDistinct (first_tags (field_view f).type ++ tags_of_components (components_view (drop (suc i) fields)))
   distinct_from i f l at distinct = subst (λ (c : Components). AreDistinct (tags_of_components c)) (components_from fields i f l at) distinct
 
-  pub absent_laid : (i : ℕ) (tagged : List Tagged) (old new : List ℕ) → i < length fields → i < length slots → None ≡ get_or slots i None → IsCanonical rule → SlotsConform (components_view fields) (slots_view slots)
+  pub absent_laid : (i : ℕ) (tagged : List (Keyed Tag)) (old new : List ℕ) → i < length fields → i < length slots → None ≡ get_or slots i None → IsCanonical rule → SlotsConform (components_view fields) (slots_view slots)
       → AreDistinct (tags_of_components (components_view (drop i fields))) → LaidTo rule fields slots i tagged old new → LaidTo rule fields slots (suc i) tagged old new
   absent_laid i tagged old new l k stands canonical conform distinct h =
       let e = element fields i l in
@@ -76,36 +77,36 @@ module _ (rule : Rule) (fields : List Field) (slots : List (Option Value)) where
             h.more rest (subst₂ (λ (c : Components) (s : Slots). AreTaggedOf rule c s rest) (sym (components_from fields i f l e.1)) (sym (slots_from_absent slots i k stands)) whole);
       }
 
-  pub present_laid : (i : ℕ) (f : Field) (v : Value) (tagged : List Tagged) (t : Tagged) (old mid new : List ℕ) → i < length fields → i < length slots → f ≡ get_or fields i f → Some v ≡ get_or slots i (Some v) → IsCanonical rule → IsPresent f (value_view v)
-      → AreDistinct (tags_of_components (components_view (drop i fields))) → LaidTo rule fields slots i tagged old mid → (a : IsPut (IsEncoding rule (ty_view f.ty) (value_view v)) mid new t.span) → IsOrderTag rule (ty_view f.ty) a.octets t.tag
+  pub present_laid : (i : ℕ) (f : Field) (v : Value) (tagged : List (Keyed Tag)) (t : Keyed Tag) (old mid new : List ℕ) → i < length fields → i < length slots → f ≡ get_or fields i f → Some v ≡ get_or slots i (Some v) → IsCanonical rule → IsPresent f (value_view v)
+      → AreDistinct (tags_of_components (components_view (drop i fields))) → LaidTo rule fields slots i tagged old mid → (a : IsPut (IsEncoding rule (ty_view f.ty) (value_view v)) mid new t.span) → IsOrderTag rule (ty_view f.ty) a.octets t.key
       → LaidTo rule fields slots (suc i) (tagged ++ t ∷ []) old new
   present_laid i f v tagged t old mid new l k at stands canonical is distinct h a order =
       let apart = distinct_from i f l at distinct in
       let encodes : IsEncoding rule (field_view f).type (value_view v) a.octets = subst (λ s. IsEncoding rule s (value_view v) a.octets) (sym (type_of_field f)) a.holds in
-      let ordered : IsOrderTag rule (field_view f).type a.octets t.tag = subst (λ s. IsOrderTag rule s a.octets t.tag) (sym (type_of_field f)) order in
-      let p : TaggedOctets = record { tag = t.tag; octets = a.octets } in
+      let ordered : IsOrderTag rule (field_view f).type a.octets t.key = subst (λ s. IsOrderTag rule s a.octets t.key) (sym (type_of_field f)) order in
+      let p : TaggedOctets = record { tag = t.key; octets = a.octets } in
       let before = octets_in h.parts in
       let pushed : octets_in (h.parts ++ p ∷ []) ≡ before ++ a.octets ∷ [] = map-append (λ (q : TaggedOctets). q.octets) h.parts (p ∷ []) in
       let was : length mid ≡ length old + length (concat before) = ap length h.is ∙ length-append old (concat before) in
       let now : length new ≡ length mid + length a.octets = ap length a.is ∙ length-append mid a.octets in
       record {
         parts = h.parts ++ p ∷ [];
-        tags = map-append (λ (s : Tagged). s.tag) tagged (t ∷ []) ∙ ap (λ r. r ++ t.tag ∷ []) h.tags ∙ sym (map-append (λ (q : TaggedOctets). q.tag) h.parts (p ∷ []));
-        cuts = subst₂ (Cuts (length old)) (sym (map-append (λ (s : Tagged). s.span) tagged (t ∷ []))) (sym pushed)
+        tags = map-append (λ (s : Keyed Tag). s.key) tagged (t ∷ []) ∙ ap (λ r. r ++ t.key ∷ []) h.tags ∙ sym (map-append (λ (q : TaggedOctets). q.tag) h.parts (p ∷ []));
+        cuts = subst₂ (Cuts (length old)) (sym (map-append (λ (s : Keyed Tag). s.span) tagged (t ∷ []))) (sym pushed)
             (cuts_push (length old) (spans_in tagged) before t.span a.octets h.cuts (omega (arith, a.start, was)) (omega (arith, a.start, a.end, now)));
         is = a.is ∙ ap (λ z. z ++ a.octets) h.is ∙ append_assoc old (concat before) a.octets ∙ ap (λ z. old ++ z) (sym (concat_push before a.octets) ∙ ap concat (sym pushed));
         more = λ rest r.
             let whole : AreTaggedOf rule (component (field_view f).name (field_view f).type (field_view f).requirement (components_view (drop (suc i) fields))) (present (value_view v) (slots_view (drop (suc i) slots))) (p ∷ rest) = record {
               encodings = Some a.octets ∷ r.encodings;
               each = (encodes, is.differs, r.each);
-              are = more_tagged rule (field_view f).name (field_view f).type (field_view f).requirement (components_view (drop (suc i) fields)) (value_view v) t.tag a.octets rest canonical apart encodes ordered r.are;
+              are = more_tagged rule (field_view f).name (field_view f).type (field_view f).requirement (components_view (drop (suc i) fields)) (value_view v) t.key a.octets rest canonical apart encodes ordered r.are;
               stand = ap (λ z. a.octets ∷ z) r.stand;
             } in
             subst (AreTaggedOf rule (components_view fields) (slots_view slots)) (sym (append_assoc h.parts (p ∷ []) rest))
             (h.more (p ∷ rest) (subst₂ (λ (c : Components) (s : Slots). AreTaggedOf rule c s (p ∷ rest)) (sym (components_from fields i f l at)) (sym (slots_from_present slots i v k stands)) whole));
       }
 
-  pub all_laid : (n : ℕ) (tagged : List Tagged) (old new : List ℕ) → n ≡ length slots → length slots ≡ length fields → (h : LaidTo rule fields slots n tagged old new) → AreTaggedOf rule (components_view fields) (slots_view slots) h.parts
+  pub all_laid : (n : ℕ) (tagged : List (Keyed Tag)) (old new : List ℕ) → n ≡ length slots → length slots ≡ length fields → (h : LaidTo rule fields slots n tagged old new) → AreTaggedOf rule (components_view fields) (slots_view slots) h.parts
   all_laid n tagged old new all same h =
       let none_left : drop n slots ≡ [] = ap (λ k. drop k slots) all ∙ drop_all slots in
       let none_there : drop n fields ≡ [] = ap (λ k. drop k fields) (all ∙ same) ∙ drop_all fields in
@@ -114,27 +115,27 @@ module _ (rule : Rule) (fields : List Field) (slots : List (Option Value)) where
       subst (AreTaggedOf rule (components_view fields) (slots_view slots)) (append-nil h.parts) (h.more [] none)
 
 -- what a tagged span means
-abbrev read_part : List ℕ → Tagged → TaggedOctets
-read_part buffer t = record { tag = t.tag; octets = part_of buffer t.span }
+abbrev read_part : List ℕ → Keyed Tag → TaggedOctets
+read_part buffer t = record { tag = t.key; octets = part_of buffer t.span }
 
-parts_read : (buffer : List ℕ) (ts : List Tagged) (ps : List TaggedOctets) → map (λ (t : Tagged). t.tag) ts ≡ map (λ (p : TaggedOctets). p.tag) ps → map (part_of buffer) (spans_in ts) ≡ octets_in ps → map (read_part buffer) ts ≡ ps
+parts_read : (buffer : List ℕ) (ts : List (Keyed Tag)) (ps : List TaggedOctets) → map (λ (t : Keyed Tag). t.key) ts ≡ map (λ (p : TaggedOctets). p.tag) ps → map (part_of buffer) (spans_in ts) ≡ octets_in ps → map (read_part buffer) ts ≡ ps
 parts_read buffer [] [] same is = refl
 parts_read buffer [] (p ∷ ps) same is = cc
 parts_read buffer (t ∷ ts) [] same is = cc
 parts_read buffer (t ∷ ts) (p ∷ ps) same is =
-    let tag : t.tag ≡ p.tag = cc same in
+    let tag : t.key ≡ p.tag = cc same in
     let here : part_of buffer t.span ≡ p.octets = cc is in
     let first : read_part buffer t ≡ p = λ i. record { tag = tag i; octets = here i } in
     let rest : map (read_part buffer) ts ≡ ps = parts_read buffer ts ps (cc same) (cc is) in
     ap (λ b. b ∷ map (read_part buffer) ts) first ∙ ap (λ r. p ∷ r) rest
 
-octets_read : (buffer : List ℕ) (ts : List Tagged) → map (part_of buffer) (spans_in ts) ≡ octets_in (map (read_part buffer) ts)
+octets_read : (buffer : List ℕ) (ts : List (Keyed Tag)) → map (part_of buffer) (spans_in ts) ≡ octets_in (map (read_part buffer) ts)
 octets_read buffer [] = refl
 octets_read buffer (t ∷ ts) = ap (λ r. part_of buffer t.span ∷ r) (octets_read buffer ts)
 
-tags_read : (buffer : List ℕ) (ts : List Tagged) → map (λ (t : Tagged). t.tag) ts ≡ map (λ (p : TaggedOctets). p.tag) (map (read_part buffer) ts)
+tags_read : (buffer : List ℕ) (ts : List (Keyed Tag)) → map (λ (t : Keyed Tag). t.key) ts ≡ map (λ (p : TaggedOctets). p.tag) (map (read_part buffer) ts)
 tags_read buffer [] = refl
-tags_read buffer (t ∷ ts) = ap (λ r. t.tag ∷ r) (tags_read buffer ts)
+tags_read buffer (t ∷ ts) = ap (λ r. t.key ∷ r) (tags_read buffer ts)
 
 tags_count : (ps : List TaggedOctets) → length (map (λ (p : TaggedOctets). p.tag) ps) ≡ length ps
 tags_count [] = refl
@@ -146,7 +147,7 @@ rises_pairs ps h = λ i j d less below before.
     let second = get_or-map (λ (p : TaggedOctets). p.tag) ps j d d.tag below in
     h i j d.tag less (omega (arith, tags_count ps)) (subst (λ x. ComesBefore x (get_or (map (λ (p : TaggedOctets). p.tag) ps) i d.tag)) (sym second) (subst (ComesBefore (get_or ps j d).tag) (sym first) before))
 
-module _ (rule : Rule) (fields : List Field) (slots : List (Option Value)) (tagged : List Tagged) (old mid : List ℕ) (i n : ℕ) (at : n ≡ length old) (h : LaidTo rule fields slots i tagged old mid) where
+module _ (rule : Rule) (fields : List Field) (slots : List (Option Value)) (tagged : List (Keyed Tag)) (old mid : List ℕ) (i n : ℕ) (at : n ≡ length old) (h : LaidTo rule fields slots i tagged old mid) where
   stands : map (part_of mid) (spans_in tagged) ≡ octets_in h.parts
   stands = cuts_read old (spans_in tagged) (octets_in h.parts) mid h.cuts h.is
 

@@ -4,12 +4,12 @@ use Rattle.canon.specs.Span.{part_of, key_of}
 use Rattle.canon.specs.declared.spans.Span.{Span}
 use Rattle.canon.specs.declared.spans.Keyed.{Keyed}
 
-abbrev pub with_key : List ℕ → Span → Keyed
+abbrev pub with_key : List ℕ → Span → Keyed ℕ
 with_key buffer span = record { key = key_of 16 (part_of buffer span); span = span }
 
-abbrev pub HasKey : List ℕ → Keyed → Type 0
+abbrev pub HasKey : List ℕ → Keyed ℕ → Type 0
 HasKey buffer one = one.key ≡ key_of 16 (part_of buffer one.span)
 
 -- what parts are compared by: the key, and the octets behind it
-abbrev pub compared : List ℕ → Keyed → List ℕ
+abbrev pub compared : List ℕ → Keyed ℕ → List ℕ
 compared buffer one = one.key ∷ drop 16 (part_of buffer one.span)

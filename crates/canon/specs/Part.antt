@@ -1,6 +1,7 @@
 -- Parts that were laid one after another in a buffer.
 use Rattle.std.specs.Prelude.{◌≡◌, ◌≤◌, ◌+◌, ⊤, ℕ, List, [], ◌∷◌, ◌++◌, length, take, map, IsPermutation}
 use Rattle.std.specs.List.{AllZip, concat}
+use Rattle.octets.specs.declared.tag.Tag.{Tag}
 use Rattle.octets.specs.Front.{Appends}
 use Rattle.types.specs.Shape.{Val}
 use Rattle.types.specs.Encoding.{Meaning}
@@ -8,7 +9,6 @@ use Rattle.types.specs.Order.{Ascends}
 use Rattle.canon.specs.Span.{part_of, key_of, RisesByTag}
 use Rattle.canon.specs.declared.spans.Span.{Span}
 use Rattle.canon.specs.declared.spans.Keyed.{Keyed}
-use Rattle.canon.specs.declared.spans.Tagged.{Tagged}
 
 -- octets of some kind were appended, where the span says
 pub record IsPut (IsOne : List ℕ → Type 0) (old new : List ℕ) (span : Span) : Type 0 where
@@ -26,7 +26,7 @@ Cuts from (s ∷ ss) [] = ⊥
 Cuts from (s ∷ ss) (p ∷ ps) = (s.start ≡ from) × (s.end ≡ from + length p) × Cuts (from + length p) ss ps
 
 -- encodings of items stand in a buffer, each with its key
-pub record AreLaid (IsItem : Meaning) (values : List Val) (parts : List Keyed) (old new : List ℕ) : Type 0 where
+pub record AreLaid (IsItem : Meaning) (values : List Val) (parts : List (Keyed ℕ)) (old new : List ℕ) : Type 0 where
   pub encodings : List (List ℕ)
   pub each : AllZip IsItem values encodings
   pub cuts : Cuts (length old) (map (λ part. part.span) parts) encodings
@@ -50,8 +50,8 @@ pub record IsArranged (from : ℕ) (spans : List Span) (old new : List ℕ) : Ty
   pub is : new ≡ take from old ++ concat (map (part_of old) order)
 
 -- the same by their tags
-pub record IsArrangedByTag (from : ℕ) (parts : List Tagged) (old new : List ℕ) : Type 0 where
-  pub order : List Tagged
+pub record IsArrangedByTag (from : ℕ) (parts : List (Keyed Tag)) (old new : List ℕ) : Type 0 where
+  pub order : List (Keyed Tag)
   pub permutes : IsPermutation parts order
-  pub rises : RisesByTag (map (λ part. part.tag) order)
+  pub rises : RisesByTag (map (λ part. part.key) order)
   pub is : new ≡ take from old ++ concat (map (part_of old) (map (λ part. part.span) order))

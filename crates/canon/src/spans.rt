@@ -22,20 +22,12 @@ pub(crate) struct Span {
     pub end: usize,
 }
 
-/// A part of a buffer with the tag that it is ordered by.
-#[derive(Clone, Copy, PartialEq, Eq)]
-pub(crate) struct Tagged {
-    /// The tag.
-    pub tag: Tag,
-    /// The part.
-    pub span: Span,
-}
-
-/// A part of a buffer, with the number by which it is sorted first.
+/// A part of a buffer, with what it is sorted by: of an item its first 16 octets as a number, of a component its
+/// tag.
 #[derive(Clone, Copy)]
-pub(crate) struct Keyed {
-    /// The first 16 octets, the most significant first, with zeros for those that are not there.
-    pub key: u128,
+pub(crate) struct Keyed<K> {
+    /// What it is sorted by.
+    pub key: K,
     /// The part.
     pub span: Span,
 }
@@ -49,8 +41,8 @@ pub(crate) fn part(buffer: &[u8], span: Span) -> &[u8]
     &buffer[start..end]
 }
 
-// A part with its key.
-pub(crate) fn with_key_of(buffer: &[u8], span: Span) -> Keyed
+// A part with the key of an item.
+pub(crate) fn with_key_of(buffer: &[u8], span: Span) -> Keyed<u128>
     ensures { result ≡ with_key buffer.now span }
 {
     Keyed {
@@ -65,7 +57,7 @@ pub(crate) fn arrange(
     alloc: Global,
     out: &mut Vec<u8>,
     from: usize,
-    parts: Vec<Keyed>,
+    parts: Vec<Keyed<u128>>,
 ) -> Result<(), NoMemory>
     requires cut { IsCutInto from (map (λ one. one.span) parts.items) out.old.items }
     requires keys { All (HasKey out.old.items) parts.items }
@@ -78,12 +70,11 @@ pub(crate) fn arrange(
     }
     let mut sorted = parts;
     sort_by_keys(out, &mut sorted);
-    let spans = spans_behind(alloc, &sorted)?;
-    join_again(alloc, out, from, &spans)
+    join_again(alloc, out, from, &sorted)
 }
 
 // Whether each part is at most the next.
-fn ascend(buffer: &[u8], parts: &[Keyed]) -> bool
+fn ascend(buffer: &[u8], parts: &[Keyed<u128>]) -> bool
     requires { All (HasKey buffer.now) parts.now }
     ensures { IsTrue result → Ascends (map (λ one. part_of buffer.now one.span) parts.now) }
 {
@@ -94,14 +85,7 @@ fn ascend(buffer: &[u8], parts: &[Keyed]) -> bool
     )
 }
 
-// The spans without their keys.
-fn spans_behind(alloc: Global, keyed: &[Keyed]) -> Result<Vec<Span>, NoMemory>
-    ensures { IfOk result (λ spans. spans.items ≡ map (λ one. one.span) keyed.now) }
-{
-    Ok(keyed.iter().map(|one| one.span).collect(alloc)?)
-}
-
-// The first 16 octets as a number, with zeros for those that are not there.
+// The first 16 octets as a number, the most significant first, with zeros for those that are not there.
 fn key(octets: &[u8]) -> u128
     ensures { result ≡ key_of 16 octets.now }
 {
@@ -117,7 +101,7 @@ fn key(octets: &[u8]) -> u128
 }
 
 // Puts parts in ascending order. Keys decide mostly: octets are read again only where those are equal.
-fn sort_by_keys(buffer: &[u8], keyed: &mut Vec<Keyed>)
+fn sort_by_keys(buffer: &[u8], keyed: &mut Vec<Keyed<u128>>)
     requires keys { All (HasKey buffer.now) keyed.old.items }
     ensures permutation { IsPermutation keyed.old.items keyed.new.items }
     ensures ascends { Ascends (map (λ one. part_of buffer.now one.span) keyed.new.items) }
@@ -130,7 +114,7 @@ fn sort_by_keys(buffer: &[u8], keyed: &mut Vec<Keyed>)
 }
 
 // Compares keys, and then what is behind them, if anything is.
-fn compare(buffer: &[u8], a: Keyed, b: Keyed) -> Ordering
+fn compare(buffer: &[u8], a: Keyed<u128>, b: Keyed<u128>) -> Ordering
     ensures { result ≡ slice_cmp nat_cmp (compared buffer.now a) (compared buffer.now b) }
 {
     if a.key != b.key {
@@ -161,7 +145,7 @@ pub(crate) fn arrange_by_tag(
     alloc: Global,
     out: &mut Vec<u8>,
     from: usize,
-    parts: Vec<Tagged>,
+    parts: Vec<Keyed<Tag>>,
 ) -> Result<(), NoMemory>
     requires { IsCutInto from (map (λ part. part.span) parts.items) out.old.items }
     ensures arranged { OnOk result (IsArrangedByTag from parts.items out.old.items out.new.items) }
@@ -171,36 +155,33 @@ pub(crate) fn arrange_by_tag(
         return Ok(());
     }
     let mut sorted = parts;
-    sorted.sort_unstable_by(|a, b| a.tag.order(b.tag));
-    let spans = spans_of(alloc, &sorted)?;
-    join_again(alloc, out, from, &spans)
+    sorted.sort_unstable_by(|a, b| a.key.order(b.key));
+    join_again(alloc, out, from, &sorted)
 }
 
 // Whether no tag comes before the one in front of it.
-fn rise(parts: &[Tagged]) -> bool
-    ensures { IsTrue result → RisesByTag (map (λ part. part.tag) parts.now) }
+fn rise(parts: &[Keyed<Tag>]) -> bool
+    ensures { IsTrue result → RisesByTag (map (λ part. part.key) parts.now) }
 {
-    parts.is_sorted_by(|a, b| !b.tag.order(a.tag).is_lt())
+    parts.is_sorted_by(|a, b| !b.key.order(a.key).is_lt())
 }
 
-// Where the parts stand.
-fn spans_of(alloc: Global, parts: &[Tagged]) -> Result<Vec<Span>, NoMemory>
-    ensures { IfOk result (λ spans. spans.items ≡ map (λ part. part.span) parts.now) }
-{
-    Ok(parts.iter().map(|part| part.span).collect(alloc)?)
-}
-
-// Puts the parts that the spans mean, one behind another, in the place of what stands from `from` on.
-fn join_again(alloc: Global, out: &mut Vec<u8>, from: usize, spans: &[Span]) -> Result<(), NoMemory>
+// Puts parts, one behind another, in the place of what stands from `from` on.
+fn join_again<K>(
+    alloc: Global,
+    out: &mut Vec<u8>,
+    from: usize,
+    parts: &[Keyed<K>],
+) -> Result<(), NoMemory>
     requires { from ≤ length out.old.items }
-    ensures joined { OnOk result
-        (out.new.items ≡ take from out.old.items ++ concat (map (part_of out.old.items) spans.now)) }
+    ensures joined { OnOk result (out.new.items ≡
+        take from out.old.items ++ concat (map (part_of out.old.items) (map (λ part. part.span) parts.now))) }
     ensures kept { OnErr result (Keeps (take from out.old.items) out.new.items) }
 {
     let mut moved = Vec::new(alloc);
     moved.reserve(out.len() - from)?;
-    for span in spans {
-        moved.extend_from_slice(part(out, *span))?;
+    for one in parts {
+        moved.extend_from_slice(part(out, one.span))?;
     }
     out.truncate(from);
     out.extend_from_slice(&moved)?;

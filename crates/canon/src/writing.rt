@@ -16,7 +16,7 @@ use crate::leaf::put_leaf;
 use crate::leaves::put_leaves;
 use crate::parts::{chosen_in, items_in, slots_in};
 use crate::rule::CanonicalRule;
-use crate::spans::{Span, Tagged, arrange, arrange_by_tag, part, with_key_of};
+use crate::spans::{Keyed, Span, arrange, arrange_by_tag, part, with_key_of};
 use crate::tags::order_tag;
 use octets::NoMemory;
 use std::alloc::Global;
@@ -192,7 +192,7 @@ fn put_by_tag(
         let ty = &fields[index].ty;
         let span = put_span(alloc, rule, ty, value, out)?;
         let tag = order_tag(rule, ty, part(out, span));
-        parts.push(Tagged { tag, span })?;
+        parts.push(Keyed { key: tag, span })?;
     }
     arrange_by_tag(alloc, out, from, parts)
 }

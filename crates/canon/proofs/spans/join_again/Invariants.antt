@@ -1,7 +1,6 @@
-use Rattle.std.proofs.Common.{◌≡◌, take, map}
-use Rattle.std.specs.List.{concat}
-use Rattle.canon.specs.Span.{part_of}
+use Rattle.std.proofs.Common.{◌≡◌, take}
+use Rattle.canon.proofs.PartLemmas.{joined}
 use Rattle.canon.proofs.spans.join_again.Given as goal
 
-abbrev pub invariant-loop-span : goal.invariant-loop-span
-invariant-loop-span l = l.moved.items ≡ concat (map (part_of l.out.items) (take l.span-index l.spans))
+abbrev pub invariant-loop-one : goal.invariant-loop-one
+invariant-loop-one g l = l.moved.items ≡ joined l.out.items (take l.one-index l.parts)

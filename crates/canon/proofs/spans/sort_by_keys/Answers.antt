@@ -12,5 +12,5 @@ pub returns-clause-ascends : goal.returns-clause-ascends
 returns-clause-ascends c =
     let buffer = c.args.buffer.now in
     let octets : All (λ d. d < 256) buffer = All-from_get_or {X = ℕ} (λ d. d < 256) buffer 0 (λ k below. omega (arith, c.type_inv.buffer k)) in
-    ascends_from_sort_by (compared buffer) (λ (one : Keyed). part_of buffer one.span) (HasKey buffer) _ (λ a b g h. compared_decides buffer octets b a h g)
+    ascends_from_sort_by (compared buffer) (λ (one : Keyed ℕ). part_of buffer one.span) (HasKey buffer) _ (λ a b g h. compared_decides buffer octets b a h g)
     (All-permutation (HasKey buffer) _ _ c.sort_unstable_by.ensures.permutation c.requires.keys) c.sort_unstable_by.ensures.sorted (λ a r g h. search rules)

@@ -1,5 +1,6 @@
 use Rattle.std.proofs.Common.{◌≡◌, ◌∙◌, ◌+◌, ◌<◌, ℕ, suc, List, [], ◌∷◌, ◌++◌, Option, Some, None, length, take, get_or, map, inl, inr, refl, sym, ap, subst, subst₂, arith, rules}
 use Rattle.std.proofs.lemmas.List.{take_all}
+use Rattle.octets.specs.declared.tag.Tag.{Tag}
 use Rattle.octets.specs.Front.{Appends}
 use Rattle.octets.proofs.ResultLemmas.{OnOk-map}
 use Rattle.types.specs.declared.ty.Ty.{Ty}
@@ -15,7 +16,6 @@ use Rattle.types.specs.Shape.{Shape, Slots, Val}
 use Rattle.types.specs.View.{ty_view, value_view, components_view}
 use Rattle.types.proofs.ViewLemmas.{ty-Sequence, ty-Set, ty-SequenceOf, ty-SetOf, ty-Choice, ty-Explicit}
 use Rattle.canon.specs.declared.spans.Keyed.{Keyed}
-use Rattle.canon.specs.declared.spans.Tagged.{Tagged}
 use Rattle.canon.specs.Keyed.{with_key}
 use Rattle.canon.specs.Node.{HasGoodNodes, ArePartsOf, AreItems, AreItemsInOrder, AreComponents, AreComponentsByTag}
 use Rattle.canon.specs.Part.{AreLaid, IsPut, Keeps}
@@ -234,7 +234,7 @@ put_in_order-loop-item-preserved t c =
     let span = c.in_ok-span.span in
     let one : c.with_key_of.result ≡ with_key new span = c.with_key_of.ensures ∙ ap (λ (b : List ℕ). with_key b span) c.deref.ensures.value in
     let laid = laid_more IsItem items i c.item-item.result c.loop-item.parts.items (with_key new span) old c.loop-item.out.items new (omega arith) c.item-item.is c.loop-item.invariant c.in_ok-span.ensures.put refl in
-    subst (λ (ps : List Keyed). AreLaid IsItem (map value_view (take (i + 1) items)) ps old new) (sym (c.in_ok-push.ensures.items ∙ ap (λ p. c.loop-item.parts.items ++ p ∷ []) one)) laid
+    subst (λ (ps : List (Keyed ℕ)). AreLaid IsItem (map value_view (take (i + 1) items)) ps old new) (sym (c.in_ok-push.ensures.items ∙ ap (λ p. c.loop-item.parts.items ++ p ∷ []) one)) laid
 
 pub put_in_order-arrange-requires : goal.put_in_order-arrange-requires
 put_in_order-arrange-requires t c =
@@ -273,7 +273,7 @@ pub put_by_tag-loop-index-init : goal.put_by_tag-loop-index-init
 put_by_tag-loop-index-init t c =
     let rule = rule_of c.args.rule in
     let old = c.args.out.now.items in
-    subst (λ (ts : List Tagged). LaidTo rule c.args.fields.now c.args.slots.now 0 ts old old) (sym (c.in_ok-reserve.ensures.items ∙ c.new-parts.ensures.items)) (none_laid_by_tag rule c.args.fields.now c.args.slots.now old)
+    subst (λ (ts : List (Keyed Tag)). LaidTo rule c.args.fields.now c.args.slots.now 0 ts old old) (sym (c.in_ok-reserve.ensures.items ∙ c.new-parts.ensures.items)) (none_laid_by_tag rule c.args.fields.now c.args.slots.now old)
 
 pub put_by_tag-put_span-requires : goal.put_by_tag-put_span-requires
 put_by_tag-put_span-requires t c =
@@ -327,9 +327,9 @@ put_by_tag-loop-index-preserved t c =
     let tag = c.order_tag-tag.result in
     let ordered = subst (λ (g : Field). IsOrderTag rule (ty_view g.ty) c.part.result.now tag) (sym at) (c.order_tag-tag.ensures (value_view v) encodes) in
     let order : IsOrderTag rule (ty_view f.ty) put.octets tag = subst (λ (b : List ℕ). IsOrderTag rule (ty_view f.ty) b tag) stood ordered in
-    let t : Tagged = record { tag = tag; span = span } in
+    let t : Keyed Tag = record { key = tag; span = span } in
     let laid = present_laid rule fields slots i f v c.loop-index.parts.items t old mid new there here at stands (rule_is_canonical c.args.rule) is (distinct_drop fields i c.requires.distinct) c.loop-index.invariant put order in
-    subst₂ (λ n (ts : List Tagged). LaidTo rule fields slots n ts old new) next (sym c.in_ok-push.ensures.items) laid
+    subst₂ (λ n (ts : List (Keyed Tag)). LaidTo rule fields slots n ts old new) next (sym c.in_ok-push.ensures.items) laid
 
 pub put_by_tag-arrange_by_tag-requires : goal.put_by_tag-arrange_by_tag-requires
 put_by_tag-arrange_by_tag-requires t c =
