@@ -1,14 +1,14 @@
 -- Lemmas on octets that are compared by the number of the first ones.
-use Rattle.std.proofs.Common.{◌≡◌, ◌∙◌, inl, inr, ◌+◌, ◌-◌, ◌*◌, ◌^◌, ◌<◌, ◌≤◌, ℕ, zero, suc, List, [], ◌∷◌, length, drop, get_or, map, refl, sym, ap, subst, arith, All, drop-cons}
+use Rattle.std.proofs.Common.{◌≡◌, ◌∙◌, inl, inr, ◌+◌, ◌-◌, ◌*◌, ◌^◌, ◌%◌, ◌<◌, ◌≤◌, ℕ, zero, suc, List, [], ◌∷◌, length, min, drop, get_or, map, refl, sym, ap, subst, arith, All, drop-cons}
 use Rattle.std.specs.Ordering.{nat_cmp, ordering_then, MatchOrdering}
 use Rattle.std.specs.Cmp.{ranked}
 use Rattle.std.specs.Cmp.Lexicographic.{slice_cmp}
 use Rattle.std.specs.declared.cmp.Ordering.{Ordering}
 use Rattle.std.specs.declared.cmp.Ordering.TheVariants.{Less, Equal, Greater}
-use Rattle.std.proofs.Math.Nat.{add-mul, mul_assoc, one-le-pow, pow-zero, pow-suc}
+use Rattle.std.proofs.Math.Nat.{add-mul, mul_assoc, mod-eq_of_lt, one-le-pow, pow-zero, pow-suc}
 use Rattle.std.proofs.Math.Seq.{drop-nil}
 use Rattle.std.proofs.lemmas.List.{drop_all, length-take}
-use Rattle.std.proofs.lemmas.Nat.{mul-add-lt}
+use Rattle.std.proofs.lemmas.Nat.{mul-add-lt, pow-add}
 use Rattle.octets.proofs.DigitLemmas.{All-tail, mul-above}
 use Rattle.types.specs.Order.{IsPaddedAtMost}
 use Rattle.canon.specs.Span.{part_of, key_of}
@@ -75,22 +75,12 @@ key_of-same (suc k) (x ∷ xs) (y ∷ ys) h g same rest =
 abbrev pub IsRead : List ℕ → ℕ → ℕ → Type 0
 IsRead xs i number = number * 256 ^ (16 - i) + key_of (16 - i) (drop i xs) ≡ key_of 16 xs
 
--- the octet there, or a zero
+-- the octet there
 abbrev pub IsOctet : List ℕ → ℕ → ℕ → Type 0
 IsOctet xs i d = (d < 256) × ((left : ℕ) → key_of (suc left) (drop i xs) ≡ d * 256 ^ left + key_of left (drop (suc i) xs))
 
 pub octet_there : (xs : List ℕ) (i d : ℕ) → i < length xs → d ≡ get_or xs i 0 → d < 256 → IsOctet xs i d
 octet_there xs i d there at small = (small, λ left. ap (key_of (suc left)) (drop-cons xs i 0 there) ∙ ap (λ k. k * 256 ^ left + key_of left (drop (suc i) xs)) (sym at))
-
-pub octet_absent : (xs : List ℕ) (i d : ℕ) → length xs ≤ i → d ≡ 0 → IsOctet xs i d
-octet_absent xs i d none zero_is = (
-  omega (arith, zero_is),
-  λ left.
-      let was : key_of (suc left) (drop i xs) ≡ 0 = ap (key_of (suc left)) (drop_all i xs none) in
-      let is : key_of left (drop (suc i) xs) ≡ 0 = ap (key_of left) (drop_all (suc i) xs (omega (arith, none))) ∙ key_of-nil left in
-      let nothing : d * 256 ^ left ≡ 0 * 256 ^ left = ap (λ k. k * 256 ^ left) zero_is in
-      omega (arith, was, is, nothing),
-)
 
 read_step : (number d P : ℕ) → (number * 256 + d) * P ≡ number * (P * 256) + d * P
 read_step number d P =
@@ -120,6 +110,25 @@ read_fits xs i number d below octets h one =
     let above = mul-above (number * 256 + d) (256 ^ (15 - i)) (omega (arith, some)) in
     let most : key_of 16 xs < 2 ^ 128 = key_of-below 16 xs octets in
     omega (arith, whole, above, most)
+
+no_octets_behind : (left i : ℕ) (xs : List ℕ) → (1 ≤ left → length xs ≤ i) → key_of left (drop i xs) ≡ 0
+no_octets_behind zero i xs h = refl
+no_octets_behind (suc left) i xs h = ap (key_of (suc left)) (drop_all i xs (h (omega arith)))
+
+octets_as_bits : (n : ℕ) → 256 ^ n ≡ 2 ^ (8 * n)
+octets_as_bits zero = refl
+octets_as_bits (suc n) =
+    let bits : 8 * suc n ≡ 8 * n + 8 = omega arith in
+    rw (pow-suc 256 n, octets_as_bits n, bits, pow-add 2 (8 * n) 8) refl
+
+-- zeros stand for the octets that are not there
+pub read_shifted : (xs : List ℕ) (i there number : ℕ) → there ≡ min (length xs) 16 → i ≡ there → All (λ o. o < 256) xs → IsRead xs i number → (number * 2 ^ (8 * (16 - there))) % 2 ^ 128 ≡ key_of 16 xs
+read_shifted xs i there number is end octets h =
+    let none : key_of (16 - i) (drop i xs) ≡ 0 = no_octets_behind (16 - i) i xs (λ some. omega (arith, some, is, end)) in
+    let power : 2 ^ (8 * (16 - there)) ≡ 256 ^ (16 - i) = ap (λ j. 2 ^ (8 * (16 - j))) (sym end) ∙ sym (octets_as_bits (16 - i)) in
+    let same : number * 2 ^ (8 * (16 - there)) ≡ number * 256 ^ (16 - i) = ap (λ k. number * k) power in
+    let whole : number * 2 ^ (8 * (16 - there)) ≡ key_of 16 xs = omega (arith, same, h, none) in
+    ap (λ k. k % 2 ^ 128) whole ∙ mod-eq_of_lt (key_of-below 16 xs octets)
 
 -- what parts are compared by decides their order
 pub compared_decides : (buffer : List ℕ) → All (λ d. d < 256) buffer → (a b : Keyed ℕ) → HasKey buffer a → HasKey buffer b → IsPaddedAtMost (compared buffer b) (compared buffer a) → IsPaddedAtMost (part_of buffer b.span) (part_of buffer a.span)

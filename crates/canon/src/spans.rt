@@ -90,14 +90,14 @@ fn key(octets: &[u8]) -> u128
     ensures { result ≡ key_of 16 octets.now }
 {
     let there = octets.len().min(16);
+    if there == 0 {
+        return 0;
+    }
     let mut number = 0u128;
     for i in 0..there {
         number = number * 256 + u128::from(octets[i]);
     }
-    for _ in there..16 {
-        number *= 256;
-    }
-    number
+    number << (8 * (16 - there))
 }
 
 // Puts parts in ascending order. Keys decide mostly: octets are read again only where those are equal.

@@ -1,8 +1,8 @@
-use Rattle.std.proofs.Common.{◌≡◌, ◌+◌, ◌*◌, ◌^◌, ◌<◌, ℕ, All, get_or, refl, subst, arith}
+use Rattle.std.proofs.Common.{◌+◌, ◌*◌, ◌^◌, ◌<◌, ℕ, All, get_or, refl, arith}
 use Rattle.std.proofs.lemmas.List.Elements.{All-from_get_or}
-use Rattle.canon.proofs.KeyLemmas.{IsRead, IsOctet, octet_there, octet_absent, read_more, read_fits}
+use Rattle.canon.proofs.KeyLemmas.{IsOctet, octet_there, read_more, read_fits, read_shifted}
 use Rattle.canon.proofs.spans.key.Goals as goal
-use Rattle.canon.proofs.spans.key.Goals.{In-loop-i, In-loop}
+use Rattle.canon.proofs.spans.key.Goals.{In-loop-i}
 
 -- the octet that is read, and room for it
 octet_read : (c : In-loop-i) → IsOctet c.args.octets.now c.loop-i.i (get_or c.args.octets.now c.loop-i.i 0)
@@ -14,10 +14,6 @@ number_fits c =
     let octets : All (λ d. d < 256) xs = All-from_get_or {X = ℕ} (λ d. d < 256) xs 0 (λ k below. omega (arith, c.type_inv.octets k)) in
     read_fits xs c.loop-i.i c.loop-i.number (get_or c.args.octets.now c.loop-i.i 0) (omega (arith, c.min-there.ensures)) octets c.loop-i.invariant (octet_read c)
 
--- none behind the last one
-octet_missing : (c : In-loop) → IsOctet c.args.octets.now c.loop.counter 0
-octet_missing c = octet_absent c.args.octets.now c.loop.counter 0 (omega (arith, c.min-there.ensures)) (omega arith)
-
 pub overflow_add-number : goal.overflow_add-number
 overflow_add-number c = omega (arith, number_fits (goal.at.overflow_add-number c).In-loop-i, c.from.ensures)
 
@@ -28,13 +24,8 @@ pub loop-i-preserved : goal.loop-i-preserved
 loop-i-preserved c =
     rw c.from.ensures (read_more c.args.octets.now c.loop-i.i c.loop-i.number (get_or c.args.octets.now c.loop-i.i 0) (omega (arith, c.min-there.ensures)) c.loop-i.invariant (octet_read (goal.at.loop-i-preserved c).In-loop-i))
 
-pub overflow_mul-number-in-loop : goal.overflow_mul-number-in-loop
-overflow_mul-number-in-loop c =
+pub returns : goal.returns
+returns c =
     let xs = c.args.octets.now in
     let octets : All (λ d. d < 256) xs = All-from_get_or {X = ℕ} (λ d. d < 256) xs 0 (λ k below. omega (arith, c.type_inv.octets k)) in
-    omega (arith, read_fits xs c.loop.counter c.loop.number 0 (omega arith) octets c.loop.invariant (octet_missing c))
-
-pub loop-preserved : goal.loop-preserved
-loop-preserved c =
-    let same : c.loop.number * 256 + 0 ≡ c.loop.number * 256 = omega arith in
-    subst (λ k. IsRead c.args.octets.now (c.loop.counter + 1) k) same (read_more c.args.octets.now c.loop.counter c.loop.number 0 (omega arith) c.loop.invariant (octet_missing c))
+    read_shifted xs c.loop-i.i c.min-there.result c.loop-i.number c.min-there.ensures (omega (arith, c.loop-i-test.false, c.loop-i.auto.i-end)) octets c.loop-i.invariant
