@@ -12,6 +12,14 @@ pub fn put_base_128(out: &mut Vec<u8>, number: u128) -> Result<(), NoMemory>
     ensures appended { OnOk result (Appends (IsBase128 number) out.old.items out.new.items) }
     ensures unchanged { OnErr result (out.new.items ≡ out.old.items) }
 {
+    if number < 0x80 {
+        out.push(number as u8)?;
+        return Ok(());
+    }
+    if number < 0x4000 {
+        out.extend_from_slice(&[0x80 + (number / 128) as u8, (number % 128) as u8])?;
+        return Ok(());
+    }
     // The octets come from the last to the first, and stand at the end of the room for nineteen.
     let mut room = [0u8; 19];
     let mut start = 18usize;

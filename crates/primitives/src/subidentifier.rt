@@ -11,6 +11,10 @@ pub fn read_subidentifier(octets: &[u8]) -> Option<(u128, usize)>
     ensures value { IfSome result (λ read. IsReadSubidentifier octets.now read.0 read.1) }
     ensures none { IfNone result ((number : ℕ) → number < 2 ^ 128 → ¬ HasFront (IsBase128 number) octets.now) }
 {
+    let first = *octets.first()?;
+    if first < 0x80 {
+        return Some((u128::from(first), 1));
+    }
     let mut number = 0u128;
     for (i, octet) in octets.iter().enumerate() {
         if i == 0 && *octet == 0x80 {

@@ -1,6 +1,7 @@
-use Rattle.std.proofs.Common.{◌≡◌, ◌-◌, ℕ, List, refl, ◌∙◌, ap, subst, arith, ◌++◌, drop, take, replicate}
+use Rattle.std.proofs.Common.{◌≡◌, ◌-◌, ◌+◌, ◌/◌, ◌%◌, ℕ, List, [], ◌∷◌, refl, ◌∙◌, ap, subst, arith, ◌++◌, drop, take, replicate}
 use Rattle.std.proofs.lemmas.List.{take_all, length-drop}
 use Rattle.octets.proofs.Base128SpellingLemmas.{IsBase128Spelling, IsBase128Spelling-last, IsBase128Spelling-step, IsBase128-from_spelling}
+use Rattle.octets.proofs.Base128Lemmas.{base_128-pair}
 use Rattle.octets.proofs.base_128.put_base_128.Goals as goal
 
 pub loop-rest-init : goal.loop-rest-init
@@ -10,6 +11,11 @@ loop-rest-init c =
 pub loop-rest-preserved : goal.loop-rest-preserved
 loop-rest-preserved c = IsBase128Spelling-step c.args.number c.loop-rest.rest c.loop-rest.start c.loop-rest.room c.loop-rest.invariant c.loop-rest-test.true
 
+pub returns-then-number-lt16384-clause-appended : goal.returns-then-number-lt16384-clause-appended
+returns-then-number-lt16384-clause-appended c =
+    let n = c.args.number in
+    ((128 + n / 128) ∷ (n % 128) ∷ [], c.in_ok-extend_from_slice.ensures.items, base_128-pair n (omega arith) (omega arith))
+
 pub returns-clause-appended : goal.returns-clause-appended
 returns-clause-appended c =
     let at = c.loop-rest.start in
@@ -18,6 +24,6 @@ returns-clause-appended c =
     let done : c.loop-rest.rest ≡ 0 = omega arith in
     let spelling = subst (λ r. IsBase128Spelling c.args.number r at spelt) done c.loop-rest.invariant in (
       drop at spelt,
-      c.in_ok-extend_from_slice.ensures.items ∙ ap (λ x. c.args.out.now.items ++ x) whole,
+      c.in_ok-extend_from_slice-2.ensures.items ∙ ap (λ x. c.args.out.now.items ++ x) whole,
       IsBase128-from_spelling c.args.number at spelt spelling,
     )
