@@ -1,13 +1,16 @@
 -- Lemmas on what writers leave.
-use Rattle.std.proofs.Common.{◌≡◌, ◌++◌, ℕ, List, Ok, Err, OnOk, OnErr, IsErrAnd, sym, subst₂}
+use Rattle.std.proofs.Common.{◌≡◌, ◌<◌, ◌++◌, ℕ, List, length, arith, Ok, Err, OnOk, OnErr, IsErrAnd, sym, subst₂}
+use Rattle.std.proofs.lemmas.List.Sorted.{IsPermutation-refl}
 use Rattle.std.specs.declared.result.Result.{Result}
 use Rattle.octets.specs.declared.no_memory.NoMemory.{NoMemory}
 use Rattle.octets.specs.declared.tag.Tag.{Tag}
 use Rattle.octets.specs.Front.{Appends}
 use Rattle.octets.specs.Rule.{Rule}
+use Rattle.types.specs.Encoding.{Meaning}
 use Rattle.types.specs.Form.{IsConstructed}
+use Rattle.types.proofs.ZipLemmas.{zip_length}
 use Rattle.types.specs.Shape.{Shape, Val}
-use Rattle.canon.specs.Node.{IsAround, ArePartsOf}
+use Rattle.canon.specs.Node.{AreItems, AreItemsInOrder, IsAround, ArePartsOf}
 use Rattle.canon.specs.Opening.{IsOpening}
 use Rattle.canon.specs.Part.{Keeps}
 use Rattle.canon.specs.Writes.{Writes}
@@ -35,3 +38,14 @@ written_around r rule tag P Q place old one two new h a f closed left = record {
 -- contents octets, of a type and a value that are known
 pub put_as : {shape known : Shape} {v w : Val} {r : Result (Unit {0}) NoMemory} {old new : List ℕ} (rule : Rule) → shape ≡ known → v ≡ w → Writes (ArePartsOf rule known w) r old new → Writes (ArePartsOf rule shape v) r old new
 put_as {r = r} {old = old} {new = new} rule is same h = subst₂ (λ (s : Shape) (u : Val). Writes (ArePartsOf rule s u) r old new) (sym is) (sym same) h
+
+-- of one item there is nothing to order
+pub few_in_order : (IsItem : Meaning) (values : List Val) (octets : List ℕ) → length values < 2 → AreItems IsItem values octets → AreItemsInOrder IsItem values octets
+few_in_order IsItem values octets few h = record {
+  encodings = h.encodings;
+  each = h.each;
+  order = h.encodings;
+  permutes = IsPermutation-refl h.encodings;
+  ascends = λ i j d before behind. absurd (omega (arith, before, behind, few, zip_length IsItem values h.encodings h.each));
+  joined = h.joined;
+}

@@ -121,7 +121,7 @@ fn put_items(
     Ok(())
 }
 
-// Appends the encodings of items in ascending order.
+// Appends the encodings of items in ascending order. Of one item there is nothing to order.
 #[cycle(writing)]
 fn put_in_order(
     alloc: Global,
@@ -134,6 +134,9 @@ fn put_in_order(
     ensures { Writes (AreItemsInOrder (IsEncoding (rule_of rule) (ty_view ty.now)) (map value_view items.now))
         result out.old.items out.new.items }
 {
+    if items.len() < 2 {
+        return put_items(alloc, rule, ty, items, out);
+    }
     let from = out.len();
     let mut parts = Vec::new(alloc);
     parts.reserve(items.len())?;

@@ -1,5 +1,5 @@
 use Rattle.std.proofs.Common.{◌≡◌, ◌∙◌, ◌+◌, ◌<◌, ℕ, suc, List, [], ◌∷◌, ◌++◌, Option, Some, None, length, take, get_or, map, inl, inr, refl, sym, ap, subst, subst₂, arith, rules}
-use Rattle.std.proofs.lemmas.List.{take_all}
+use Rattle.std.proofs.lemmas.List.{length-map, take_all}
 use Rattle.octets.specs.declared.tag.Tag.{Tag}
 use Rattle.octets.specs.Front.{Appends}
 use Rattle.octets.proofs.ResultLemmas.{OnOk-map}
@@ -36,7 +36,7 @@ use Rattle.canon.proofs.ForwardLemmas.{chosen_in_choice}
 use Rattle.canon.proofs.TagPutLemmas.{LaidTo, none_laid_by_tag, present_laid, absent_laid, all_laid, tagged_cut, by_tag_made, distinct_drop}
 use Rattle.canon.proofs.TyLemmas.{framed_view, leaf_of}
 use Rattle.canon.proofs.WritableLemmas.{stands_at, item_writable, part_writable}
-use Rattle.canon.proofs.WritesLemmas.{written_by, refused, written_around, put_as}
+use Rattle.canon.proofs.WritesLemmas.{few_in_order, written_by, refused, written_around, put_as}
 use Rattle.canon.proofs.writing.+writing.Goals as goal
 
 -- no value in a slot
@@ -219,6 +219,12 @@ pub put_components-returns-in_err-put_value : goal.put_components-returns-in_err
 put_components-returns-in_err-put_value t c =
     let so_far = c.loop-place.invariant in
     refused _ c.from_residual.ensures.1 (keeps_chain c.args.out.now.items c.loop-place.out.items c.put_value.new.out.items (so_far.0, so_far.1, tt) c.in_err-put_value.ensures.kept)
+
+pub put_in_order-returns-then-items-lt2 : goal.put_in_order-returns-then-items-lt2
+put_in_order-returns-then-items-lt2 t c =
+    let items = c.args.items.now in
+    let few : length (map value_view items) < 2 = omega (arith, c.if-items-lt2.true, length-map items value_view) in
+    written_by c.put_items.ensures (λ octets. few_in_order (IsEncoding (rule_of c.args.rule) (ty_view c.args.ty.now)) (map value_view items) octets few)
 
 pub put_in_order-put_span-requires : goal.put_in_order-put_span-requires
 put_in_order-put_span-requires t c =
