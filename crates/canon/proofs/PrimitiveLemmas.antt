@@ -1,12 +1,15 @@
 -- Lemmas on primitive encodings with the shortest length.
-use Rattle.std.proofs.Common.{◌≡◌, ◌∙◌, ◌+◌, ◌-◌, ◌≤◌, ℕ, ℤ, ◌<◌, ◌^◌, List, [], ◌∷◌, ◌++◌, false, length, drop, set, refl, sym, ap, inl, arith, subst, append_assoc, length-append}
+use Rattle.std.proofs.Common.{◌≡◌, ◌∙◌, ◌+◌, ◌-◌, ◌/◌, ◌%◌, ◌≤◌, ℕ, ℤ, ◌<◌, ◌^◌, List, [], ◌∷◌, ◌++◌, false, length, drop, set, refl, sym, ap, inl, inr, arith, subst, append_assoc, length-append}
 use Rattle.std.proofs.lemmas.List.{drop-set, length-set}
+use Rattle.std.proofs.lemmas.List.Elements.{All-nil, All-cons}
 use Rattle.octets.specs.declared.TheConstants.{MAX_TAG_NUMBER}
 use Rattle.octets.specs.declared.tag.Tag.{Tag}
 use Rattle.octets.specs.Front.{Appends}
 use Rattle.octets.specs.Identifier.{class_bits}
 use Rattle.octets.specs.Length.{IsShortestLength}
 use Rattle.octets.specs.Rule.{cer}
+use Rattle.octets.specs.Base128.{IsBase128}
+use Rattle.octets.proofs.Base128Lemmas.{base_128-pair}
 use Rattle.octets.proofs.IdentifierOctetsLemmas.{identifier}
 use Rattle.octets.proofs.LengthLemmas.{IsShortestLength-short}
 use Rattle.octets.proofs.ShortestLemmas.{shortest_length}
@@ -43,6 +46,34 @@ short_head tag n first low few is =
       sized = IsShortestLength-short n few;
       joined = refl;
     }
+
+-- a head whose tag's number follows the leading octet
+high_head : (tag : Tag) (n first : ℕ) (digits : List ℕ) → 31 ≤ tag.number → n < 128 → first ≡ class_bits tag.class + 31 → IsBase128 tag.number digits → IsPrimitiveHead tag n (first ∷ (digits ++ n ∷ []))
+high_head tag n first digits high few is number =
+    let spelt : first ≡ class_bits tag.class + 0 + 31 = omega (arith, is) in
+    record {
+      identifier = first ∷ digits;
+      size = n ∷ [];
+      tagged = inr record { high = high; following = digits; number = number; spelt = ap (λ m. m ∷ digits) spelt };
+      sized = IsShortestLength-short n few;
+      joined = refl;
+    }
+
+pub high_head_one : (tag : Tag) (n first : ℕ) → 31 ≤ tag.number → tag.number < 128 → n < 128 → first ≡ class_bits tag.class + 31 → IsPrimitiveHead tag n (first ∷ (tag.number % 128) ∷ n ∷ [])
+high_head_one tag n first high low few is =
+    let d = tag.number % 128 in
+    let same : d ≡ tag.number = omega (arith, low) in
+    high_head tag n first (d ∷ []) high few is record {
+      digits = d ∷ [];
+      below_128 = All-cons (λ x. x < 128) d [] (omega arith) (All-nil (λ x. x < 128));
+      at_least_one = omega arith;
+      no_leading_zero = λ two. absurd (omega (arith, two));
+      value = omega (arith, same);
+      spelt = refl;
+    }
+
+pub high_head_two : (tag : Tag) (n first : ℕ) → 128 ≤ tag.number → tag.number < 16384 → n < 128 → first ≡ class_bits tag.class + 31 → IsPrimitiveHead tag n (first ∷ (128 + tag.number / 128) ∷ (tag.number % 128) ∷ n ∷ [])
+high_head_two tag n first high low few is = high_head tag n first ((128 + tag.number / 128) ∷ (tag.number % 128) ∷ []) (omega (arith, high)) few is (base_128-pair tag.number high low)
 
 -- a head with the contents octets of a number behind it
 pub number_made : (tag : Tag) (number : ℤ) (n : ℕ) (head contents : List ℕ) → IsPrimitiveHead tag n head → length contents ≡ n → IsInteger number contents → IsNumberEncoding tag number (head ++ contents)

@@ -36,8 +36,30 @@ pub(crate) fn put_primitive_head(
 fn put_long_primitive_head(tag: Tag, contents: usize, out: &mut Vec<u8>) -> Result<(), NoMemory>
     ensures { Writes (IsPrimitiveHead tag contents) result out.old.items out.new.items }
 {
+    if 31 <= tag.number && tag.number < 0x4000 && contents < 0x80 {
+        return put_high_head(tag, contents as u8, out);
+    }
     put_identifier(out, tag, false)?;
     put_shortest_length(out, contents)
+}
+
+// Appends a head of which the tag's number has one digit or two behind the leading octet, and the length one octet.
+fn put_high_head(tag: Tag, contents: u8, out: &mut Vec<u8>) -> Result<(), NoMemory>
+    requires high { 31 ≤ tag.number }
+    requires short { tag.number < 16384 }
+    requires few { contents < 128 }
+    ensures appended { OnOk result (Appends (IsPrimitiveHead tag contents) out.old.items out.new.items) }
+    ensures unchanged { OnErr result (out.new.items ≡ out.old.items) }
+{
+    let first = class_octet(tag.class) + 0x1F;
+    let last = (tag.number % 128) as u8;
+    if tag.number < 0x80 {
+        out.extend_from_slice(&[first, last, contents])?;
+        return Ok(());
+    }
+    let more = 0x80 + (tag.number / 128) as u8;
+    out.extend_from_slice(&[first, more, last, contents])?;
+    Ok(())
 }
 
 // Appends two octets: mostly there is room for them.
@@ -69,13 +91,19 @@ pub(crate) fn leading_octet(tag: Tag) -> u8
     requires { tag.number ≤ 30 }
     ensures { result ≡ class_bits tag.class + tag.number }
 {
-    let class = match tag.class {
+    class_octet(tag.class) + tag.number as u8
+}
+
+// Bits 8 and 7 of a leading octet, and zeros.
+fn class_octet(class: Class) -> u8
+    ensures { result ≡ class_bits class }
+{
+    match class {
         Class::Universal => 0x00,
         Class::Application => 0x40,
         Class::Context => 0x80,
         Class::Private => 0xC0,
-    };
-    class + tag.number as u8
+    }
 }
 
 // Appends end-of-contents octets (X.690 8.1.5).
