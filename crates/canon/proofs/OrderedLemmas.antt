@@ -218,6 +218,6 @@ items_sorted type buffer vs placed sorted values h moved up is =
     let whole : AreItemsOrderedFrom type vs (map views sorted) = record {
       same = record { order = places.0; permutes = places.1; each = zip_map (IsOrderedFrom type) (IsSame type) (λ x y o. o.same) places.0 (map views sorted) each };
       each = all_zip (IsOrderedFrom type) (IsOrdered type) (λ x y o. o.ordered) places.0 (map views sorted) each;
-      order = record { encodings = map (λ (p : Placed). part_of buffer p.span) sorted; each = values_encode type buffer places.0 sorted places.2; ascends = up };
+      order = inr record { encodings = map (λ (p : Placed). part_of buffer p.span) sorted; each = values_encode type buffer places.0 sorted places.2; ascends = up };
     } in
     subst (AreItemsOrderedFrom type vs) (sym (ap (map value_view) is ∙ map-map value_view (λ (p : Placed). p.value) sorted)) whole

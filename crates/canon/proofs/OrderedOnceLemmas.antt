@@ -1,6 +1,7 @@
 -- Lemmas on values in order: two that are the same are equal.
 use Rattle.std.specs.List.{AllByRecursion, AllZip}
-use Rattle.std.proofs.Common.{◌≡◌, ◌⊎◌, inl, inr, ℕ, zero, suc, List, [], ◌∷◌, refl, sym, ap, ap₂, subst, arith, Contains, IsPermutation}
+use Rattle.std.proofs.Common.{◌≡◌, ◌≤◌, ◌⊎◌, inl, inr, ℕ, zero, suc, length, List, [], ◌∷◌, refl, sym, ap, ap₂, subst, arith, Contains, IsPermutation}
+use Rattle.std.proofs.lemmas.List.Sorted.{Contains-permutation, length_permutation}
 use Rattle.octets.specs.Rule.{der}
 use Rattle.octets.proofs.RuleLemmas.{der_is_canonical}
 use Rattle.types.specs.Shape.{Val, Slots, no_slot, absent, present, Items, no_item, item, listed, Shape, Components, no_component, component, Alternatives, no_alternative, alternative}
@@ -13,13 +14,13 @@ use Rattle.types.proofs.BeginningLemmas.{all_zip}
 use Rattle.types.proofs.BerLemmas.{encoding_by_ber}
 use Rattle.types.proofs.DepthLemmas.{canonical_nested}
 use Rattle.types.proofs.EncodingLemmas.{AreWell, well_within, well_left, well_right, value_unique}
-use Rattle.types.proofs.ListLemmas.{not_in_nil, contains_cases}
+use Rattle.types.proofs.ListLemmas.{not_in_nil, contains_cases, contains_first}
 use Rattle.types.proofs.OneEncodingLemmas.{one_encoding}
 use Rattle.types.proofs.OrderLemmas.{nested_tie}
 use Rattle.types.proofs.SameLemmas.{encoding_moves, same_sym}
 use Rattle.types.proofs.SortedLemmas.{sorted_unique}
-use Rattle.types.proofs.ZipLemmas.{zip_trans, zip_flip, zip_join, zip_permutes}
-use Rattle.canon.specs.Ordered.{IsOrdered, AreOrderedSlots, IsOrderedAlternative, AreInOrder}
+use Rattle.types.proofs.ZipLemmas.{zip_trans, zip_flip, zip_join, zip_length, zip_permutes}
+use Rattle.canon.specs.Ordered.{IsOrdered, AreOrderedSlots, IsOrderedAlternative, AreInOrder, AreAscending}
 use Rattle.canon.specs.Laws.{EqualInOrderExactlyIfSame}
 use Rattle.canon.proofs.SameValueLemmas.{same_trans}
 
@@ -52,9 +53,25 @@ all_contained P (y ∷ ys) x h c = found (contains_cases y x ys c) (λ later. al
     found (inl same) more = subst P same h.0
     found (inr later) more = more later
 
--- items in order are related one by one
-items_pair : (type : Shape) (vs ws : List Val) → AreWell (nodes_of type) → AreSameInSomeOrder (IsSame type) vs ws → AreInOrder (IsEncoding der type) vs → AreInOrder (IsEncoding der type) ws → AllZip (IsSame type) vs ws
-items_pair type vs ws well same p q =
+-- one item has one order
+one_moved : (vs order : List Val) → length vs ≤ 1 → IsPermutation vs order → vs ≡ order
+one_moved [] [] few moved = refl
+one_moved [] (x ∷ order) few moved = absurd (omega (arith, length_permutation [] (x ∷ order) moved))
+one_moved (v ∷ []) [] few moved = absurd (omega (arith, length_permutation (v ∷ []) [] moved))
+one_moved (v ∷ []) (x ∷ []) few moved = ap (λ y. y ∷ []) (only (contains_cases x v [] (Contains-permutation (v ∷ []) (x ∷ []) v moved (contains_first v v [] refl))))
+  where
+    only : (x ≡ v) ⊎ Contains [] v → v ≡ x
+    only (inl same) = sym same
+    only (inr later) = absurd (not_in_nil v later)
+one_moved (v ∷ []) (x ∷ y ∷ order) few moved = absurd (omega (arith, length_permutation (v ∷ []) (x ∷ y ∷ order) moved))
+one_moved (v ∷ w ∷ vs) order few moved = absurd (omega (arith, few))
+
+few_pair : (type : Shape) (vs ws : List Val) → length vs ≤ 1 → AreSameInSomeOrder (IsSame type) vs ws → AllZip (IsSame type) vs ws
+few_pair type vs ws few same = subst (λ xs. AllZip (IsSame type) xs ws) (sym (one_moved vs same.order few same.permutes)) same.each
+
+-- items that ascend are related one by one
+ascending_pair : (type : Shape) (vs ws : List Val) → AreWell (nodes_of type) → AreSameInSomeOrder (IsSame type) vs ws → AreAscending (IsEncoding der type) vs → AreAscending (IsEncoding der type) ws → AllZip (IsSame type) vs ws
+ascending_pair type vs ws well same p q =
     let Encodes = IsEncoding der type in
     let moved = zip_permutes (λ c x. Encodes x c) p.encodings vs same.order (zip_flip Encodes vs p.encodings p.each) same.permutes in
     let others = zip_trans (λ y x. IsSame type x y) Encodes Encodes (λ y x c s f. encoding_moves der type x y c well.defaults s f) ws same.order moved.0 (zip_flip (IsSame type) same.order ws same.each) (zip_flip (λ c x. Encodes x c) moved.0 same.order moved.2) in
@@ -65,6 +82,12 @@ items_pair type vs ws well same p q =
     let equal : p.encodings ≡ q.encodings = sorted_unique IsPaddedAtMost p.encodings q.encodings permuted p.ascends q.ascends
     (λ a b m n below above. nested_tie (suc (levels_of type)) (suc (levels_of type)) a b (all_contained (IsNested (suc (levels_of type))) p.encodings a nested m) (all_contained (IsNested (suc (levels_of type))) p.encodings b nested n) below above) in
     zip_join Encodes Encodes (IsSame type) (λ x y c h g. value_unique type x y c well (encoding_by_ber der type x c h) (encoding_by_ber der type y c g)) vs ws q.encodings (subst (AllZip Encodes vs) equal p.each) q.each
+
+-- items in order are related one by one
+items_pair : (type : Shape) (vs ws : List Val) → AreWell (nodes_of type) → AreSameInSomeOrder (IsSame type) vs ws → AreInOrder (IsEncoding der type) vs → AreInOrder (IsEncoding der type) ws → AllZip (IsSame type) vs ws
+items_pair type vs ws well same (inl few) q = few_pair type vs ws few same
+items_pair type vs ws well same (inr p) (inl few) = few_pair type vs ws (omega (arith, few, length_permutation vs same.order same.permutes, zip_length (IsSame type) same.order ws same.each)) same
+items_pair type vs ws well same (inr p) (inr q) = ascending_pair type vs ws well same p q
 
 mutual
   pub ordered_once : (type : Shape) (v w : Val) → AreWell (nodes_of type) → IsSame type v w → IsOrdered type v → IsOrdered type w → v ≡ w

@@ -1,5 +1,5 @@
 -- Values whose SET OF items stand in the order of their encodings under DER (X.690 11.6).
-use Rattle.std.specs.Prelude.{⊤, ℕ, zero, suc, List}
+use Rattle.std.specs.Prelude.{⊤, ◌⊎◌, ◌≤◌, ℕ, zero, suc, List, length}
 use Rattle.std.specs.List.{AllByRecursion, AllZip}
 use Rattle.octets.specs.Rule.{der}
 use Rattle.types.specs.Shape.{Val, Slots, no_slot, absent, present, listed, Shape, Components, no_component, component, Alternatives, no_alternative, alternative}
@@ -10,10 +10,14 @@ use Rattle.types.specs.Same.{IsSame, AreSameSlots, AreSameInSomeOrder}
 use Rattle.canon.specs.Node.{HasGoodNodes, HaveGoodNodes}
 
 -- the encodings of the items ascend
-pub record AreInOrder (IsItem : Meaning) (values : List Val) : Type 0 where
+pub record AreAscending (IsItem : Meaning) (values : List Val) : Type 0 where
   pub encodings : List (List ℕ)
   pub each : AllZip IsItem values encodings
   pub ascends : Ascends encodings
+
+-- there is at most one item, or they ascend
+abbrev pub AreInOrder : Meaning → List Val → Type 0
+AreInOrder IsItem values = (length values ≤ 1) ⊎ AreAscending IsItem values
 
 -- the items of each SET OF, at any depth, are in order
 abbrev mutual

@@ -1,6 +1,6 @@
 -- Lemmas on values whose items are in order since there are none to be put in order.
 use Rattle.std.specs.List.{AllByRecursion}
-use Rattle.std.proofs.Common.{◌≡◌, ◌<◌, ◌≤◌, ◌+◌, ◌∙◌, ℕ, zero, suc, List, [], ◌∷◌, Option, Some, None, length, get_or, drop, map, sym, ap, subst, subst₂, arith}
+use Rattle.std.proofs.Common.{◌≡◌, inl, ◌<◌, ◌≤◌, ◌+◌, ◌∙◌, ℕ, zero, suc, List, [], ◌∷◌, Option, Some, None, length, get_or, drop, map, sym, ap, subst, subst₂, arith}
 use Rattle.std.proofs.lemmas.List.{drop_all}
 use Rattle.octets.specs.declared.tag.Tag.{Tag}
 use Rattle.types.specs.declared.ty.Ty.{Ty}
@@ -9,8 +9,6 @@ use Rattle.types.specs.declared.ty.Alternative.{Alternative}
 use Rattle.types.specs.declared.value.Value.{Value}
 use Rattle.types.specs.Shape.{Val, Shape, listed}
 use Rattle.types.specs.View.{AlternativeView, ty_view, value_view, slots_view, items_view, components_view, alternative_view, alternatives_view}
-use Rattle.types.specs.Order.{IsPaddedAtMost}
-use Rattle.types.proofs.ListLemmas.{AllPairs-nil}
 use Rattle.types.proofs.LoopLemmas.{left_at}
 use Rattle.types.proofs.ViewLemmas.{alternative_is, listed-items_view}
 use Rattle.canon.specs.Ordered.{IsOrdered, AreOrderedSlots, IsOrderedAlternative}
@@ -58,5 +56,5 @@ items_along t u vs ws p q h = subst (AllByRecursion (IsOrdered (ty_view t))) (sy
 
 -- no items are in order
 pub none_ordered : (tag : Tag) (type : Shape) (xs : List Value) → length xs ≡ 0 → IsOrdered (Shape.set_of tag type) (Val.items (items_view xs))
-none_ordered tag type [] none = (tt, record { encodings = []; each = tt; ascends = AllPairs-nil IsPaddedAtMost })
+none_ordered tag type [] none = (tt, inl (omega arith))
 none_ordered tag type (x ∷ xs) none = absurd (omega (arith, none))

@@ -1,5 +1,5 @@
 -- Worked texts, held against the definition of the text of a value.
-use Rattle.std.proofs.Common.{◌≡◌, ℕ, ℤ, pos, negsuc, Bool, true, false, List, [], ◌∷◌, ◌∙◌, ◌++◌, codes, decimal, append-nil, get_or, refl, sym, ap, ap₂, arith}
+use Rattle.std.proofs.Common.{◌≡◌, ℕ, ℤ, pos, negsuc, Bool, true, false, List, [], ◌∷◌, ◌∙◌, ◌++◌, codes, decimal, append-nil, get_or, inr, refl, sym, ap, ap₂, arith}
 use Rattle.std.proofs.lemmas.Fmt.{decimal_digit, decimal_step}
 use Rattle.octets.specs.declared.tag.Class.TheVariants.{Universal, Context}
 use Rattle.octets.specs.declared.tag.Tag.{Tag}
@@ -208,7 +208,7 @@ set_of_535 = record {
   same = record { order = listed (three_items 3 5 5); permutes = turned (number (pos 5)) (number (pos 3)) (number (pos 5) ∷ []); each = (refl, (refl, (refl, tt))) };
   ascends = (
     (tt, (tt, (tt, tt))),
-    record {
+    inr record {
       encodings = (0x02 ∷ 0x01 ∷ 0x03 ∷ []) ∷ (0x02 ∷ 0x01 ∷ 0x05 ∷ []) ∷ (0x02 ∷ 0x01 ∷ 0x05 ∷ []) ∷ [];
       each = (small der 3 (omega arith) refl, (small der 5 (omega arith) refl, (small der 5 (omega arith) refl, tt)));
       ascends = three_ascend (0x02 ∷ 0x01 ∷ 0x03 ∷ []) (0x02 ∷ 0x01 ∷ 0x05 ∷ []) (0x02 ∷ 0x01 ∷ 0x05 ∷ []) three_five three_five (padded_refl (0x02 ∷ 0x01 ∷ 0x05 ∷ []));
