@@ -2,6 +2,7 @@
 use Rattle.std.specs.List.{AllByRecursion, AllZip}
 use Rattle.std.proofs.Common.{◌≡◌, ◌⊎◌, inl, inr, ◌+◌, ◌-◌, ◌<◌, ◌≤◌, ℕ, zero, suc, List, [], ◌∷◌, ◌++◌, Option, Some, None, Vec, Global, length, take, drop, get_or, map, refl, sym, ap, ◌∙◌, subst, arith, append_assoc, append-nil, length-append, IsPermutation}
 use Rattle.std.proofs.lemmas.List.{take_more, map-append}
+use Rattle.std.proofs.lemmas.List.Sorted.{IsPermutation-refl}
 use Rattle.std.proofs.lemmas.Simd.{map-map}
 use Rattle.octets.specs.Rule.{der}
 use Rattle.octets.specs.declared.tag.Tag.{Tag}
@@ -19,7 +20,7 @@ use Rattle.types.specs.Same.{IsSame, IsSameAlternative}
 use Rattle.types.proofs.BeginningLemmas.{all_zip}
 use Rattle.types.proofs.ListLemmas.{all_append}
 use Rattle.types.proofs.ViewLemmas.{alternative_is}
-use Rattle.types.proofs.ZipLemmas.{zip_map, zip_permutes}
+use Rattle.types.proofs.ZipLemmas.{zip_length, zip_map, zip_permutes}
 use Rattle.canon.specs.declared.ordering.Placed.{Placed}
 use Rattle.canon.specs.declared.spans.Span.{Span}
 use Rattle.canon.specs.Leaf.{IsLeafOf}
@@ -221,3 +222,11 @@ items_sorted type buffer vs placed sorted values h moved up is =
       order = inr record { encodings = map (λ (p : Placed). part_of buffer p.span) sorted; each = values_encode type buffer places.0 sorted places.2; ascends = up };
     } in
     subst (AreItemsOrderedFrom type vs) (sym (ap (map value_view) is ∙ map-map value_view (λ (p : Placed). p.value) sorted)) whole
+
+-- of one item there is nothing to sort
+pub few_sorted : (type : Shape) (vs ws : List Val) → length vs < 2 → AllZip (IsOrderedFrom type) vs ws → AreItemsOrderedFrom type vs ws
+few_sorted type vs ws few h = record {
+  same = record { order = vs; permutes = IsPermutation-refl vs; each = zip_map (IsOrderedFrom type) (IsSame type) (λ x y o. o.same) vs ws h };
+  each = all_zip (IsOrderedFrom type) (IsOrdered type) (λ x y o. o.ordered) vs ws h;
+  order = inl (omega (arith, few, zip_length (IsOrderedFrom type) vs ws h));
+}

@@ -123,6 +123,9 @@ fn sort_items(alloc: Global, ty: &Ty, items: &[Value]) -> Result<Vec<Value>, NoM
     ensures { IfOk result (λ ordered.
         AreItemsOrderedFrom (ty_view ty.now) (map value_view items.now) (map value_view ordered.items)) }
 {
+    if items.len() < 2 {
+        return order_items(alloc, ty, items);
+    }
     let mut octets = Vec::new(alloc);
     let mut placed = Vec::new(alloc);
     placed.reserve(items.len())?;

@@ -1,7 +1,7 @@
--- Lemmas on values whose items are in order since there are none to be put in order.
+-- Lemmas on values whose items are in order since there is at most one in each list that is put in order.
 use Rattle.std.specs.List.{AllByRecursion}
 use Rattle.std.proofs.Common.{◌≡◌, inl, ◌<◌, ◌≤◌, ◌+◌, ◌∙◌, ℕ, zero, suc, List, [], ◌∷◌, Option, Some, None, length, get_or, drop, map, sym, ap, subst, subst₂, arith}
-use Rattle.std.proofs.lemmas.List.{drop_all}
+use Rattle.std.proofs.lemmas.List.{drop_all, length-map}
 use Rattle.octets.specs.declared.tag.Tag.{Tag}
 use Rattle.types.specs.declared.ty.Ty.{Ty}
 use Rattle.types.specs.declared.ty.Field.{Field}
@@ -54,7 +54,6 @@ slots_along fs gs ss rs p q h = subst₂ SlotsOrdered p q h
 pub items_along : (t u : Ty) (vs ws : List Value) → u ≡ t → ws ≡ vs → ItemsOrdered (ty_view u) ws → AllByRecursion (IsOrdered (ty_view t)) (listed (items_view vs))
 items_along t u vs ws p q h = subst (AllByRecursion (IsOrdered (ty_view t))) (sym (listed-items_view vs)) (subst₂ (λ (s : Ty) xs. ItemsOrdered (ty_view s) xs) p q h)
 
--- no items are in order
-pub none_ordered : (tag : Tag) (type : Shape) (xs : List Value) → length xs ≡ 0 → IsOrdered (Shape.set_of tag type) (Val.items (items_view xs))
-none_ordered tag type [] none = (tt, inl (omega arith))
-none_ordered tag type (x ∷ xs) none = absurd (omega (arith, none))
+-- one item is in order
+pub few_ordered : (tag : Tag) (type : Shape) (xs : List Value) → length xs < 2 → AllByRecursion (IsOrdered type) (listed (items_view xs)) → IsOrdered (Shape.set_of tag type) (Val.items (items_view xs))
+few_ordered tag type xs few h = (h, inl (omega (arith, few, ap length (listed-items_view xs), length-map xs value_view)))

@@ -1,4 +1,4 @@
-//! Values that have no item in any SET OF.
+//! Values that have at most one item in each SET OF.
 
 ghost use Rattle.std.specs.Prelude.{◌∷◌, [], IsTrue, map};
 ghost use Rattle.std.specs.List.{AllByRecursion};
@@ -7,7 +7,7 @@ ghost use Rattle.canon.specs.Ordered.{IsOrdered, AreOrderedSlots, IsOrderedAlter
 
 use types::{Alternative, Field, Ty, Value};
 
-// Whether `value` is one of the type with no item in any SET OF, so that all of them are in order. It is
+// Whether `value` is one of the type with at most one item in each SET OF, so that all of them are in order. It is
 // not told whether a part without parts is one of its type. Takes no memory.
 #[cycle(plain)]
 pub(crate) fn is_plain(ty: &Ty, value: &Value) -> bool
@@ -21,7 +21,7 @@ pub(crate) fn is_plain(ty: &Ty, value: &Value) -> bool
         (Ty::Sequence(_, fields), Value::Fields(slots)) => are_plain(fields, slots),
         (Ty::Set(_, fields), Value::Fields(slots)) => are_plain(fields, slots),
         (Ty::SequenceOf(_, inner), Value::Items(items)) => all_plain(inner, items),
-        (Ty::SetOf(_, _), Value::Items(items)) => items.is_empty(),
+        (Ty::SetOf(_, inner), Value::Items(items)) => items.len() < 2 && all_plain(inner, items),
         (Ty::Choice(alternatives), Value::Chosen(which, inner)) => {
             alternative_plain(alternatives, *which, inner)
         }

@@ -17,8 +17,8 @@ use types::{Value, WellTyped};
 /// The text of a value, which conforms to `ty`. The items of a SET OF stand in ascending order of their
 /// DER encodings, so that the same values have one text (`same_values_have_one_text`).
 ///
-/// A value with no item in any SET OF is printed as it is; any other is copied first, as `canon::order`
-/// does it.
+/// A value with at most one item in each SET OF is printed as it is; any other is copied first, as
+/// `canon::order` does it.
 pub fn show(alloc: Global, ty: &WellTyped, value: &Value) -> Result<String, NoMemory>
     requires { Conforms (ty_view ty.now) (value_view value.now) }
     ensures { IfOk result (λ text. IsShown (ty_view ty.now) (value_view value.now) (string_bytes text)) }

@@ -1,6 +1,6 @@
 use Rattle.std.specs.List.{AllByRecursion, AllZip}
 use Rattle.std.proofs.Common.{◌≡◌, ◌∙◌, ◌+◌, ◌<◌, ℕ, List, Option, Some, None, Vec, Global, inl, inr, length, take, get_or, map, sym, ap, subst, subst₂, arith, rules}
-use Rattle.std.proofs.lemmas.List.{take_all}
+use Rattle.std.proofs.lemmas.List.{length-map, take_all}
 use Rattle.types.specs.declared.ty.Ty.{Ty}
 use Rattle.types.specs.declared.ty.Ty as node
 use Rattle.types.specs.declared.ty.Field.{Field}
@@ -20,7 +20,7 @@ use Rattle.canon.specs.Ordered.{IsOrderedFrom, AreOrderedFrom, AreItemsOrderedFr
 use Rattle.canon.specs.Span.{part_of}
 use Rattle.canon.proofs.NodeLemmas.{choice_parts, has_items, has_slots}
 use Rattle.octets.proofs.ResultLemmas.{IfOk-map}
-use Rattle.canon.proofs.OrderedLemmas.{slotted_view, OrderedUpTo, IsPlaced, alternative_defaults, field_defaults, chosen_ordered, record_ordered, list_ordered, set_list_ordered, present_ordered, absent_ordered, slots_ordered, item_ordered, item_placed, items_sorted}
+use Rattle.canon.proofs.OrderedLemmas.{slotted_view, OrderedUpTo, IsPlaced, alternative_defaults, field_defaults, chosen_ordered, record_ordered, list_ordered, set_list_ordered, present_ordered, absent_ordered, slots_ordered, item_ordered, item_placed, items_sorted, few_sorted}
 use Rattle.canon.proofs.SameValueLemmas.{same_conforms}
 use Rattle.canon.proofs.StepLemmas.{item_conforms, as_many_slots, present_at}
 use Rattle.canon.proofs.WritableLemmas.{stands_at}
@@ -164,6 +164,12 @@ pub sort_items-order_value-requires : goal.sort_items-order_value-requires
 sort_items-order_value-requires t c =
     let conforms = item_conforms (ty_view c.args.ty.now) c.args.items.now c.loop-item.item-index c.item-item.result (omega arith) c.item-item.is c.requires.conform in
     (search (rules, node.the_lemmas), (c.requires.sound, conforms))
+
+pub sort_items-returns-then-items-lt2 : goal.sort_items-returns-then-items-lt2
+sort_items-returns-then-items-lt2 t c =
+    let items = c.args.items.now in
+    let few : length (map value_view items) < 2 = omega (arith, c.if-items-lt2.true, length-map items value_view) in
+    IfOk-map c.order_items.result _ _ (λ ordered h. few_sorted (ty_view c.args.ty.now) (map value_view items) (map value_view ordered.items) few h) c.order_items.ensures
 
 pub sort_items-put_span-requires : goal.sort_items-put_span-requires
 sort_items-put_span-requires t c =

@@ -1,8 +1,8 @@
-use Rattle.std.proofs.Common.{◌≡◌, ◌∙◌, eqb-true, vec_len, sym, ap, arith}
+use Rattle.std.proofs.Common.{◌∙◌, ◌<◌, length, sym, ap, arith}
 use Rattle.std.proofs.lemmas.Bool.{ltb-true}
 use Rattle.types.specs.View.{ty_view, value_view}
 use Rattle.types.proofs.ViewLemmas.{ty-Sequence, ty-Set, ty-SequenceOf, ty-SetOf, value-Fields, value-Items}
-use Rattle.texts.proofs.PlainLemmas.{items_go_on, items_end, slots_go_on, slots_end, alternative_ordered, none_ordered, ordered_along, slots_along, items_along}
+use Rattle.texts.proofs.PlainLemmas.{items_go_on, items_end, slots_go_on, slots_end, alternative_ordered, few_ordered, ordered_along, slots_along, items_along}
 use Rattle.texts.proofs.plain.+plain.Goals as goal
 
 pub alternative_plain-returns-in-Some : goal.alternative_plain-returns-in-Some
@@ -28,11 +28,12 @@ is_plain-returns-in-SequenceOf-Items t c = λ yes.
     ordered_along _ _ _ _ (ap ty_view arm.is-0 ∙ ty-SequenceOf arm.field-0-0 arm.inner) (ap value_view arm.is-1 ∙ value-Items arm.items)
     (items_along _ _ _ _ c.deref-in-SequenceOf-Items.ensures c.deref-in-SequenceOf-Items-2.ensures.value (c.all_plain.ensures yes))
 
-pub is_plain-returns-in-SetOf-Items : goal.is_plain-returns-in-SetOf-Items
-is_plain-returns-in-SetOf-Items t c = λ yes.
+pub is_plain-returns-then-len-lt2 : goal.is_plain-returns-then-len-lt2
+is_plain-returns-then-len-lt2 t c = λ yes.
     let arm = c.in-SetOf-Items in
-    let none : vec_len arm.items ≡ 0 = eqb-true _ _ (sym c.is_empty.ensures ∙ yes) in
-    ordered_along _ _ _ _ (ap ty_view arm.is-0 ∙ ty-SetOf arm.field-0-0 arm.field-1-0) (ap value_view arm.is-1 ∙ value-Items arm.items) (none_ordered arm.field-0-0 (ty_view arm.field-1-0.value) arm.items.items (omega (arith, arm.items.ok.0, none)))
+    let few : length arm.items.items < 2 = omega (arith, arm.items.ok.0, c.if-len-lt2.true, c.len.ensures) in
+    ordered_along _ _ _ _ (ap ty_view arm.is-0 ∙ ty-SetOf arm.field-0-0 arm.inner) (ap value_view arm.is-1 ∙ value-Items arm.items)
+    (few_ordered arm.field-0-0 (ty_view arm.inner.value) arm.items.items few (items_along _ _ _ _ c.deref-then-len-lt2.ensures c.deref-then-len-lt2-2.ensures.value (c.all_plain-then-len-lt2.ensures yes)))
 
 pub are_plain-loop-i-preserved : goal.are_plain-loop-i-preserved
 are_plain-loop-i-preserved t c =
