@@ -380,8 +380,8 @@ ready_popped old mid layer octets v used h value there e =
       smaller = omega (arith, ap length h.layers);
     }
 
--- at its end an open encoding has a value
-abbrev pub value_ended : (old mid : Nest) (layer : Layer) (octets : List ℕ) → IsPopped old mid layer → EndsInside (layers_of old.layers) old.taken octets → CanFinish old octets → (v : Val) × IsValueOf layer.parts v
+-- at its end an open encoding is not without a value
+abbrev pub value_ended : (old mid : Nest) (layer : Layer) (octets : List ℕ) → IsPopped old mid layer → EndsInside (layers_of old.layers) old.taken octets → CanFinish old octets → ((v : Val) → IsValueOf layer.parts v → ⊥) → ⊥
 value_ended old mid layer octets h e f =
     let shape = ty_view old.ty.now in
     let others = layers_of mid.layers in

@@ -1,15 +1,15 @@
 -- Lemmas on what may still come of an open encoding: the next part, or its end.
 use Rattle.std.specs.List.{AllByRecursion, AllZip, concat}
-use Rattle.std.proofs.Common.{◌≡◌, ◌≢◌, ◌⊎◌, inl, inr, ℕ, suc, Bool, true, false, List, [], ◌∷◌, ◌++◌, Option, Some, None, refl, sym, ◌∙◌, subst, drop, map, length, arith, IsPermutation, Contains, append-nil}
+use Rattle.std.proofs.Common.{◌≡◌, ◌≢◌, ◌⊎◌, inl, inr, ℕ, suc, List, [], ◌∷◌, ◌++◌, Option, Some, None, refl, sym, ◌∙◌, subst, drop, map, length, arith, IsPermutation, Contains, append-nil}
 use Rattle.std.proofs.lemmas.List.Sorted.{IsPermutation-refl, IsPermutation-sym, IsPermutation-trans, IsPermutation-cons, IsPermutation-swap, Contains-permutation, length_permutation}
-use Rattle.types.specs.Shape.{Val, Shape}
+use Rattle.types.specs.Shape.{Val, Requirement, required, optional, default, Shape}
 use Rattle.types.specs.View.{ComponentView, slots_of, items_of}
 use Rattle.types.specs.Conforms.{MayBeAbsent}
 use Rattle.types.specs.Encoding.{standing}
 use Rattle.types.proofs.ListLemmas.{not_in_nil, contains_first, contains_cases}
 use Rattle.types.proofs.NestingLemmas.{nested_above}
 use Rattle.types.proofs.BeginningLemmas.{all_permutation}
-use Rattle.encoding_parts.specs.Parts.{Parts, SetComponent, IsPart, IsNextOf, IsVacant, IsDue, IsLeft, IsLeftOfSetComponent, IsRunLeft, CanFill, taken_set_component, once_come, IsValueOf}
+use Rattle.encoding_parts.specs.Parts.{Parts, SetComponent, IsPart, IsNextOf, IsVacant, IsDue, IsLeft, IsLeftOfSetComponent, IsRunLeft, CanFill, taken_set_component, once_come, IsSlotOf, IsSettled, IsValueOf}
 use Rattle.encoding_parts.proofs.OthersLemmas.{permutation_others}
 
 -- the contents octets begin with a part that is due, and what follows it completes the rest
@@ -58,12 +58,12 @@ record IsSetComponentStep (levels : ℕ) (set_components : List SetComponent) (e
 
 -- an encoding stands for a component that has not come alone
 record IsVacantSetComponent (levels : ℕ) (s : SetComponent) (octets : List ℕ) : Type 0 where
-  vacant : s.came ≡ false
+  vacant : s.come ≡ None
   part : IsPart levels s.component.type octets
 
-vacant_set_component : (levels : ℕ) (component : ComponentView) (slot : Option Val) (came : Bool) (octets : List ℕ) → IsLeftOfSetComponent levels record { component = component; slot = slot; came = came } (Some octets) → IsVacantSetComponent levels record { component = component; slot = slot; came = came } octets
-vacant_set_component levels component slot true octets h = cc
-vacant_set_component levels component slot false octets h = record { vacant = refl; part = h }
+vacant_set_component : (levels : ℕ) (component : ComponentView) (come : Option Val) (octets : List ℕ) → IsLeftOfSetComponent levels record { component = component; come = come } (Some octets) → IsVacantSetComponent levels record { component = component; come = come } octets
+vacant_set_component levels component None octets h = record { vacant = refl; part = h }
+vacant_set_component levels component (Some value) octets h = cc
 
 set_component_passed : (levels : ℕ) (s : SetComponent) (set_components : List SetComponent) (encodings : List (Option (List ℕ))) (octets : List ℕ) → IsLeftOfSetComponent levels s None → IsSetComponentStep levels set_components encodings octets → IsSetComponentStep levels (s ∷ set_components) (None ∷ encodings) octets
 set_component_passed levels s set_components encodings octets h step =
@@ -90,7 +90,7 @@ set_component_step levels (s ∷ set_components) (Some here ∷ encodings) octet
   where
     set_component_of : (here ≡ octets) ⊎ Contains (standing encodings) octets → (Contains (standing encodings) octets → IsSetComponentStep levels set_components encodings octets) → IsSetComponentStep levels (s ∷ set_components) (Some here ∷ encodings) octets
     set_component_of (inl same) more =
-        let vacant = vacant_set_component levels s.component s.slot s.came here h.0 in
+        let vacant = vacant_set_component levels s.component s.come here h.0 in
         record {
           which = 0;
           type = s.component.type;
@@ -155,7 +155,7 @@ set_components_not_empty levels [] (encoding ∷ encodings) h = elim h [ ]
 set_components_not_empty levels (s ∷ set_components) [] h = elim h [ ]
 set_components_not_empty levels (s ∷ set_components) (None ∷ encodings) h = set_components_not_empty levels set_components encodings h.1
 set_components_not_empty levels (s ∷ set_components) (Some octets ∷ encodings) h =
-    let vacant = vacant_set_component levels s.component s.slot s.came octets h.0 in
+    let vacant = vacant_set_component levels s.component s.come octets h.0 in
     (λ e. part_not_empty levels s.component.type (subst (IsPart levels s.component.type) e vacant.part), set_components_not_empty levels set_components encodings h.1)
 
 none_joined : (order : List (List ℕ)) → AllByRecursion (λ x. x ≢ []) order → [] ≡ concat order → length order ≡ 0
@@ -163,24 +163,39 @@ none_joined [] h e = refl
 none_joined ([] ∷ order) h e = absurd (h.0 refl)
 none_joined ((octet ∷ octets) ∷ order) h e = cc
 
-absent_set_component : (levels : ℕ) (component : ComponentView) (slot : Option Val) (came : Bool) → IsLeftOfSetComponent levels record { component = component; slot = slot; came = came } None → came ≡ false → MayBeAbsent component.requirement
-absent_set_component levels component slot true h e = cc
-absent_set_component levels component slot false h e = h
+absent_set_component : (levels : ℕ) (component : ComponentView) (come : Option Val) → IsLeftOfSetComponent levels record { component = component; come = come } None → come ≡ None → MayBeAbsent component.requirement
+absent_set_component levels component None h e = h
+absent_set_component levels component (Some value) h e = cc
 
-set_end : (levels : ℕ) (set_components : List SetComponent) (encodings : List (Option (List ℕ))) → AllZip (IsLeftOfSetComponent levels) set_components encodings → length (standing encodings) ≡ 0 → AllByRecursion (λ s. s.came ≡ false → MayBeAbsent s.component.requirement) set_components
+set_end : (levels : ℕ) (set_components : List SetComponent) (encodings : List (Option (List ℕ))) → AllZip (IsLeftOfSetComponent levels) set_components encodings → length (standing encodings) ≡ 0 → AllByRecursion (λ s. s.come ≡ None → MayBeAbsent s.component.requirement) set_components
 set_end levels [] encodings h e = tt
 set_end levels (s ∷ set_components) [] h e = elim h [ ]
-set_end levels (s ∷ set_components) (None ∷ encodings) h e = (absent_set_component levels s.component s.slot s.came h.0, set_end levels set_components encodings h.1 e)
+set_end levels (s ∷ set_components) (None ∷ encodings) h e = (absent_set_component levels s.component s.come h.0, set_end levels set_components encodings h.1 e)
 set_end levels (s ∷ set_components) (Some octets ∷ encodings) h e = absurd (omega (arith, e))
 
--- once nothing follows, the parts are those of a value
-pub fill_end : (levels : ℕ) (parts : Parts) → CanFill levels parts [] → (v : Val) × IsValueOf parts v
-fill_end levels (Parts.explicit inner None) h = absurd (part_not_empty levels inner h)
-fill_end levels (Parts.explicit inner (Some value)) h = (value, refl)
-fill_end levels (Parts.items inner values) h = (Val.items (items_of values), refl)
-fill_end levels (Parts.sequence passed slots left) h = (Val.fields (slots_of (slots ++ map (λ c. None) left)), (run_end levels left h.encodings h.each h.joined, refl))
-fill_end levels (Parts.set set_components) h =
+-- no component has no slot: whether a value is the default is not asked
+value_settled : (requirement : Requirement) (v : Val) → ((slot : Option Val) → IsSlotOf requirement v slot → ⊥) → ⊥
+value_settled required v none = none (Some v) refl
+value_settled optional v none = none (Some v) refl
+value_settled (default other) v none = none (Some v) (refl, λ same. none None same)
+
+component_settled : (component : ComponentView) (come : Option Val) → ((slot : Option Val) → IsSettled record { component = component; come = come } slot → ⊥) → ⊥
+component_settled component None none = none None refl
+component_settled component (Some v) none = value_settled component.requirement v none
+
+components_settled : (set_components : List SetComponent) → ((slots : List (Option Val)) → AllZip IsSettled set_components slots → ⊥) → ⊥
+components_settled [] none = none [] tt
+components_settled (s ∷ set_components) none = component_settled s.component s.come (λ slot here. components_settled set_components (λ slots later. none (slot ∷ slots) (here, later)))
+
+-- once nothing follows, the parts are those of some value
+pub fill_end : (levels : ℕ) (parts : Parts) → CanFill levels parts [] → ((v : Val) → IsValueOf parts v → ⊥) → ⊥
+fill_end levels (Parts.explicit inner None) h refuted = part_not_empty levels inner h
+fill_end levels (Parts.explicit inner (Some value)) h refuted = refuted value refl
+fill_end levels (Parts.items inner values) h refuted = refuted (Val.items (items_of values)) refl
+fill_end levels (Parts.sequence passed slots left) h refuted = refuted (Val.fields (slots_of (slots ++ map (λ c. None) left))) (run_end levels left h.encodings h.each h.joined, refl)
+fill_end levels (Parts.set set_components) h refuted =
     let some = all_permutation (λ x. x ≢ []) (standing h.encodings) h.order h.permutes (set_components_not_empty levels set_components h.encodings h.each) in
     let none = none_joined h.order some h.joined in
     let same = length_permutation (standing h.encodings) h.order h.permutes in
-    (Val.fields (slots_of (map (λ s. s.slot) set_components)), (set_end levels set_components h.encodings h.each (omega (arith, none, same)), refl))
+    let filled = set_end levels set_components h.encodings h.each (omega (arith, none, same)) in
+    components_settled set_components (λ slots each. refuted (Val.fields (slots_of slots)) record { filled = filled; slots = slots; each = each; value_is = refl })

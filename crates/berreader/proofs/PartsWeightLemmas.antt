@@ -1,6 +1,6 @@
 -- Lemmas on how much the parts weigh that an open encoding holds.
 use Rattle.std.specs.List.{AllZip, concat}
-use Rattle.std.proofs.Common.{◌≡◌, ◌+◌, ◌*◌, ◌≤◌, inl, inr, ℕ, zero, suc, Bool, true, false, List, [], ◌∷◌, ◌++◌, Option, Some, None, length, map, refl, sym, ap, ◌∙◌, subst, arith, length-append}
+use Rattle.std.proofs.Common.{◌≡◌, ◌+◌, ◌*◌, ◌≤◌, inl, inr, ℕ, zero, suc, List, [], ◌∷◌, ◌++◌, Option, Some, None, length, map, refl, sym, ap, ◌∙◌, subst, arith, length-append}
 use Rattle.std.proofs.Math.Nat.{mul-add}
 use Rattle.octets.specs.declared.tag.Tag.{Tag}
 use Rattle.types.specs.Shape.{Val, listed, Shape, Alternatives, no_alternative, alternative}
@@ -109,22 +109,25 @@ run_light levels [] (slot ∷ slots) encodings n many h = elim h [ ]
 run_light levels (c ∷ passed) [] encodings n many h = elim h [ ]
 run_light levels (c ∷ passed) (slot ∷ slots) [] n many h = elim h [ ]
 
-set_component_come : (levels : ℕ) (c : ComponentView) (slot : Option Val) (came : Bool) (encoding : Option (List ℕ)) (others : List (Option Val)) (rest : List (Option (List ℕ))) (n k : ℕ) → length (nodes_of c.type) ≤ n → HasComeBy levels record { component = c; slot = slot; came = came } encoding
-    → weight_of_slots (slots_of others) ≤ k + n * length (concat (standing rest)) → weight_of_slots (slots_of (slot ∷ others)) ≤ length (nodes_of c.type) + k + n * length (concat (standing (encoding ∷ rest)))
-set_component_come levels c slot false encoding others rest n k many h light_rest =
-    subst (λ s. weight_of_slots (slots_of (s ∷ others)) ≤ length (nodes_of c.type) + k + n * length (concat (standing (encoding ∷ rest)))) (sym h.0)
-    (subst (λ e. weight_of_slots (slots_of (None ∷ others)) ≤ length (nodes_of c.type) + k + n * length (concat (standing (e ∷ rest)))) (sym h.1) (omega (arith, some_nodes c.type, light_rest)))
-set_component_come levels c slot true None others rest n k many h light_rest = absurd h
-set_component_come levels c slot true (Some e) others rest n k many h light_rest = come_light levels c slot (Some e) others rest n k many h light_rest
+-- what has come for a component of a SET
+set_component_light : (levels : ℕ) (c : ComponentView) (come : Option Val) (encoding : Option (List ℕ)) (others : List (Option Val)) (rest : List (Option (List ℕ))) (n k : ℕ) → length (nodes_of c.type) ≤ n → HasComeBy levels record { component = c; come = come } encoding
+    → weight_of_slots (slots_of others) ≤ k + n * length (concat (standing rest)) → weight_of_slots (slots_of (come ∷ others)) ≤ length (nodes_of c.type) + k + n * length (concat (standing (encoding ∷ rest)))
+set_component_light levels c None None others rest n k many h light_rest = omega (arith, some_nodes c.type, light_rest)
+set_component_light levels c None (Some e) others rest n k many h light_rest = let none : Some e ≡ None = h in cc
+set_component_light levels c (Some value) None others rest n k many h light_rest = absurd h
+set_component_light levels c (Some value) (Some e) others rest n k many h light_rest =
+    let behind = concat (standing rest) in
+    let split : n * length (e ++ behind) ≡ n * length e + n * length behind = ap (λ x. n * x) (length-append e behind) ∙ mul-add n (length e) (length behind) in
+    omega (arith, some_nodes c.type, light c.type value e n many h.encoding, light_rest, split)
 
 set_components_light : (levels : ℕ) (set_components : List SetComponent) (encodings : List (Option (List ℕ))) (n : ℕ) → nodes_in (map (λ s. s.component) set_components) ≤ n → AllZip (HasComeBy levels) set_components encodings
-    → weight_of_slots (slots_of (map (λ s. s.slot) set_components)) ≤ nodes_in (map (λ s. s.component) set_components) + n * length (concat (standing encodings))
+    → weight_of_slots (slots_of (map (λ s. s.come) set_components)) ≤ nodes_in (map (λ s. s.component) set_components) + n * length (concat (standing encodings))
 set_components_light levels [] [] n many h = omega arith
 set_components_light levels (s ∷ set_components) (encoding ∷ encodings) n many h =
     let own = map (λ s. s.component) set_components in
     let nodes = nodes_first s.component own in
     let rest = set_components_light levels set_components encodings n (omega (arith, many, nodes)) h.1 in
-    omega (arith, nodes, set_component_come levels s.component s.slot s.came encoding (map (λ s. s.slot) set_components) encodings n (nodes_in own) (omega (arith, many, nodes)) h.0 rest)
+    omega (arith, nodes, set_component_light levels s.component s.come encoding (map (λ s. s.come) set_components) encodings n (nodes_in own) (omega (arith, many, nodes)) h.0 rest)
 set_components_light levels [] (encoding ∷ encodings) n many h = absurd h
 set_components_light levels (s ∷ set_components) [] n many h = absurd h
 

@@ -10,13 +10,14 @@ use Rattle.berreader.specs.Cursor.{depth_of, octets_in}
 use Rattle.encoding_parts.specs.Parts.{Parts}
 use Rattle.berreader.specs.Stack.{Layer, layers_of}
 
--- the values that have come, and the slots of all components, as of a value
+-- the values that have come, and the slots of all components, as of a value; a default that has come for a component of a SET
+-- counts until the SET ends
 abbrev pub weight_of_parts : Parts → ℕ
 weight_of_parts (Parts.explicit type None) = 0
 weight_of_parts (Parts.explicit type (Some value)) = weight_of value
 weight_of_parts (Parts.items type values) = 1 + weight_of_items (items_of values)
 weight_of_parts (Parts.sequence passed slots left) = 1 + weight_of_slots (slots_of slots) + length left
-weight_of_parts (Parts.set set_components) = 1 + weight_of_slots (slots_of (map (λ s. s.slot) set_components))
+weight_of_parts (Parts.set set_components) = 1 + weight_of_slots (slots_of (map (λ s. s.come) set_components))
 
 abbrev pub weight_of_layers : List Layer → ℕ
 weight_of_layers [] = 0

@@ -1,6 +1,6 @@
 -- Lemmas on values that are read at once.
 use Rattle.std.specs.List.{AllByRecursion, concat}
-use Rattle.std.proofs.Common.{◌≡◌, ◌≢◌, ◌+◌, ◌-◌, ◌<◌, ◌≤◌, ℕ, zero, suc, false, List, [], ◌∷◌, ◌++◌, Option, Some, None, Vec, Global, IfSome, MatchOption, refl, sym, ap, ◌∙◌, subst, subst₂, arith, take, drop, map, option_map, length, get_or, append-nil, append_assoc}
+use Rattle.std.proofs.Common.{◌≡◌, ◌≢◌, ◌+◌, ◌-◌, ◌<◌, ◌≤◌, ℕ, zero, suc, List, [], ◌∷◌, ◌++◌, Option, Some, None, Vec, Global, IfSome, MatchOption, refl, sym, ap, ◌∙◌, subst, subst₂, arith, set, take, drop, map, option_map, length, get_or, append-nil, append_assoc}
 use Rattle.std.proofs.Math.Seq.{take-add}
 use Rattle.std.proofs.lemmas.List.{map_push, map_more, length-drop, take_all, take_rest}
 use Rattle.octets.specs.declared.tag.Tag.{Tag}
@@ -16,13 +16,13 @@ use Rattle.types.specs.Form.{IsConstructed}
 use Rattle.types.specs.Encoding.{IsEncoding, standing}
 use Rattle.types.proofs.NestingLemmas.{nested_above}
 use Rattle.types.proofs.ViewLemmas.{value-Fields, value-Items, field_is}
-use Rattle.encoding_parts.specs.declared.set_components.SetComponent as set_component
-use Rattle.encoding_parts.specs.HeldParts.{set_component_view}
-use Rattle.encoding_parts.specs.Parts.{Parts, SetComponent, IsVacant, IsDue, IsValueOf, IsPartOf, IsCome, IsSlotOf, Holds, IsGoodType, IsGoodComponent}
+use Rattle.encoding_parts.specs.HeldParts.{members_view}
+use Rattle.encoding_parts.specs.Parts.{Parts, SetComponent, IsVacant, IsValueOf, IsPartOf, IsCome, IsSlotOf, Holds, IsGoodType, IsGoodComponent}
 use Rattle.encoding_parts.proofs.ChoiceLemmas.{alternative_encodes, alternative_nodes}
 use Rattle.encoding_parts.proofs.PartsOpenLemmas.{none_holds, components_good, parts_good}
 use Rattle.encoding_parts.proofs.PartsPutLemmas.{standing_append, concat_more, items_more, slot_come, come_append, put_holds, put_parts_of}
 use Rattle.encoding_parts.proofs.PartsValueLemmas.{sequence_of_encodes, set_of_encodes, value_encodes}
+use Rattle.encoding_parts.proofs.SetComponentLemmas.{set_component_taken}
 use Rattle.berslice.specs.Reading.{IsRead, AreContentsRead, IsComponentRead, AreComponentsRead, AreItemsRead, AreMoreItemsRead, IsItemRead, AreSetComponentsOf, AreMembersRead, IsMemberRead}
 
 -- two facts of one answer
@@ -184,9 +184,26 @@ chosen_read levels xs which a octets v (Some w) used below is put h =
     (h.0, record { encoding = subst (λ x. IsEncoding ber (Shape.choice (alternatives_view xs)) x (take used octets)) (sym viewed) encodes; depth = h.1.depth })
 
 -- no component of a SET yet
-pub no_members : (levels : ℕ) (fields : List Field) (octets : List ℕ) (set_components : List set_component.SetComponent) → map (λ (s : SetComponent). s.component) (map set_component_view set_components) ≡ map field_view fields → AllByRecursion (λ (s : SetComponent). (s.slot ≡ None) × (s.came ≡ false)) (map set_component_view set_components)
-    → AreMembersRead levels (map field_view fields) octets (Parts.set (map set_component_view set_components)) 0
-no_members levels fields octets set_components components vacant = record { there = omega arith; set_components = λ other. ap components_of (sym components); come = none_holds levels (Parts.set (map set_component_view set_components)) vacant }
+none_of : (fields : List Field) → map (λ (s : SetComponent). s.component) (members_view fields (map (λ c. None) (map field_view fields))) ≡ map field_view fields
+none_of [] = refl
+none_of (f ∷ fields) = ap (λ (l : List ComponentView). field_view f ∷ l) (none_of fields)
+
+none_come : (fields : List Field) → AllByRecursion (λ (s : SetComponent). s.come ≡ None) (members_view fields (map (λ c. None) (map field_view fields)))
+none_come [] = tt
+none_come (f ∷ fields) = (refl, none_come fields)
+
+pub no_members : (levels : ℕ) (fields : List Field) (octets : List ℕ) (slots : List (Option Value)) → slots ≡ map (λ c. None) (map field_view fields) → AreMembersRead levels (map field_view fields) octets (Parts.set (members_view fields slots)) 0
+no_members levels fields octets slots empty =
+    let none : List (Option Value) = map (λ c. None) (map field_view fields) in
+    subst (λ (l : List (Option Value)). AreMembersRead levels (map field_view fields) octets (Parts.set (members_view fields l)) 0) (sym empty)
+    record { there = omega arith; set_components = λ other. ap components_of (sym (none_of fields)); come = none_holds levels (Parts.set (members_view fields none)) (none_come fields) }
+
+-- a component that is read into its slot
+pub member_come : (levels : ℕ) (fields : List Field) (octets : List ℕ) (slots : List (Option Value)) (slot : Option Value) (which : ℕ) (type : Shape) (used : ℕ) → IsVacant (members_view fields slots) which type → IsRead levels type octets slot used
+    → IsMemberRead levels octets (Parts.set (members_view fields slots)) (Parts.set (members_view fields (set slots which slot))) used
+member_come levels fields octets slots None which type used vacant h = absurd h.1
+member_come levels fields octets slots (Some v) which type used vacant h =
+    record { there = h.0; which = which; type = type; value = value_view v; due = vacant; part = h.1; put = set_component_taken fields slots which type v vacant }
 
 -- one component more
 pub member_read : (levels : ℕ) (components : List ComponentView) (octets : List ℕ) (old new : Parts) (at used : ℕ) → AreMembersRead levels components octets old at → IsMemberRead levels (drop at octets) old new used → AreMembersRead levels components octets new (at + used)
@@ -227,11 +244,8 @@ set_component_field (x ∷ fields) (s ∷ set_components) (suc which) type same 
     let later = set_component_field fields set_components which type others h in
     record { below = omega (arith, later.below); types = λ f is. later.types f is }
 
-pub due_field : (tag : Tag) (fields : List Field) (parts : Parts) (which : ℕ) (type : Shape) → AreSetComponentsOf (map field_view fields) parts → IsDue parts which type → IsFieldAt fields which type
-due_field tag fields (Parts.set set_components) which type of due = set_component_field fields set_components which type (of tag) due
-due_field tag fields (Parts.explicit inner held) which type of due = absurd (of tag)
-due_field tag fields (Parts.items inner values) which type of due = absurd (of tag)
-due_field tag fields (Parts.sequence passed slots left) which type of due = absurd (of tag)
+pub due_field : (tag : Tag) (fields : List Field) (set_components : List SetComponent) (which : ℕ) (type : Shape) → AreSetComponentsOf (map field_view fields) (Parts.set set_components) → IsVacant set_components which type → IsFieldAt fields which type
+due_field tag fields set_components which type of vacant = set_component_field fields set_components which type (of tag) vacant
 
 -- components in any order are the contents octets of a SET
 pub set_contents : (levels : ℕ) (tag : Tag) (components : List ComponentView) (inside : List ℕ) (parts : Parts) (v : Value) (used : ℕ) → AreMembersRead levels components inside parts used → IsValueOf parts (value_view v) → AreContentsRead levels (Shape.set tag (components_of components)) inside (Some v) used

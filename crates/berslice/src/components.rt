@@ -1,17 +1,17 @@
 //! Components of a SEQUENCE, in order of declaration (X.690 8.9).
 
-ghost use Rattle.std.specs.Prelude.{◌≡◌, None, map, option_map, IfSome, MatchOption};
+ghost use Rattle.std.specs.Prelude.{map, IfSome};
 ghost use Rattle.std.specs.List.{AllByRecursion};
 ghost use Rattle.octets.specs.declared.tag.Tag.{Tag};
 ghost use Rattle.types.specs.Shape.{Shape};
-ghost use Rattle.types.specs.View.{value_view, field_view, requirement_view, components_view};
-ghost use Rattle.encoding_parts.specs.Parts.{IsGoodComponent, IsSlotOf};
+ghost use Rattle.types.specs.View.{field_view, components_view};
+ghost use Rattle.encoding_parts.specs.Parts.{IsGoodComponent};
 ghost use Rattle.berslice.specs.Reading.{AreContentsRead, IsComponentRead};
 
 use crate::reading::{fill, read_one};
-use encoding_parts::{clear, is_default, take_slots};
+use encoding_parts::{clear, drop_default, take_slots};
 use std::alloc::Global;
-use types::{Field, Presence, Value, may_be_absent};
+use types::{Field, Value, may_be_absent};
 
 // Reads the encodings of components at the front, in order of declaration, into the slot, and returns how many octets
 // they have.
@@ -64,19 +64,5 @@ fn read_component(
                 None
             }
         }
-    }
-}
-
-// Empties the slot where the value in it is the component's default.
-fn drop_default(presence: &Presence, slot: &mut Option<Value>)
-    ensures { MatchOption slot.old (slot.new ≡ None)
-        (λ value. IsSlotOf (requirement_view presence.now) (value_view value) (option_map value_view slot.new)) }
-{
-    let is_dropped = match slot {
-        Some(value) => is_default(presence, value),
-        None => true,
-    };
-    if is_dropped {
-        clear(slot);
     }
 }

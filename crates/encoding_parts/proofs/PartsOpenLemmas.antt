@@ -1,6 +1,6 @@
 -- Lemmas on parts of which none has come.
 use Rattle.std.specs.List.{AllByRecursion, AllZip, concat}
-use Rattle.std.proofs.Common.{◌≡◌, inl, inr, ℕ, suc, Bool, true, false, List, [], ◌∷◌, ◌++◌, Option, Some, None, refl, sym, ap, ◌∙◌, subst, map, arith, IsPermutation}
+use Rattle.std.proofs.Common.{◌≡◌, inl, inr, ℕ, suc, true, List, [], ◌∷◌, ◌++◌, Option, Some, None, refl, sym, ap, ◌∙◌, subst, map, arith, IsPermutation}
 use Rattle.std.proofs.lemmas.List.Sorted.{IsPermutation-refl, IsPermutation-sym}
 use Rattle.octets.specs.declared.tag.Tag.{Tag}
 use Rattle.octets.specs.Rule.{ber}
@@ -78,15 +78,15 @@ each_left levels (c ∷ left) (present value slots) (None ∷ encodings) h deep 
 each_left levels (c ∷ left) (present value slots) (Some octets ∷ encodings) h deep =
     (record { value = value; encoding = h.0; depth = deep.0 }, each_left levels left slots encodings h.2 deep.1)
 
-vacant_left : (levels : ℕ) (c : ComponentView) (slot : Option Val) (came : Bool) (encoding : Option (List ℕ)) → came ≡ false → IsLeft levels c encoding → IsLeftOfSetComponent levels record { component = c; slot = slot; came = came } encoding
-vacant_left levels c slot true encoding e h = cc
-vacant_left levels c slot false encoding e h = h
+vacant_left : (levels : ℕ) (c : ComponentView) (come : Option Val) (encoding : Option (List ℕ)) → come ≡ None → IsLeft levels c encoding → IsLeftOfSetComponent levels record { component = c; come = come } encoding
+vacant_left levels c None encoding e h = h
+vacant_left levels c (Some value) encoding e h = cc
 
-set_components_left : (levels : ℕ) (set_components : List SetComponent) (encodings : List (Option (List ℕ))) → AllByRecursion (λ s. (s.slot ≡ None) × (s.came ≡ false)) set_components → AllZip (IsLeft levels) (map (λ s. s.component) set_components) encodings → AllZip (IsLeftOfSetComponent levels) set_components encodings
+set_components_left : (levels : ℕ) (set_components : List SetComponent) (encodings : List (Option (List ℕ))) → AllByRecursion (λ s. s.come ≡ None) set_components → AllZip (IsLeft levels) (map (λ s. s.component) set_components) encodings → AllZip (IsLeftOfSetComponent levels) set_components encodings
 set_components_left levels [] [] none h = tt
 set_components_left levels [] (encoding ∷ encodings) none h = elim h [ ]
 set_components_left levels (s ∷ set_components) [] none h = elim h [ ]
-set_components_left levels (s ∷ set_components) (encoding ∷ encodings) none h = (vacant_left levels s.component s.slot s.came encoding none.0.1 h.0, set_components_left levels set_components encodings none.1 h.1)
+set_components_left levels (s ∷ set_components) (encoding ∷ encodings) none h = (vacant_left levels s.component s.come encoding none.0 h.0, set_components_left levels set_components encodings none.1 h.1)
 
 same_tag : (t u : Tag) → t ∷ [] ≡ u ∷ [] → t ≡ u
 same_tag t u h = cc
@@ -162,13 +162,13 @@ none_at_zero (Shape.sequence t components) (Parts.sequence passed slots left) oc
 none_at_zero (Shape.set t components) (Parts.set set_components) octets of h = not_at_zero t (concat h.encoding.order) octets h.encoding.whole h.depth
 none_at_zero node parts octets of h = elim of [ ]
 
-vacant_come_by : (levels : ℕ) (c : ComponentView) (slot : Option Val) (came : Bool) → slot ≡ None → came ≡ false → HasComeBy levels record { component = c; slot = slot; came = came } None
-vacant_come_by levels c slot true e f = cc
-vacant_come_by levels c slot false e f = (e, refl)
+vacant_come_by : (levels : ℕ) (c : ComponentView) (come : Option Val) → come ≡ None → HasComeBy levels record { component = c; come = come } None
+vacant_come_by levels c None e = refl
+vacant_come_by levels c (Some value) e = cc
 
-set_components_come_by : (levels : ℕ) (set_components : List SetComponent) → AllByRecursion (λ s. (s.slot ≡ None) × (s.came ≡ false)) set_components → AllZip (HasComeBy levels) set_components (map (λ s. None) set_components)
+set_components_come_by : (levels : ℕ) (set_components : List SetComponent) → AllByRecursion (λ s. s.come ≡ None) set_components → AllZip (HasComeBy levels) set_components (map (λ s. None) set_components)
 set_components_come_by levels [] none = tt
-set_components_come_by levels (s ∷ set_components) none = (vacant_come_by levels s.component s.slot s.came none.0.0 none.0.1, set_components_come_by levels set_components none.1)
+set_components_come_by levels (s ∷ set_components) none = (vacant_come_by levels s.component s.come none.0, set_components_come_by levels set_components none.1)
 
 none_stands : (set_components : List SetComponent) → standing (map (λ s. None) set_components) ≡ []
 none_stands [] = refl

@@ -1,6 +1,6 @@
 -- Lemmas on parts after one more has come.
 use Rattle.std.specs.List.{AllByRecursion, AllZip, concat}
-use Rattle.std.proofs.Common.{◌≡◌, ℕ, zero, suc, Bool, true, false, List, [], ◌∷◌, ◌++◌, Option, Some, None, refl, sym, ap, ◌∙◌, ap₂, subst, drop, map, length, arith, IsPermutation, append-nil, append_assoc}
+use Rattle.std.proofs.Common.{◌≡◌, ℕ, zero, suc, List, [], ◌∷◌, ◌++◌, Option, Some, None, refl, sym, ap, ◌∙◌, ap₂, subst, drop, map, length, arith, IsPermutation, append-nil, append_assoc}
 use Rattle.std.proofs.lemmas.List.{drop_at}
 use Rattle.std.proofs.lemmas.List.Folds.{concat-append}
 use Rattle.std.proofs.lemmas.List.Sorted.{IsPermutation-refl, IsPermutation-sym, IsPermutation-trans, IsPermutation-cons, IsPermutation-swap, IsPermutation-to_front}
@@ -96,13 +96,13 @@ record IsSetComponentPut (levels : ℕ) (new : List SetComponent) (encodings : L
   each : AllZip (HasComeBy levels) new others
   order : IsPermutation (standing others) (part ∷ standing encodings)
 
-set_component_vacant : (levels : ℕ) (component : ComponentView) (slot : Option Val) (came : Bool) (encoding : Option (List ℕ)) → came ≡ false → HasComeBy levels record { component = component; slot = slot; came = came } encoding → encoding ≡ None
-set_component_vacant levels component slot false encoding e h = h.1
-set_component_vacant levels component slot true encoding e h = cc
+set_component_vacant : (levels : ℕ) (component : ComponentView) (come : Option Val) (encoding : Option (List ℕ)) → come ≡ None → HasComeBy levels record { component = component; come = come } encoding → encoding ≡ None
+set_component_vacant levels component None encoding e h = h
+set_component_vacant levels component (Some value) encoding e h = cc
 
-set_component_taken : (levels : ℕ) (component : ComponentView) (slot : Option Val) (came : Bool) (part : List ℕ) → came ≡ true → IsCome levels component slot (Some part) → HasComeBy levels record { component = component; slot = slot; came = came } (Some part)
-set_component_taken levels component slot false part e h = cc
-set_component_taken levels component slot true part e h = h
+set_component_taken : (levels : ℕ) (component : ComponentView) (come : Option Val) (v : Val) (part : List ℕ) → come ≡ Some v → IsPartOf levels component.type v part → HasComeBy levels record { component = component; come = come } (Some part)
+set_component_taken levels component None v part e is = cc
+set_component_taken levels component (Some value) v part e is = let same : v ≡ value = cc e in subst (λ x. IsPartOf levels component.type x part) same is
 
 set_component_later : (levels : ℕ) (s : SetComponent) (new : List SetComponent) (encodings : List (Option (List ℕ))) (encoding : Option (List ℕ)) (part : List ℕ) → HasComeBy levels s encoding → IsSetComponentPut levels new encodings part → IsSetComponentPut levels (s ∷ new) (encoding ∷ encodings) part
 set_component_later levels s new encodings None part h put = record { others = None ∷ put.others; each = (h, put.each); order = put.order }
@@ -119,10 +119,9 @@ set_component_put levels (s ∷ set_components) new [] which type v part h due i
 set_component_put levels (s ∷ set_components) [] (encoding ∷ encodings) zero type v part h due is put = elim put [ ]
 set_component_put levels (s ∷ set_components) [] (encoding ∷ encodings) (suc which) type v part h due is put = elim put [ ]
 set_component_put levels (s ∷ set_components) (t ∷ new) (encoding ∷ encodings) zero type v part h due is put =
-    let c = s.component in
-    let none = set_component_vacant levels c s.slot s.came encoding due.0 h.0 in
-    let one = slot_come levels c.name c.type c.requirement v t.slot part put.0.slot_is (subst (λ x. IsPartOf levels x v part) (sym due.1) is) in
-    let here = set_component_taken levels t.component t.slot t.came part put.0.came (subst (λ x. IsCome levels x t.slot (Some part)) (sym put.0.component) one) in
+    let none = set_component_vacant levels s.component s.come encoding due.0 h.0 in
+    let one : IsPartOf levels s.component.type v part = subst (λ x. IsPartOf levels x v part) (sym due.1) is in
+    let here = set_component_taken levels t.component t.come v part put.0.come (subst (λ x. IsPartOf levels x.type v part) (sym put.0.component) one) in
     record {
       others = Some part ∷ encodings;
       each = (here, subst (λ x. AllZip (HasComeBy levels) x encodings) (sym put.1) h.1);
@@ -159,10 +158,10 @@ put_holds levels (Parts.sequence passed slots left) (Parts.sequence new_passed n
 put_holds levels (Parts.set set_components) (Parts.set others) which type v contents part h due is put = set_holds levels set_components others which type v contents part h due is put
 put_holds levels parts new which type v contents part h due is put = elim put [ ]
 
--- what a component of a SET has left does not turn on its slot
-taken_left : (levels : ℕ) (component : ComponentView) (slot : Option Val) (came : Bool) (encoding : Option (List ℕ)) → came ≡ true → encoding ≡ None → IsLeftOfSetComponent levels record { component = component; slot = slot; came = came } encoding
-taken_left levels component slot true encoding e h = h
-taken_left levels component slot false encoding e h = cc
+-- what a component of a SET has left does not turn on the value that has come for it
+taken_left : (levels : ℕ) (component : ComponentView) (come : Option Val) (v : Val) (encoding : Option (List ℕ)) → come ≡ Some v → encoding ≡ None → IsLeftOfSetComponent levels record { component = component; come = come } encoding
+taken_left levels component None v encoding e h = cc
+taken_left levels component (Some value) v encoding e h = h
 
 taken_fills : (levels : ℕ) (set_components new : List SetComponent) (which : ℕ) (v : Val) (encodings : List (Option (List ℕ))) → IsSetComponentTaken set_components which v new → AllZip (IsLeftOfSetComponent levels) (taken_set_component set_components which) encodings → AllZip (IsLeftOfSetComponent levels) new encodings
 taken_fills levels [] new which v encodings put h = elim put [ ]
@@ -171,7 +170,7 @@ taken_fills levels (s ∷ set_components) [] (suc which) v encodings put h = eli
 taken_fills levels (s ∷ set_components) (t ∷ new) zero v [] put h = elim h [ ]
 taken_fills levels (s ∷ set_components) (t ∷ new) (suc which) v [] put h = elim h [ ]
 taken_fills levels (s ∷ set_components) (t ∷ new) zero v (encoding ∷ encodings) put h =
-    (taken_left levels t.component t.slot t.came encoding put.0.came h.0, subst (λ x. AllZip (IsLeftOfSetComponent levels) x encodings) (sym put.1) h.1)
+    (taken_left levels t.component t.come v encoding put.0.come h.0, subst (λ x. AllZip (IsLeftOfSetComponent levels) x encodings) (sym put.1) h.1)
 taken_fills levels (s ∷ set_components) (t ∷ new) (suc which) v (encoding ∷ encodings) put h =
     (subst (λ x. IsLeftOfSetComponent levels x encoding) (sym put.0) h.0, taken_fills levels set_components new which v encodings put.1 h.1)
 

@@ -1,6 +1,6 @@
 -- Lemmas on the value of parts that have all come.
 use Rattle.std.specs.List.{AllByRecursion, AllZip, concat}
-use Rattle.std.proofs.Common.{◌≡◌, ℕ, suc, Bool, true, false, List, [], ◌∷◌, ◌++◌, Option, Some, None, refl, sym, ap, ◌∙◌, subst, map, append-nil}
+use Rattle.std.proofs.Common.{◌≡◌, ℕ, suc, List, [], ◌∷◌, ◌++◌, Option, Some, None, refl, sym, ap, ◌∙◌, subst, map, append-nil}
 use Rattle.std.proofs.lemmas.List.Sorted.{IsPermutation-refl}
 use Rattle.octets.specs.declared.tag.Tag.{Tag}
 use Rattle.octets.specs.Rule.{ber}
@@ -15,8 +15,8 @@ use Rattle.types.proofs.ViewLemmas.{listed-items_of}
 use Rattle.types.proofs.ZipLemmas.{zip_map}
 use Rattle.types.proofs.BeginningLemmas.{all_zip, all_permutation, explicit_parts}
 use Rattle.types.proofs.DepthLemmas.{nested_around}
-use Rattle.encoding_parts.specs.Parts.{Parts, SetComponent, IsPartOf, IsCome, AreCome, HasComeBy, AreItemsCome, Holds, ArePartsOf, IsValueOf, IsGoodType}
-use Rattle.encoding_parts.proofs.PartsPutLemmas.{standing_append}
+use Rattle.encoding_parts.specs.Parts.{Parts, SetComponent, IsPartOf, IsCome, AreCome, HasComeBy, AreItemsCome, Holds, ArePartsOf, IsSettled, IsValueOf, IsValueOfSet, IsGoodType}
+use Rattle.encoding_parts.proofs.PartsPutLemmas.{standing_append, slot_come}
 
 -- nothing stands for a component that may be absent
 absent_stands : (requirement : Requirement) (Encodes : Meaning) → MayBeAbsent requirement → StandsForAbsent ber requirement Encodes None
@@ -78,18 +78,21 @@ standing_whole : (encodings : List (Option (List ℕ))) (left : List ComponentVi
 standing_whole encodings left = standing_append encodings (map (λ c. None) left) ∙ (ap (λ z. standing encodings ++ z) (none_standing left) ∙ append-nil (standing encodings))
 
 -- a component of a SET that came, or may be absent
-set_component_come : (levels : ℕ) (c : ComponentView) (slot : Option Val) (came : Bool) (encoding : Option (List ℕ)) → HasComeBy levels record { component = c; slot = slot; came = came } encoding → (came ≡ false → MayBeAbsent c.requirement) → IsCome levels c slot encoding
-set_component_come levels c None false None h absent = absent refl
-set_component_come levels c None false (Some octets) h absent = let none : Some octets ≡ None = h.1 in cc
-set_component_come levels c (Some value) false encoding h absent = let none : Some value ≡ None = h.0 in cc
-set_component_come levels c slot true None h absent = elim h [ ]
-set_component_come levels c slot true (Some octets) h absent = h
+set_component_come : (levels : ℕ) (c : ComponentView) (come slot : Option Val) (encoding : Option (List ℕ)) → HasComeBy levels record { component = c; come = come } encoding → IsSettled record { component = c; come = come } slot → (come ≡ None → MayBeAbsent c.requirement) → IsCome levels c slot encoding
+set_component_come levels c None None None h settled absent = absent refl
+set_component_come levels c None None (Some octets) h settled absent = let none : Some octets ≡ None = h in cc
+set_component_come levels c None (Some value) encoding h settled absent = let none : Some value ≡ None = settled in cc
+set_component_come levels c (Some value) slot None h settled absent = elim h [ ]
+set_component_come levels c (Some value) slot (Some octets) h settled absent = slot_come levels c.name c.type c.requirement value slot octets settled h
 
-set_components_come : (levels : ℕ) (set_components : List SetComponent) (encodings : List (Option (List ℕ))) → AllZip (HasComeBy levels) set_components encodings → AllByRecursion (λ s. s.came ≡ false → MayBeAbsent s.component.requirement) set_components → AreCome levels (map (λ s. s.component) set_components) (map (λ s. s.slot) set_components) encodings
-set_components_come levels [] [] h absent = tt
-set_components_come levels [] (encoding ∷ encodings) h absent = elim h [ ]
-set_components_come levels (s ∷ set_components) [] h absent = elim h [ ]
-set_components_come levels (s ∷ set_components) (encoding ∷ encodings) h absent = (set_component_come levels s.component s.slot s.came encoding h.0 absent.0, set_components_come levels set_components encodings h.1 absent.1)
+set_components_come : (levels : ℕ) (set_components : List SetComponent) (slots : List (Option Val)) (encodings : List (Option (List ℕ))) → AllZip (HasComeBy levels) set_components encodings → AllZip IsSettled set_components slots → AllByRecursion (λ s. s.come ≡ None → MayBeAbsent s.component.requirement) set_components
+    → AreCome levels (map (λ s. s.component) set_components) slots encodings
+set_components_come levels [] [] [] h settled absent = tt
+set_components_come levels [] [] (encoding ∷ encodings) h settled absent = elim h [ ]
+set_components_come levels [] (slot ∷ slots) encodings h settled absent = elim settled [ ]
+set_components_come levels (s ∷ set_components) [] encodings h settled absent = elim settled [ ]
+set_components_come levels (s ∷ set_components) (slot ∷ slots) [] h settled absent = elim h [ ]
+set_components_come levels (s ∷ set_components) (slot ∷ slots) (encoding ∷ encodings) h settled absent = (set_component_come levels s.component s.come slot encoding h.0 settled.0 absent.0, set_components_come levels set_components slots encodings h.1 settled.1 absent.1)
 
 -- all components have come
 come_encode : (levels : ℕ) (components : List ComponentView) (slots : List (Option Val)) (encodings : List (Option (List ℕ))) → AreCome levels components slots encodings → AreSlotEncodings ber (components_of components) (slots_of slots) encodings
@@ -145,18 +148,19 @@ sequence_encodes levels tag passed left slots contents octets usable h absent wh
       depth = nested_around ber levels tag (standing h.encodings) octets usable (run_nested levels passed slots h.encodings h.each) joined;
     }
 
-set_encodes : (levels : ℕ) (tag : Tag) (set_components : List SetComponent) (contents octets : List ℕ) → IsUsable tag → Holds levels (Parts.set set_components) contents → AllByRecursion (λ s. s.came ≡ false → MayBeAbsent s.component.requirement) set_components → IsConstructed ber tag contents octets
-    → IsPartOf (suc levels) (Shape.set tag (components_of (map (λ s. s.component) set_components))) (Val.fields (slots_of (map (λ s. s.slot) set_components))) octets
-set_encodes levels tag set_components contents octets usable h absent whole =
+set_encodes : (levels : ℕ) (tag : Tag) (set_components : List SetComponent) (v : Val) (contents octets : List ℕ) → IsUsable tag → Holds levels (Parts.set set_components) contents → IsValueOfSet set_components v → IsConstructed ber tag contents octets
+    → IsPartOf (suc levels) (Shape.set tag (components_of (map (λ s. s.component) set_components))) v octets
+set_encodes levels tag set_components v contents octets usable h is whole =
     let joined : IsConstructed ber tag (concat h.order) octets = subst (λ x. IsConstructed ber tag x octets) h.joined whole in
-    let come = set_components_come levels set_components h.encodings h.each absent in
-    let nested = run_nested levels (map (λ s. s.component) set_components) (map (λ s. s.slot) set_components) h.encodings come in
+    let components = map (λ s. s.component) set_components in
+    let come = set_components_come levels set_components is.slots h.encodings h.each is.each is.filled in
+    let nested = run_nested levels components is.slots h.encodings come in
     record {
       encoding = record {
-        slots = slots_of (map (λ s. s.slot) set_components);
-        is = refl;
+        slots = slots_of is.slots;
+        is = is.value_is;
         encodings = h.encodings;
-        each = come_encode levels (map (λ s. s.component) set_components) (map (λ s. s.slot) set_components) h.encodings come;
+        each = come_encode levels components is.slots h.encodings come;
         order = h.order;
         permutes = h.permutes;
         ascends = λ canonical. absurd (canonical refl);
@@ -184,7 +188,6 @@ value_encodes levels (Shape.sequence t components) (Parts.sequence passed slots 
     (subst (λ x. IsPartOf (suc levels) (Shape.sequence t x) (Val.fields (slots_of (slots ++ map (λ c. None) left))) octets) (sym of)
     (sequence_encodes levels t passed left slots contents octets good.tags.0.0 holds is.0 (subst (λ x. IsConstructed ber x contents octets) (same_tag t tag own) whole)))
 value_encodes levels (Shape.set t components) (Parts.set set_components) tag v contents octets of holds is good own whole =
-    subst (λ x. IsPartOf (suc levels) (Shape.set t components) x octets) (sym is.1)
-    (subst (λ x. IsPartOf (suc levels) (Shape.set t x) (Val.fields (slots_of (map (λ s. s.slot) set_components))) octets) (sym of)
-    (set_encodes levels t set_components contents octets good.tags.0.0 holds is.0 (subst (λ x. IsConstructed ber x contents octets) (same_tag t tag own) whole)))
+    subst (λ x. IsPartOf (suc levels) (Shape.set t x) v octets) (sym of)
+    (set_encodes levels t set_components v contents octets good.tags.0.0 holds is (subst (λ x. IsConstructed ber x contents octets) (same_tag t tag own) whole))
 value_encodes levels node parts tag v contents octets of holds is good own whole = elim of [ ]

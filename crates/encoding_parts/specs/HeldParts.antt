@@ -1,22 +1,26 @@
 -- What an open encoding of the code holds of its parts, and why it refuses one.
-use Rattle.std.specs.Prelude.{⊤, ◌≡◌, false, length, take, drop, map, option_map, Contains, List, Option}
-use Rattle.octets.specs.declared.tag.Tag.{Tag}
-use Rattle.types.specs.FirstTags.{first_tags}
+use Rattle.std.specs.Prelude.{⊤, length, take, drop, map, option_map, List, ◌∷◌, [], Option}
 use Rattle.types.specs.Shape.{Val, Shape}
 use Rattle.types.specs.View.{ComponentView, ty_view, value_view, field_view}
 use Rattle.types.specs.declared.refusal.Refusal.{Refusal}
+use Rattle.types.specs.declared.ty.Field.{Field}
+use Rattle.types.specs.declared.value.Value.{Value}
 use Rattle.types.specs.declared.refusal.Refusal.TheVariants.{Identifier, Length, EndOfContents, Missing, Repeated, NoMemory}
-use Rattle.encoding_parts.specs.declared.set_components.SetComponent as set_components
+use Rattle.encoding_parts.specs.declared.set_components.SetComponents.{SetComponents}
 use Rattle.encoding_parts.specs.declared.held_parts.HeldParts.{HeldParts}
 use Rattle.encoding_parts.specs.declared.held_parts.HeldParts.TheVariants.{Explicit, Items, Sequence, Set}
 use Rattle.encoding_parts.specs.Parts.{Parts, SetComponent}
 
-abbrev pub set_component_view : set_components.SetComponent → SetComponent
-set_component_view s = record { component = field_view s.field.now; slot = option_map value_view s.slot; came = s.came }
+-- components of a SET, and the slot of each
+abbrev pub set_components_view : List ComponentView → List (Option Val) → List SetComponent
+set_components_view (c ∷ components) (slot ∷ slots) = record { component = c; come = slot } ∷ set_components_view components slots
+set_components_view _ _ = []
 
--- the component of a SET has not come, and can begin with the tag
-abbrev pub IsAwaited : set_components.SetComponent → Tag → Type 0
-IsAwaited s tag = (s.came ≡ false) × Contains (first_tags (ty_view s.field.now.ty)) tag
+abbrev pub members_view : List Field → List (Option Value) → List SetComponent
+members_view fields slots = set_components_view (map field_view fields) (map (option_map value_view) slots)
+
+abbrev pub come_view : SetComponents → List SetComponent
+come_view s = members_view s.fields.now s.slots.items
 
 -- as many components of a SEQUENCE have come or been passed over as there are slots
 abbrev pub run_view : List ComponentView → List (Option Val) → Parts
@@ -26,7 +30,7 @@ abbrev pub parts_view : HeldParts → Parts
 parts_view (Explicit type held) = Parts.explicit (ty_view type.now) (option_map value_view held)
 parts_view (Items type values) = Parts.items (ty_view type.now) (map value_view values.items)
 parts_view (Sequence fields slots) = run_view (map field_view fields.now) (map (option_map value_view) slots.items)
-parts_view (Set set_components) = Parts.set (map set_component_view set_components.each.items)
+parts_view (Set set_components) = Parts.set (come_view set_components)
 
 -- a type whose encodings have a tag of their own
 abbrev pub IsNode : Shape → Type 0

@@ -1,5 +1,5 @@
 -- The parts of an open constructed encoding: which have come, and which may still come.
-use Rattle.std.specs.Prelude.{◌≡◌, ◌≢◌, ◌⊎◌, ◌+◌, ◌≤◌, ⊤, ℕ, zero, suc, Bool, true, false, List, [], ◌∷◌, ◌++◌, length, drop, map, Option, Some, None, IsPermutation}
+use Rattle.std.specs.Prelude.{◌≡◌, ◌≢◌, ◌⊎◌, ◌+◌, ◌≤◌, ⊤, ℕ, zero, suc, List, [], ◌∷◌, ◌++◌, length, drop, map, Option, Some, None, IsPermutation}
 use Rattle.std.specs.List.{AllByRecursion, AllZip, concat}
 use Rattle.octets.specs.declared.tag.Tag.{Tag}
 use Rattle.octets.specs.Rule.{ber}
@@ -11,11 +11,10 @@ use Rattle.types.specs.WellFormed.{nodes_of, IsNodeWithin, IsGoodDefault, HasGoo
 use Rattle.types.specs.Encoding.{IsEncoding, standing, StandsForAbsent}
 use Rattle.types.specs.Depth.{IsNested}
 
--- a component of a SET, what has come of it and whether it has; one that came as its default leaves no value
+-- a component of a SET, and the value that has come for it, if one has
 pub record SetComponent : Type 0 where
   pub component : ComponentView
-  pub slot : Option Val
-  pub came : Bool
+  pub come : Option Val
 
 -- what an open encoding holds of its parts: the one that an explicit tag stands around, the items so far, the slots
 -- of the components of a SEQUENCE that have come or been passed over and the components that are left, or what has come of
@@ -51,7 +50,7 @@ IsNextOf (c ∷ others) (suc which) type = MayBeAbsent c.requirement × IsNextOf
 -- this component of a SET is of this type and has not come
 abbrev pub IsVacant : List SetComponent → ℕ → Shape → Type 0
 IsVacant [] which type = ⊥
-IsVacant (s ∷ others) zero type = (s.came ≡ false) × (s.component.type ≡ type)
+IsVacant (s ∷ others) zero type = (s.come ≡ None) × (s.component.type ≡ type)
 IsVacant (s ∷ others) (suc which) type = IsVacant others which type
 
 -- a part of this type may come next, as this one
@@ -68,11 +67,11 @@ IsLeft levels c None = MayBeAbsent c.requirement
 IsLeft levels c (Some octets) = IsPart levels c.type octets
 
 abbrev pub IsLeftOfSetComponent : ℕ → SetComponent → Option (List ℕ) → Type 0
-IsLeftOfSetComponent levels s encoding = SetComponentLeft s.came levels s.component encoding
+IsLeftOfSetComponent levels s encoding = SetComponentLeft s.come levels s.component encoding
   where
-    SetComponentLeft : Bool → ℕ → ComponentView → Option (List ℕ) → Type 0
-    SetComponentLeft true levels c encoding = encoding ≡ None
-    SetComponentLeft false levels c encoding = IsLeft levels c encoding
+    SetComponentLeft : Option Val → ℕ → ComponentView → Option (List ℕ) → Type 0
+    SetComponentLeft (Some value) levels c encoding = encoding ≡ None
+    SetComponentLeft None levels c encoding = IsLeft levels c encoding
 
 -- encodings of all parts that are left, joined
 pub record AreItemsLeft (levels : ℕ) (type : Shape) (octets : List ℕ) : Type 0 where
@@ -100,15 +99,17 @@ CanFill levels (Parts.items inner values) octets = AreItemsLeft levels inner oct
 CanFill levels (Parts.sequence passed slots left) octets = IsRunLeft levels left octets
 CanFill levels (Parts.set set_components) octets = AreSetComponentsLeft levels set_components octets
 
--- the parts once this one has come, as far as more may come
+-- the parts once this one has come, as far as more may come: any value serves where only that is asked
+abbrev pub any_value : Val
+any_value = Val.fields (slots_of [])
+
 abbrev pub taken_set_component : List SetComponent → ℕ → List SetComponent
 taken_set_component [] which = []
-taken_set_component (s ∷ others) zero = record { component = s.component; slot = s.slot; came = true } ∷ others
+taken_set_component (s ∷ others) zero = record { component = s.component; come = Some any_value } ∷ others
 taken_set_component (s ∷ others) (suc which) = s ∷ taken_set_component others which
 
--- any value serves where only what may follow is asked
 abbrev pub once_come : Parts → ℕ → Parts
-once_come (Parts.explicit inner held) which = Parts.explicit inner (Some (Val.fields (slots_of [])))
+once_come (Parts.explicit inner held) which = Parts.explicit inner (Some any_value)
 once_come (Parts.items inner values) which = Parts.items inner values
 once_come (Parts.sequence passed slots left) which = Parts.sequence passed slots (drop (suc which) left)
 once_come (Parts.set set_components) which = Parts.set (taken_set_component set_components which)
@@ -126,14 +127,14 @@ AreCome levels [] [] [] = ⊤
 AreCome levels (c ∷ cs) (slot ∷ slots) (encoding ∷ encodings) = IsCome levels c slot encoding × AreCome levels cs slots encodings
 AreCome _ _ _ _ = ⊥
 
--- no encoding stands for a component that has not come
+-- an encoding of the value that has come for a component of a SET, or nothing where none has
 abbrev pub HasComeBy : ℕ → SetComponent → Option (List ℕ) → Type 0
-HasComeBy levels s encoding = ComeBy s.came levels s.component s.slot encoding
+HasComeBy levels s encoding = ComeBy s.come levels s.component.type encoding
   where
-    ComeBy : Bool → ℕ → ComponentView → Option Val → Option (List ℕ) → Type 0
-    ComeBy false levels c slot encoding = (slot ≡ None) × (encoding ≡ None)
-    ComeBy true levels c slot None = ⊥
-    ComeBy true levels c slot (Some octets) = IsCome levels c slot (Some octets)
+    ComeBy : Option Val → ℕ → Shape → Option (List ℕ) → Type 0
+    ComeBy None levels type encoding = encoding ≡ None
+    ComeBy (Some value) levels type None = ⊥
+    ComeBy (Some value) levels type (Some octets) = IsPartOf levels type value octets
 
 pub record AreItemsCome (levels : ℕ) (type : Shape) (values : List Val) (octets : List ℕ) : Type 0 where
   pub encodings : List (List ℕ)
@@ -174,7 +175,7 @@ abbrev pub AreNone : Parts → Type 0
 AreNone (Parts.explicit type held) = held ≡ None
 AreNone (Parts.items type values) = values ≡ []
 AreNone (Parts.sequence passed slots left) = (passed ≡ []) × (slots ≡ [])
-AreNone (Parts.set set_components) = AllByRecursion (λ s. (s.slot ≡ None) × (s.came ≡ false)) set_components
+AreNone (Parts.set set_components) = AllByRecursion (λ s. s.come ≡ None) set_components
 
 -- a value's slot: none where it is the default
 abbrev pub IsSlotOf : Requirement → Val → Option Val → Type 0
@@ -197,8 +198,7 @@ pub record IsPassed (left : List ComponentView) (which : ℕ) (value : Val) (pas
 -- the value has come for this component of a SET
 pub record IsTakenBy (value : Val) (old new : SetComponent) : Type 0 where
   pub component : new.component ≡ old.component
-  pub slot_is : IsSlotOf old.component.requirement value new.slot
-  pub came : new.came ≡ true
+  pub come : new.come ≡ Some value
 
 abbrev pub IsSetComponentTaken : List SetComponent → ℕ → Val → List SetComponent → Type 0
 IsSetComponentTaken (s ∷ set_components) zero value (t ∷ others) = IsTakenBy value s t × (others ≡ set_components)
@@ -221,12 +221,27 @@ IsPut (Parts.sequence passed slots left) which value (Parts.sequence new_passed 
 IsPut (Parts.set set_components) which value (Parts.set others) = IsSetComponentTaken set_components which value others
 IsPut _ _ _ _ = ⊥
 
+-- the slot of a component of a SET behind which none comes: that of the value that has come, or an empty one
+abbrev pub IsSettled : SetComponent → Option Val → Type 0
+IsSettled s slot = Settled s.come s.component.requirement slot
+  where
+    Settled : Option Val → Requirement → Option Val → Type 0
+    Settled None requirement slot = slot ≡ None
+    Settled (Some value) requirement slot = IsSlotOf requirement value slot
+
+-- the value of a SET for which these have come
+pub record IsValueOfSet (set_components : List SetComponent) (value : Val) : Type 0 where
+  pub filled : AllByRecursion (λ s. s.come ≡ None → MayBeAbsent s.component.requirement) set_components
+  pub slots : List (Option Val)
+  pub each : AllZip IsSettled set_components slots
+  pub value_is : value ≡ Val.fields (slots_of slots)
+
 -- a value of a type that has these parts, once nothing is left
 abbrev pub IsValueOf : Parts → Val → Type 0
 IsValueOf (Parts.explicit type held) value = held ≡ Some value
 IsValueOf (Parts.items type values) value = value ≡ Val.items (items_of values)
 IsValueOf (Parts.sequence passed slots left) value = AllByRecursion (λ c. MayBeAbsent c.requirement) left × (value ≡ Val.fields (slots_of (slots ++ map (λ c. None) left)))
-IsValueOf (Parts.set set_components) value = AllByRecursion (λ s. s.came ≡ false → MayBeAbsent s.component.requirement) set_components × (value ≡ Val.fields (slots_of (map (λ s. s.slot) set_components)))
+IsValueOf (Parts.set set_components) value = IsValueOfSet set_components value
 
 -- the types of parts are well formed, and their tags tell them apart
 pub record IsGoodType (type : Shape) : Type 0 where

@@ -13,10 +13,8 @@ ghost use Rattle.encoding_parts.specs.HeldParts.{parts_view, run_view, IsNode, I
 ghost use Rattle.encoding_parts.specs.Parts.{ArePartsOf, AreNone, IsDue, IsNextOf, IsPut, IsValueOf};
 
 use crate::choices::begins;
-use crate::set_components::{
-    SetComponents, is_default, not_due, set_component_due, set_components_of,
-    value_of_set_components,
-};
+use crate::set_components::{SetComponents, is_default, not_due};
+use crate::slots::empty_slots;
 use octets::{NoMemory, Tag};
 use std::alloc::Global;
 use types::{Field, Refusal, Ty, Value, may_be_absent};
@@ -30,7 +28,7 @@ pub enum HeldParts<'a> {
     Items(&'a Ty, Vec<Value>),
     /// The components of a SEQUENCE, and the slots of those that have come or been passed over.
     Sequence(&'a [Field], Vec<Option<Value>>),
-    /// The components of a SET.
+    /// The components of a SET, and what has come of them.
     Set(SetComponents<'a>),
 }
 
@@ -50,9 +48,13 @@ pub fn held_parts_of<'a>(alloc: Global, node: &'a Ty) -> Result<Option<HeldParts
             Ok(Some(HeldParts::Sequence(fields, slots)))
         }
         Ty::Set(_, fields) => {
-            let each = set_components_of(alloc, fields)?;
+            let slots = empty_slots(alloc, fields)?;
             let behind = 0;
-            Ok(Some(HeldParts::Set(SetComponents { each, behind })))
+            Ok(Some(HeldParts::Set(SetComponents {
+                fields,
+                slots,
+                behind,
+            })))
         }
         Ty::SequenceOf(_, inner) => Ok(Some(HeldParts::Items(inner, Vec::new(alloc)))),
         Ty::SetOf(_, inner) => Ok(Some(HeldParts::Items(inner, Vec::new(alloc)))),
@@ -90,11 +92,7 @@ impl<'a> HeldParts<'a> {
             HeldParts::Explicit(ty, None) => only_due(ty, tag),
             HeldParts::Items(ty, _) => only_due(ty, tag),
             HeldParts::Sequence(fields, slots) => next_due(rest(fields, slots.len()), tag),
-            HeldParts::Set(set_components) => set_component_due(
-                &set_components.each,
-                set_components.behind,
-                tag,
-            ),
+            HeldParts::Set(set_components) => set_components.due(tag),
         }
     }
 
@@ -149,7 +147,7 @@ impl<'a> HeldParts<'a> {
                 Ok(Value::Items(values))
             }
             HeldParts::Sequence(fields, slots) => value_of_run(fields, slots),
-            HeldParts::Set(set_components) => value_of_set_components(set_components.each),
+            HeldParts::Set(set_components) => set_components.into_value(),
         }
     }
 }

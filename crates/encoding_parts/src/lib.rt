@@ -35,8 +35,8 @@ pub use lengths::can_have_length;
 pub use parts::read_opening;
 pub use renewed::Renewed;
 pub use segments::{Segments, read_end};
-pub use set_components::{
-    SetComponent, SetComponents, is_default, not_due, set_component_due, set_components_of,
-};
+pub use set_components::{SetComponents, drop_default, is_default, not_due};
 pub use short::{is_identifier, short_primitive};
-pub use slots::{clear, empty_slots, put_chosen, take_bits, take_chosen, take_list, take_slots};
+pub use slots::{
+    clear, emptied_slots, empty_slots, put_chosen, take_bits, take_chosen, take_list, take_slots,
+};

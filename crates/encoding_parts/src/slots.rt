@@ -37,6 +37,22 @@ pub fn take_slots(
     empty_slots(alloc, fields)
 }
 
+/// A slot for each component, in the room of those that the slot holds, if they are as many; all are empty. Refused where
+/// memory runs out.
+pub fn emptied_slots(
+    alloc: Global,
+    fields: &[Field],
+    slot: &mut Option<Value>,
+) -> Result<Vec<Option<Value>>, NoMemory>
+    ensures { IfOk result (λ slots. slots.items ≡ map (λ c. None) (map field_view fields.now)) }
+{
+    let mut slots = take_slots(alloc, fields, slot)?;
+    for place in 0..slots.len() {
+        clear(&mut slots[place]);
+    }
+    Ok(slots)
+}
+
 /// Takes out the items that the slot holds, if it does; else there are none. Takes no memory.
 pub fn take_list(alloc: Global, slot: &mut Option<Value>) -> Vec<Value> {
     match slot {

@@ -1,9 +1,7 @@
 //! The open encodings of a walk.
 
 use crate::{Part, Step};
-use encoding_parts::{
-    Frame, Kind, SetComponents, kind_of, next_due, only_due, set_component_due, set_components_of,
-};
+use encoding_parts::{Frame, Kind, SetComponents, empty_slots, kind_of, next_due, only_due};
 use octets::{NoMemory, Tag};
 use std::alloc::Global;
 use types::{Field, Presence, Refusal, Ty, Value, may_be_absent};
@@ -63,9 +61,13 @@ impl<'a> Held<'a> {
         Ok(match node {
             Ty::Sequence(_, fields) => Some(Held::Sequence(fields)),
             Ty::Set(_, fields) => {
-                let each = set_components_of(alloc, fields)?;
+                let slots = empty_slots(alloc, fields)?;
                 let behind = 0;
-                Some(Held::Set(SetComponents { each, behind }))
+                Some(Held::Set(SetComponents {
+                    fields,
+                    slots,
+                    behind,
+                }))
             }
             Ty::SequenceOf(_, inner) | Ty::SetOf(_, inner) => Some(Held::Items(inner)),
             Ty::Explicit(_, inner) => Some(Held::Explicit(Some(inner))),
@@ -146,17 +148,18 @@ fn take_next<'a>(left: &mut &'a [Field], tag: Tag, passed: usize) -> Result<Due<
     Ok(due_field(index, before.last(), ty))
 }
 
+// A walk has no values, so NULL marks the slot of a component that has come.
 fn take_set_component<'a>(
     set_components: &mut SetComponents<'a>,
     tag: Tag,
 ) -> Result<Due<'a>, Refusal> {
-    let (which, ty) = set_component_due(&set_components.each, set_components.behind, tag)?;
+    let (which, ty) = set_components.due(tag)?;
     set_components.behind = which.saturating_add(1);
-    let Some(set_component) = set_components.each.get_mut(which) else {
+    let Some(slot) = set_components.slots.get_mut(which) else {
         return Err(Refusal::Identifier);
     };
-    set_component.came = true;
-    Ok(due_field(which, Some(set_component.field), ty))
+    *slot = Some(Value::Null);
+    Ok(due_field(which, set_components.fields.get(which), ty))
 }
 
 fn due_field<'a>(index: usize, field: Option<&'a Field>, ty: &'a Ty) -> Due<'a> {
@@ -193,9 +196,10 @@ fn missing_in<'a>(left: &'a [Field]) -> Option<&'a str> {
 }
 
 fn missing_set_component<'a>(set_components: &SetComponents<'a>) -> Option<&'a str> {
-    for set_component in &set_components.each {
-        if !set_component.came && !may_be_absent(&set_component.field.presence) {
-            return Some(set_component.field.name.as_str());
+    for (place, field) in set_components.fields.iter().enumerate() {
+        let has_come = matches!(set_components.slots.get(place), Some(Some(_)));
+        if !has_come && !may_be_absent(&field.presence) {
+            return Some(field.name.as_str());
         }
     }
     None

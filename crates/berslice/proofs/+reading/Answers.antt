@@ -1,5 +1,4 @@
 use Rattle.std.proofs.Common.{rules, ◌≡◌, ◌+◌, ◌-◌, ◌<◌, ◌≤◌, [], ◌∷◌, ◌++◌, Some, set, refl, sym, ap, ◌∙◌, subst, arith, take, drop, map, length}
-use Rattle.std.proofs.lemmas.Bool.{ltb-true}
 use Rattle.std.proofs.lemmas.List.{take_rest, take_more_set, length-set, length-drop}
 use Rattle.octets.specs.declared.tag.Tag.{Tag}
 use Rattle.octets.specs.Rule.{ber}
@@ -8,14 +7,15 @@ use Rattle.types.specs.declared.ty.Alternative as alternative
 use Rattle.types.specs.declared.ty.Field as field
 use Rattle.types.specs.Form.{IsConstructed}
 use Rattle.types.specs.Shape.{Shape}
-use Rattle.types.specs.View.{ty_view, value_view, field_view, components_view}
+use Rattle.types.specs.View.{ty_view, field_view, components_view}
 use Rattle.types.proofs.ViewLemmas.{ty-Sequence, ty-Set, ty-Explicit}
-use Rattle.encoding_parts.specs.Parts.{IsDue, IsGoodType}
-use Rattle.encoding_parts.specs.HeldParts.{parts_view}
+use Rattle.encoding_parts.specs.Parts.{Parts, IsVacant, IsGoodType}
+use Rattle.encoding_parts.specs.HeldParts.{come_view}
+use Rattle.encoding_parts.proofs.SetComponentLemmas.{members_in_slots, vacant_below}
 use Rattle.berslice.specs.Heads.{IsOpened}
 use Rattle.berslice.specs.Reading.{IsRead, AreContentsRead, IsComponentRead, AreComponentsRead, AreMoreItemsRead}
 use Rattle.encoding_parts.specs.Renewed.{new_items}
-use Rattle.berslice.proofs.ReadingLemmas.{both_of, IfSome-map, read_some, explicit_contents, sequence_contents, constructed_read, sequence_of_read, set_of_read, no_more_items, one_item_more, item_behind, all_items, no_components, component_read, all_components, component_stands, good_components, good_component, good_alternative, chosen_read, no_members, member_behind, member_read, member_some, field_type, due_field, set_contents, good_members}
+use Rattle.berslice.proofs.ReadingLemmas.{both_of, IfSome-map, read_some, explicit_contents, sequence_contents, constructed_read, sequence_of_read, set_of_read, no_more_items, one_item_more, item_behind, all_items, no_components, component_read, all_components, component_stands, good_components, good_component, good_alternative, chosen_read, no_members, member_behind, member_come, member_read, member_some, field_type, due_field, set_contents, good_members}
 use Rattle.berslice.proofs.+reading.Goals as goal
 
 pub reading::read_alternative-read_one-requires : goal.reading::read_alternative-read_one-requires
@@ -171,37 +171,62 @@ items::read_list-returns-clause-set t c =
     (λ n there whole. subst (λ slot. IsRead c.args.levels (Shape.set_of c.args.tag type) octets slot n) (sym c.fill.ensures)
     (set_of_read c.args.levels c.args.tag type octets inside.octets.now items used n c.requires.usable (search rules) read there (whole c.args.tag c.in_ok-inside.ensures)))
 
+pub members::read_member-bounds-fields-place : goal.members::read_member-bounds-fields-place
+members::read_member-bounds-fields-place t c =
+    let place = due_field c.in-Done.tag c.args.fields.now (come_view c.args.set_components.now) c.in-Ok.place (ty_view c.in-Ok.field-0-1.now) c.requires.set_components c.in-Ok.ensures.value.0 in
+    place.below
+
+pub members::read_member-offset_bounds-fields-place : goal.members::read_member-offset_bounds-fields-place
+members::read_member-offset_bounds-fields-place t c =
+    let place = due_field c.in-Done.tag c.args.fields.now (come_view c.args.set_components.now) c.in-Ok.place (ty_view c.in-Ok.field-0-1.now) c.requires.set_components c.in-Ok.ensures.value.0 in
+    let bound = place.below in
+    search (rules, bound)
+
+pub members::read_member-index_mut-requires : goal.members::read_member-index_mut-requires
+members::read_member-index_mut-requires t c =
+    let own = c.args.set_components.now in
+    let there = vacant_below (come_view own) c.in-Ok.place (ty_view c.in-Ok.field-0-1.now) c.in-Ok.ensures.value.0 in
+    let all = members_in_slots own.fields.now own.slots.items in
+    omega (arith, there, all)
+
+pub members::read_member-overflow_add-set_components : goal.members::read_member-overflow_add-set_components
+members::read_member-overflow_add-set_components t c =
+    let place = due_field c.in-Done.tag c.args.fields.now (come_view c.args.set_components.now) c.in-Ok.place (ty_view c.in-Ok.field-0-1.now) c.requires.set_components c.in-Ok.ensures.value.0 in
+    let bound = place.below in
+    search (rules, bound)
+
 pub members::read_member-read_one-requires : goal.members::read_member-read_one-requires
 members::read_member-read_one-requires t c =
     let fields = c.args.fields.now in
-    let f = c.in_ok-field.field.now in
-    let found = c.in_ok-field.ensures.lookup in
-    let bound = ltb-true _ _ (sym found.0) in
-    let at = found.1 in
-    (search (rules, node.the_lemmas, field.the_lemmas, bound, at), subst IsGoodType (field_type f) (good_component fields c.in-Ok.which f bound at c.requires.good).type)
+    let f = c.index-fields-place.result in
+    let at = c.index-fields-place.is in
+    let place = due_field c.in-Done.tag c.args.fields.now (come_view c.args.set_components.now) c.in-Ok.place (ty_view c.in-Ok.field-0-1.now) c.requires.set_components c.in-Ok.ensures.value.0 in
+    let bound = place.below in
+    (search (rules, node.the_lemmas, field.the_lemmas, bound, at), subst IsGoodType (field_type f) (good_component fields c.in-Ok.place f bound at c.requires.good).type)
 
-pub members::read_member-returns-in-Ok-put : goal.members::read_member-returns-in-Ok-put
-members::read_member-returns-in-Ok-put t c =
+pub members::read_member-returns : goal.members::read_member-returns
+members::read_member-returns t c =
     let levels = c.args.levels in
     let octets = c.args.octets.now in
-    let old = parts_view c.args.held_parts.now in
-    let which = c.in-Ok.which in
+    let own = c.args.set_components.now in
+    let which = c.in-Ok.place in
     let type = ty_view c.in-Ok.field-0-1.now in
-    let f = c.in_ok-field.field.now in
-    let v = c.in_ok-member.field-0 in
+    let f = c.index-fields-place.result in
+    let slot = c.read_one.new.slot in
     let used = c.in_ok-used.used in
-    let due : IsDue old which type = c.in-Ok.ensures.value.0 in
-    let place = due_field c.in-Done.tag c.args.fields.now old which type c.requires.set_components due in
-    let read : IsRead levels (ty_view f.ty) octets (Some v) used = subst (λ slot. IsRead levels (ty_view f.ty) octets slot used) c.in_ok-member.was c.in_ok-used.ensures in
-    let here : IsRead levels type octets (Some v) used = subst (λ shape. IsRead levels shape octets (Some v) used) (place.types f c.in_ok-field.ensures.lookup.1) read in
-    record { there = here.0; which = which; type = type; value = value_view v; due = due; part = here.1; put = c.in-Ok-put.ensures }
+    let vacant : IsVacant (come_view own) which type = c.in-Ok.ensures.value.0 in
+    let place = due_field c.in-Done.tag c.args.fields.now (come_view own) which type c.requires.set_components vacant in
+    let read : IsRead levels type octets slot used = subst (λ shape. IsRead levels shape octets slot used) (place.types f c.index-fields-place.is) c.in_ok-used.ensures in
+    member_come levels own.fields.now octets own.slots.items slot which type used vacant read
 
 pub members::read_members-loop-alloc-smaller : goal.members::read_members-loop-alloc-smaller
 members::read_members-loop-alloc-smaller t c =
     let octets = c.args.inside.now.octets.now in
     let at = c.loop-alloc.at in
-    let read = member_behind c.args.levels octets at c.in_ok-at.field-0 (parts_view c.loop-alloc.held_parts) (parts_view c.read_member.new.held_parts) c.in_ok-at.ensures in
-    let some = member_some c.args.levels (drop at octets) (parts_view c.loop-alloc.held_parts) (parts_view c.read_member.new.held_parts) c.in_ok-at.field-0 read in
+    let old = Parts.set (come_view c.loop-alloc.set_components) in
+    let new = Parts.set (come_view c.read_member.new.set_components) in
+    let read = member_behind c.args.levels octets at c.in_ok-at.field-0 old new c.in_ok-at.ensures in
+    let some = member_some c.args.levels (drop at octets) old new c.in_ok-at.field-0 read in
     let rest = length-drop at octets in
     omega (arith, some, read.there, rest, c.loop-alloc.invariant.there)
 
@@ -209,14 +234,14 @@ pub members::read_members-loop-alloc-preserved : goal.members::read_members-loop
 members::read_members-loop-alloc-preserved t c =
     let octets = c.args.inside.now.octets.now in
     let at = c.loop-alloc.at in
-    let old = parts_view c.loop-alloc.held_parts in
-    let new = parts_view c.read_member.new.held_parts in
+    let old = Parts.set (come_view c.loop-alloc.set_components) in
+    let new = Parts.set (come_view c.read_member.new.set_components) in
     let read = member_behind c.args.levels octets at c.in_ok-at.field-0 old new c.in_ok-at.ensures in
     member_read c.args.levels (map field_view c.args.fields.now) octets old new at c.in_ok-at.field-0 c.loop-alloc.invariant read
 
 pub members::read_members-loop-alloc-init : goal.members::read_members-loop-alloc-init
 members::read_members-loop-alloc-init t c =
-    no_members c.args.levels c.args.fields.now c.args.inside.now.octets.now c.in-Ok.each.items c.in-Ok.ensures.components c.in-Ok.ensures.vacant
+    no_members c.args.levels c.args.fields.now c.args.inside.now.octets.now c.in-Ok.slots.items c.in-Ok.ensures
 
 pub members::read_members-returns : goal.members::read_members-returns
 members::read_members-returns t c = λ tag.
@@ -224,7 +249,7 @@ members::read_members-returns t c = λ tag.
     let fields = c.args.fields.now in
     let octets = c.args.inside.now.octets.now in
     let at = c.loop-alloc.at in
-    let parts = parts_view c.loop-alloc.held_parts in
+    let parts = Parts.set (come_view c.loop-alloc.set_components) in
     subst (λ slot. AreContentsRead levels (Shape.set tag (components_view fields)) octets slot at) (sym c.fill.ensures)
     (set_contents levels tag (map field_view fields) octets parts c.in-Ok-into_value.value at c.loop-alloc.invariant c.in-Ok-into_value.ensures.value)
 

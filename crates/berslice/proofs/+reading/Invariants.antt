@@ -1,6 +1,7 @@
 use Rattle.std.proofs.Common.{◌≡◌, length, map, take, ◌-◌}
 use Rattle.types.specs.View.{ty_view, field_view}
-use Rattle.encoding_parts.specs.HeldParts.{parts_view}
+use Rattle.encoding_parts.specs.HeldParts.{come_view}
+use Rattle.encoding_parts.specs.Parts.{Parts}
 use Rattle.berslice.specs.Reading.{AreComponentsRead, AreMoreItemsRead, AreMembersRead}
 use Rattle.encoding_parts.specs.Renewed.{new_items}
 use Rattle.berslice.proofs.+reading.Given as goal
@@ -17,7 +18,7 @@ abbrev pub decreases-items::fill_list-loop-alloc : goal.decreases-items::fill_li
 decreases-items::fill_list-loop-alloc l = length l.octets - l.at
 
 abbrev pub invariant-members::read_members-loop-alloc : goal.invariant-members::read_members-loop-alloc
-invariant-members::read_members-loop-alloc l = AreMembersRead l.levels (map field_view l.fields) l.inside.octets.now (parts_view l.held_parts) l.at
+invariant-members::read_members-loop-alloc l = AreMembersRead l.levels (map field_view l.fields) l.inside.octets.now (Parts.set (come_view l.set_components)) l.at
 
 abbrev pub decreases-members::read_members-loop-alloc : goal.decreases-members::read_members-loop-alloc
 decreases-members::read_members-loop-alloc l = length l.inside.octets.now - l.at

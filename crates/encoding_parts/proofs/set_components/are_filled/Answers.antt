@@ -1,19 +1,36 @@
 use Rattle.std.proofs.Common.{arith}
 use Rattle.types.proofs.LoopLemmas.{goes_on, stops, ends, is_so, is_not_so, so, not_so}
-use Rattle.encoding_parts.proofs.SetComponentLemmas.{AreFilled, filled_first}
+use Rattle.encoding_parts.specs.HeldParts.{members_view}
+use Rattle.encoding_parts.proofs.SetComponentLemmas.{AreFilled, IsFilled, member, member_at, members_below, members_in_fields, members_in_slots, is_empty, is_not_empty, filled_first, filled_if_come, filled_if_absent, not_filled}
+use Rattle.encoding_parts.proofs.set_components.are_filled.Goals.{else-is_none-via-then-is_none+else-not-may_be_absent, else-is_none-via-else-is_none}
 use Rattle.encoding_parts.proofs.set_components.are_filled.Goals as goal
 
-pub loop-set_component-preserved : goal.loop-set_component-preserved
-loop-set_component-preserved c =
-    let x = c.set_component-item.result in
-    goes_on AreFilled _ c.args.set_components.now c.loop-set_component.set_component-index x (omega arith) c.set_component-item.is (filled_first x _)
-    (so _ _ c.is_filled.ensures c.if-not-is_filled.false) c.loop-set_component.invariant
+pub loop-place-preserved : goal.loop-place-preserved
+loop-place-preserved c =
+    let fields = c.args.fields.now in
+    let slots = c.args.slots.now in
+    let i = c.loop-place.place in
+    let f = c.index-fields-place.result in
+    let s = c.index-slots-place.result in
+    let filled : IsFilled (member f s) = elim c.else-is_none.branch [
+      | else-is_none-via-then-is_none+else-not-may_be_absent w ↦ filled_if_absent f s (so _ _ w.may_be_absent.ensures w.if-not-may_be_absent.false)
+      | else-is_none-via-else-is_none w ↦ filled_if_come f s (is_not_empty s _ c.is_none.ensures w.if-is_none.false)
+    ] in
+    goes_on AreFilled _ (members_view fields slots) i (member f s) (members_below fields slots i (omega arith) (omega arith)) (member_at fields slots i f s (omega arith) (omega arith) c.index-fields-place.is c.index-slots-place.is)
+    (filled_first (member f s) _) filled c.loop-place.invariant
 
-pub returns-then-not-is_filled : goal.returns-then-not-is_filled
-returns-then-not-is_filled c =
-    let x = c.set_component-item.result in
-    is_not_so (stops AreFilled _ c.args.set_components.now c.loop-set_component.set_component-index x (omega arith) c.set_component-item.is (filled_first x _)
-    (not_so _ _ c.is_filled.ensures c.if-not-is_filled.true) c.loop-set_component.invariant)
+pub returns-then-not-may_be_absent : goal.returns-then-not-may_be_absent
+returns-then-not-may_be_absent c =
+    let fields = c.args.fields.now in
+    let slots = c.args.slots.now in
+    let i = c.loop-place.place in
+    let f = c.index-fields-place.result in
+    let s = c.index-slots-place.result in
+    is_not_so (stops AreFilled _ (members_view fields slots) i (member f s) (members_below fields slots i (omega arith) (omega arith)) (member_at fields slots i f s (omega arith) (omega arith) c.index-fields-place.is c.index-slots-place.is)
+    (filled_first (member f s) _) (not_filled f s (is_empty s _ c.is_none.ensures c.if-is_none.true) (not_so _ _ c.may_be_absent.ensures c.if-not-may_be_absent.true)) c.loop-place.invariant)
 
 pub returns : goal.returns
-returns c = is_so (ends AreFilled c.args.set_components.now c.loop-set_component.set_component-index (omega arith) tt c.loop-set_component.invariant)
+returns c =
+    let fields = c.args.fields.now in
+    let slots = c.args.slots.now in
+    is_so (ends AreFilled (members_view fields slots) c.loop-place.place (omega (arith, members_in_fields fields slots, members_in_slots fields slots)) tt c.loop-place.invariant)

@@ -16,9 +16,7 @@ returns-in_err-value-clause-never c =
     let counted = c.in-Some.ensures.counted c.requires.sound.counted in
     let popped : IsPopped old mid layer = record { sound = c.requires.sound; layers = c.in-Some.ensures.layers; type = refl; taken = refl; counted = counted } in
     IfErr-from c.from_residual.result _ (λ refusal. IsFinal refusal → (octets : List ℕ) → EndsInside (layers_of old.layers) old.taken octets → CanFinish old octets → ⊥) c.from_residual.ensures.1
-    (λ refusal same final octets e h.
-    let v = value_ended old mid layer octets popped e h in
-    c.in_err-value.ensures.none (subst IsFinal same final) v.0 v.1)
+    (λ refusal same final octets e h. value_ended old mid layer octets popped e h (c.in_err-value.ensures.none (subst IsFinal same final)))
 
 pub place_value-requires : goal.place_value-requires
 place_value-requires c =

@@ -1,26 +1,19 @@
-use Rattle.std.proofs.Common.{◌<◌, map, length, refl, subst, sym, option_map, arith}
-use Rattle.std.proofs.lemmas.List.{length-map}
-use Rattle.encoding_parts.specs.HeldParts.{set_component_view}
-use Rattle.encoding_parts.specs.Parts.{IsSlotOf}
-use Rattle.types.specs.Shape.{Requirement}
-use Rattle.types.specs.View.{value_view}
-use Rattle.encoding_parts.proofs.SetComponentLemmas.{vacant_below, set_component_taken, requirement_is}
+use Rattle.std.proofs.Common.{arith}
+use Rattle.encoding_parts.specs.HeldParts.{come_view}
+use Rattle.encoding_parts.proofs.SetComponentLemmas.{members_in_slots, set_component_taken, vacant_below}
 use Rattle.encoding_parts.proofs.set_components.SetComponents.take.Goals as goal
 
-pub index_mut-set_component-requires : goal.index_mut-set_component-requires
-index_mut-set_component-requires c =
-    let xs = c.args.self.now.each.items in
-    omega (arith, vacant_below (map set_component_view xs) c.args.which c.requires.0 c.requires.1, length-map xs set_component_view)
+pub index_mut-requires : goal.index_mut-requires
+index_mut-requires c =
+    let s = c.args.self.now in
+    omega (arith, vacant_below (come_view s) c.args.which c.requires.0 c.requires.1, members_in_slots s.fields.now s.slots.items, s.slots.ok.0)
 
 pub overflow_add-self : goal.overflow_add-self
 overflow_add-self c =
-    let xs = c.args.self.now.each.items in
-    omega (arith, vacant_below (map set_component_view xs) c.args.which c.requires.0 c.requires.1, length-map xs set_component_view)
+    let s = c.args.self.now in
+    omega (arith, vacant_below (come_view s) c.args.which c.requires.0 c.requires.1, members_in_slots s.fields.now s.slots.items, s.slots.ok.0, s.slots.ok.1, s.slots.small)
 
 pub returns : goal.returns
 returns c =
-    let xs = c.args.self.now.each.items in
-    let x = c.index_mut-set_component.result.now in
-    let below : c.args.which < length xs = omega (arith, vacant_below (map set_component_view xs) c.args.which c.requires.0 c.requires.1, length-map xs set_component_view) in
-    let slot_is = subst (λ (r : Requirement). IsSlotOf r (value_view c.args.value) (option_map value_view c.slot_of.result)) (sym (requirement_is x.field.now)) c.slot_of.ensures in
-    set_component_taken xs c.args.which x _ (value_view c.args.value) below c.index_mut-set_component.ensures.value (record { component = refl; slot_is = slot_is; came = refl })
+    let s = c.args.self.now in
+    set_component_taken s.fields.now s.slots.items c.args.which c.requires.0 c.args.value c.requires.1
