@@ -63,6 +63,22 @@ impl<'a> SetComponents<'a> {
         self.behind = which + 1;
     }
 
+    /// Whether each component has come that may not be absent. Takes no memory.
+    pub fn are_filled(&self) -> bool
+        ensures { IsTrue result ↔ AllByRecursion (λ s. s.come ≡ None → MayBeAbsent s.component.requirement)
+            (come_view self.now) }
+    {
+        let fields = self.fields;
+        let count = fields.len().min(self.slots.len());
+        for place in 0..count {
+            let field = &fields[place];
+            if self.slots[place].is_none() && !may_be_absent(&field.presence) {
+                return false;
+            }
+        }
+        true
+    }
+
     /// The value of a SET for whose components these have come. One that came as its default leaves an empty slot.
     ///
     /// Refused with `Missing` where a component must still come. Takes no memory.
@@ -72,7 +88,7 @@ impl<'a> SetComponents<'a> {
             ¬ IsValueOf (Parts.set (come_view self.entry)) v) }
         ensures numbers { IfErr result IsOfParts }
     {
-        if !are_filled(self.fields, &self.slots) {
+        if !self.are_filled() {
             return Err(Refusal::Missing);
         }
         let mut slots = self.slots;
@@ -181,21 +197,6 @@ pub fn drop_default(presence: &Presence, slot: &mut Option<Value>)
     if is_dropped {
         clear(slot);
     }
-}
-
-// Whether each component has come that may not be absent.
-fn are_filled(fields: &[Field], slots: &[Option<Value>]) -> bool
-    ensures { IsTrue result ↔ AllByRecursion (λ s. s.come ≡ None → MayBeAbsent s.component.requirement)
-        (members_view fields.now slots.now) }
-{
-    let count = fields.len().min(slots.len());
-    for place in 0..count {
-        let field = &fields[place];
-        if slots[place].is_none() && !may_be_absent(&field.presence) {
-            return false;
-        }
-    }
-    true
 }
 
 // Empties the slots of components that have come as their defaults.

@@ -4,8 +4,9 @@ use Rattle.std.proofs.lemmas.List.{take_rest}
 use Rattle.std.specs.declared.result.Result.{Result}
 use Rattle.octets.proofs.ResultLemmas.{IfErr-from}
 use Rattle.types.specs.declared.refusal.Refusal.{Refusal}
-use Rattle.types.specs.declared.refusal.Refusal.TheVariants.{Truncated, Contents, Alphabet, NotCanonical, NoMemory}
+use Rattle.types.specs.declared.refusal.Refusal.TheVariants.{Truncated, Identifier, EndOfContents, Missing, Repeated, Contents, Alphabet, NotCanonical, NoMemory}
 use Rattle.types.specs.Refusal.{IsFinal, IsOfReading}
+use Rattle.encoding_parts.specs.HeldParts.{IsOfDue}
 use Rattle.strict.specs.Bars.{MayFollow, Bars, RefusesStrictly, StandsFor}
 use Rattle.strict.specs.Leaf.{IsOfSpelling}
 use Rattle.strict.specs.Refusal.{IsOfStrictReading}
@@ -36,6 +37,14 @@ refused_of {r} Q C octets truncated cut never numbers = record { bars = bars_of 
 -- what is refused for good is not cut
 pub refused_for_good : {r : Refusal} {Q C : List ℕ → Type 0} {octets : List ℕ} → IsFinal r × IsOfStrictReading r → ((more : List ℕ) → Q (octets ++ more) → ⊥) → RefusesStrictly Q C octets r
 refused_for_good {r} {Q} {C} {octets} final never = record { bars = λ more may q. never more q; cut = λ same. absurd (subst IsFinal same final.0); numbers = final.1 }
+
+-- so is a tag that is not due
+pub due_strictly : (r : Refusal) → IsOfDue r → IsFinal r × IsOfStrictReading r
+due_strictly Identifier h = (tt, tt)
+due_strictly EndOfContents h = (tt, tt)
+due_strictly Missing h = (tt, tt)
+due_strictly Repeated h = (tt, tt)
+due_strictly r h = absurd h
 
 -- nor are contents octets that are refused
 spelling_strictly : (r : Refusal) → IsOfSpelling r → IsOfStrictReading r

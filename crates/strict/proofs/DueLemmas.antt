@@ -1,5 +1,5 @@
 -- Lemmas on the component of a SET that a tag at the front begins.
-use Rattle.std.proofs.Common.{◌≡◌, ◌↔◌, ℕ, zero, suc, ◌-◌, ◌<◌, ◌≤◌, inl, inr, List, [], ◌∷◌, ◌++◌, Bool, true, false, Option, Some, None, IsTrue, Contains, MatchOption, length, take, drop, map, set, get_or, sym, ◌∙◌, ap, subst, subst₂, arith}
+use Rattle.std.proofs.Common.{◌≡◌, ◌↔◌, ℕ, zero, suc, ◌-◌, ◌<◌, ◌≤◌, inl, inr, List, [], ◌∷◌, ◌++◌, Bool, true, false, Option, Some, None, IsTrue, Contains, MatchOption, length, take, drop, map, set, get_or, refl, sym, ◌∙◌, ap, subst, subst₂, arith}
 use Rattle.std.specs.List.{AllByRecursion}
 use Rattle.std.proofs.lemmas.List.{length-take-le, take-append-drop}
 use Rattle.octets.specs.declared.tag.Tag.{Tag}
@@ -16,43 +16,60 @@ use Rattle.types.specs.FirstTags.{first_tags, AreDistinct, tags_of_components}
 use Rattle.types.specs.Order.{BeginsWith, BeginsWithOneOf, IsOrderTag, IsOrderTagIn}
 use Rattle.types.proofs.BeginningLemmas.{encoding_begins, begins_once}
 use Rattle.types.proofs.FirstTagLemmas.{tag_within}
-use Rattle.encoding_parts.specs.Parts.{IsGoodType, IsGoodComponent}
+use Rattle.types.proofs.ListLemmas.{contains_left, contains_right, distinct_apart, distinct_right}
+use Rattle.encoding_parts.specs.HeldParts.{members_view}
+use Rattle.encoding_parts.specs.Parts.{IsVacant, IsGoodType, IsGoodComponent}
+use Rattle.encoding_parts.proofs.SetComponentLemmas.{NoneDue, AreFilled, vacant_below, members_in_fields}
 use Rattle.encoding_parts.specs.Segments.{BeginsAboveZero}
 use Rattle.strict.specs.Head.{EndsHere}
 use Rattle.strict.specs.Components.{IsFront, EndsOrBegins, HasPresent, IsPresentRead}
-use Rattle.strict.specs.Members.{IsBegunAt, IsEmptyAt, IsOrderTagOf, ComesBehind, AreFilled, HasMembers}
+use Rattle.strict.specs.Members.{IsOrderTagOf, ComesBehind, HasMembers}
 use Rattle.strict.proofs.PartLemmas.{one_of, same_part, one_begins, no_end_here}
 use Rattle.strict.proofs.FrontLemmas.{same_tag, within_of, begins_whole}
-use Rattle.strict.proofs.BegunLemmas.{begun_once, begun_within}
-use Rattle.strict.proofs.MemberLemmas.{IsComponentAt, IsNextMember, next_member}
+use Rattle.strict.proofs.MemberLemmas.{come_of, IsComponentAt, IsNextMember, next_member}
 
-component_at : (fields : List Field) (i : ℕ) (f : Field) → i < length fields → f ≡ get_or fields i f → IsComponentAt (map field_view fields) i (field_view f)
-component_at [] i f below is = absurd (omega (arith, below))
-component_at (x ∷ fields) zero f below is = ap field_view (sym is)
-component_at (x ∷ fields) (suc i) f below is = component_at fields i f (omega (arith, below)) is
+-- the component that begins with the tag and has not come
+pub record IsFound (cs : List ComponentView) (slots : List (Option Value)) (place : ℕ) (c : ComponentView) (tag : Tag) : Type 0 where
+  pub here : IsComponentAt cs place c
+  pub vacant : IsVacant (come_of cs slots) place c.type
+  pub first : Contains (first_tags c.type) tag
 
-pub begun_at : (fields : List Field) (i : ℕ) (f : Field) (tag : Tag) → IsBegunAt (map field_view fields) i tag → f ≡ get_or fields i f → IsComponentAt (map field_view fields) i (field_view f)
-begun_at fields i f tag begun is = component_at fields i f (begun_within fields i tag begun) is
+found_in : (fields : List Field) (slots : List (Option Value)) (place : ℕ) (type : Shape) (f : Field) (tag : Tag) → IsVacant (members_view fields slots) place type → Contains (first_tags type) tag → f ≡ get_or fields place f → IsFound (map field_view fields) slots place (field_view f) tag
+found_in [] slots place type f tag vacant first is = absurd vacant
+found_in (x ∷ fields) [] place type f tag vacant first is = absurd vacant
+found_in (x ∷ fields) (s ∷ slots) zero type f tag vacant first is =
+    let here : field_view x ≡ field_view f = ap field_view (sym is) in
+    let same : type ≡ (field_view f).type = sym vacant.1 ∙ ap (λ (c : ComponentView). c.type) here in
+    record { here = here; vacant = (vacant.0, ap (λ (c : ComponentView). c.type) here); first = subst (λ t. Contains (first_tags t) tag) same first }
+found_in (x ∷ fields) (s ∷ slots) (suc place) type f tag vacant first is =
+    let later = found_in fields slots place type f tag vacant first is in
+    record { here = later.here; vacant = later.vacant; first = later.first }
 
-component_once : (cs : List ComponentView) (i : ℕ) (c d : ComponentView) → IsComponentAt cs i c → IsComponentAt cs i d → c ≡ d
-component_once [] i c d h g = absurd h
-component_once (x ∷ cs) zero c d h g = sym h ∙ g
-component_once (x ∷ cs) (suc i) c d h g = component_once cs i c d h g
+pub found_at : (own fields : List Field) (slots : List (Option Value)) (place : ℕ) (type : Shape) (f : Field) (tag : Tag) → own ≡ fields → IsVacant (members_view own slots) place type × Contains (first_tags type) tag → f ≡ get_or fields place f → IsFound (map field_view fields) slots place (field_view f) tag
+found_at own fields slots place type f tag same due is = found_in fields slots place type f tag (subst (λ (l : List Field). IsVacant (members_view l slots) place type) same due.0) due.1 is
+
+pub found_below : (own fields : List Field) (slots : List (Option Value)) (place : ℕ) (type : Shape) → own ≡ fields → IsVacant (members_view own slots) place type → place < length fields
+found_below own fields slots place type same vacant = omega (arith, vacant_below (members_view own slots) place type vacant, members_in_fields own slots, ap length same)
 
 pub component_all : (P : ComponentView → Type 0) (cs : List ComponentView) (i : ℕ) (c : ComponentView) → IsComponentAt cs i c → AllByRecursion P cs → P c
 component_all P [] i c h all = absurd h
 component_all P (x ∷ cs) zero c h all = subst P h all.0
 component_all P (x ∷ cs) (suc i) c h all = component_all P cs i c h all.1
 
-begun_of : (cs : List ComponentView) (i : ℕ) (c : ComponentView) (tag : Tag) → IsComponentAt cs i c → Contains (first_tags c.type) tag → IsBegunAt cs i tag
-begun_of [] i c tag h k = absurd h
-begun_of (x ∷ cs) zero c tag h k = subst (λ (y : ComponentView). Contains (first_tags y.type) tag) (sym h) k
-begun_of (x ∷ cs) (suc i) c tag h k = begun_of cs i c tag h k
+tags_within : (cs : List ComponentView) (i : ℕ) (c : ComponentView) (tag : Tag) → IsComponentAt cs i c → Contains (first_tags c.type) tag → Contains (tags_of_components (components_of cs)) tag
+tags_within [] i c tag h k = absurd h
+tags_within (x ∷ cs) zero c tag h k = contains_left (first_tags x.type) (tags_of_components (components_of cs)) tag (subst (λ (y : ComponentView). Contains (first_tags y.type) tag) (sym h) k)
+tags_within (x ∷ cs) (suc i) c tag h k = contains_right (first_tags x.type) (tags_of_components (components_of cs)) tag (tags_within cs i c tag h k)
 
-pub begins_first : (cs : List ComponentView) (i : ℕ) (c : ComponentView) (tag : Tag) → IsComponentAt cs i c → IsBegunAt cs i tag → Contains (first_tags c.type) tag
-begins_first [] i c tag h k = absurd h
-begins_first (x ∷ cs) zero c tag h k = subst (λ (y : ComponentView). Contains (first_tags y.type) tag) h k
-begins_first (x ∷ cs) (suc i) c tag h k = begins_first cs i c tag h k
+-- one component begins with the tag
+component_once : (cs : List ComponentView) (i j : ℕ) (c d : ComponentView) (tag : Tag) → AreDistinct (tags_of_components (components_of cs)) → IsComponentAt cs i c → Contains (first_tags c.type) tag → IsComponentAt cs j d → Contains (first_tags d.type) tag → (i ≡ j) × (c ≡ d)
+component_once [] i j c d tag distinct h k g l = absurd h
+component_once (x ∷ cs) zero zero c d tag distinct h k g l = (refl, sym h ∙ g)
+component_once (x ∷ cs) zero (suc j) c d tag distinct h k g l = absurd (distinct_apart (first_tags x.type) (tags_of_components (components_of cs)) distinct tag (subst (λ (y : ComponentView). Contains (first_tags y.type) tag) (sym h) k) (tags_within cs j d tag g l))
+component_once (x ∷ cs) (suc i) zero c d tag distinct h k g l = absurd (distinct_apart (first_tags x.type) (tags_of_components (components_of cs)) distinct tag (subst (λ (y : ComponentView). Contains (first_tags y.type) tag) (sym g) l) (tags_within cs i c tag h k))
+component_once (x ∷ cs) (suc i) (suc j) c d tag distinct h k g l =
+    let later = component_once cs i j c d tag (distinct_right (first_tags x.type) (tags_of_components (components_of cs)) distinct) h k g l in
+    (ap suc later.0, later.1)
 
 order_tag_in : (rule : Rule) (cs : List ComponentView) (i : ℕ) (c : ComponentView) (octets : List ℕ) (tag : Tag) → IsComponentAt cs i c → BeginsWithOneOf (first_tags c.type) octets → IsOrderTag rule c.type octets tag → IsOrderTagIn rule (components_of cs) octets tag
 order_tag_in rule [] i c octets tag h begins is = absurd h
@@ -74,7 +91,6 @@ record IsFrontMember (rule : Rule) (cs : List ComponentView) (slots : List (Opti
   next : IsNextMember rule cs slots last definite room octets
   begins : BeginsWith tag next.part
   first : Contains (first_tags next.member.component.type) tag
-  begun : IsBegunAt cs next.place tag
 
 front_member : (rule : Rule) (cs : List ComponentView) (slots : List (Option Value)) (last : Option Tag) (definite : Bool) (room : ℕ) (octets more : List ℕ) (tag : Tag) → IsFront (Some tag) definite room octets → HasMembers rule cs slots last definite room (octets ++ more)
     → IsFrontMember rule cs slots last definite room (octets ++ more) tag
@@ -86,7 +102,7 @@ front_member rule cs slots last definite room octets more tag front h =
           let b = encoding_begins rule m.component.type m.value n.part m.encoding in
           let same : b.0 ≡ tag = sym (same_tag tag b.0 room octets more front.0 (within_of b.0 room n.part n.tail (octets ++ more) n.parts n.fits b.2)) in
           let first = subst (Contains (first_tags m.component.type)) same b.1 in
-          record { next = n; begins = subst (λ t. BeginsWith t n.part) same b.2; first = first; begun = begun_of cs n.place m.component tag m.here first }
+          record { next = n; begins = subst (λ t. BeginsWith t n.part) same b.2; first = first }
     ]
 
 -- so it can be told what stands there
@@ -108,7 +124,7 @@ ends_more true room octets more ends = ends
 ends_more false room octets more ends = (ends.0 ++ more, ap (λ x. x ++ more) ends.1)
 
 pub members_filled : (rule : Rule) (cs : List ComponentView) (slots : List (Option Value)) (last : Option Tag) (definite : Bool) (room : ℕ) (octets more : List ℕ) → AllByRecursion IsGoodComponent cs → EndsHere definite room octets → HasMembers rule cs slots last definite room (octets ++ more)
-    → AreFilled cs slots
+    → AreFilled (come_of cs slots)
 members_filled rule cs slots last definite room octets more good ends h =
     elim (next_member rule cs slots last definite room (octets ++ more) h) [
       | inl none ↦ none.filled
@@ -121,10 +137,10 @@ members_filled rule cs slots last definite room octets more good ends h =
 
 -- where no component is left that the tag begins, nothing goes on
 pub none_goes_on : (rule : Rule) (cs : List ComponentView) (slots : List (Option Value)) (last : Option Tag) (definite : Bool) (room : ℕ) (octets more : List ℕ) (tag : Tag) → IsFront (Some tag) definite room octets
-    → ((place : ℕ) → IsBegunAt cs place tag → IsEmptyAt slots place → ⊥) → HasMembers rule cs slots last definite room (octets ++ more) → ⊥
+    → NoneDue tag (come_of cs slots) → HasMembers rule cs slots last definite room (octets ++ more) → ⊥
 none_goes_on rule cs slots last definite room octets more tag front none h =
     let f = front_member rule cs slots last definite room octets more tag front h in
-    none f.next.place f.begun f.next.member.empty
+    none f.next.place f.next.member.component.type f.next.member.vacant f.first
 
 -- the component that was found is the one that stands there
 pub record IsDue (rule : Rule) (cs : List ComponentView) (slots : List (Option Value)) (last : Option Tag) (place : ℕ) (c : ComponentView) (order : Tag) (definite : Bool) (room : ℕ) (octets : List ℕ) : Type 0 where
@@ -140,25 +156,24 @@ pub record IsDue (rule : Rule) (cs : List ComponentView) (slots : List (Option V
   pub later : (v : Value) → HasMembers rule cs (set slots place (Some v)) (Some order) definite (room - length part) tail
 
 pub is_due : (rule : Rule) (cs : List ComponentView) (slots : List (Option Value)) (last : Option Tag) (place : ℕ) (c : ComponentView) (order : Tag) (definite : Bool) (room : ℕ) (octets more : List ℕ) (tag : Tag) → AreDistinct (tags_of_components (components_of cs))
-    → IsFront (Some tag) definite room octets → IsBegunAt cs place tag → IsComponentAt cs place c → IsOrderTagOf rule c.type tag order → HasMembers rule cs slots last definite room (octets ++ more) → IsDue rule cs slots last place c order definite room (octets ++ more)
-is_due rule cs slots last place c order definite room octets more tag distinct front begun here is h =
+    → IsFront (Some tag) definite room octets → IsFound cs slots place c tag → IsOrderTagOf rule c.type tag order → HasMembers rule cs slots last definite room (octets ++ more) → IsDue rule cs slots last place c order definite room (octets ++ more)
+is_due rule cs slots last place c order definite room octets more tag distinct front found is h =
     let f = front_member rule cs slots last definite room octets more tag front h in
     let n = f.next in
     let m = n.member in
-    let at : n.place ≡ place = begun_once cs n.place place tag distinct f.begun begun in
-    let same : m.component ≡ c = component_once cs place m.component c (subst (λ i. IsComponentAt cs i m.component) at m.here) here in
-    let ordered = order_in rule cs place c tag order n.part here is (begins_first cs place c tag here begun) f.begins in
+    let once = component_once cs n.place place m.component c tag distinct m.here f.first found.here found.first in
+    let ordered = order_in rule cs place c tag order n.part found.here is found.first f.begins in
     record {
       value = m.value;
       part = n.part;
       tail = n.tail;
-      encoding = subst (λ (d : ComponentView). IsEncoding rule d.type m.value n.part) same m.encoding;
-      differs = subst (λ (d : ComponentView). DiffersFromDefault d.requirement m.value) same m.differs;
+      encoding = subst (λ (d : ComponentView). IsEncoding rule d.type m.value n.part) once.1 m.encoding;
+      differs = subst (λ (d : ComponentView). DiffersFromDefault d.requirement m.value) once.1 m.differs;
       ordered = ordered;
       behind = n.behind;
       fits = n.fits;
       parts = n.parts;
-      later = λ v. subst (λ i. HasMembers rule cs (set slots i (Some v)) (Some order) definite (room - length n.part) n.tail) at (n.later v order ordered);
+      later = λ v. subst (λ i. HasMembers rule cs (set slots i (Some v)) (Some order) definite (room - length n.part) n.tail) once.0 (n.later v order ordered);
     }
 
 pub present_due : (rule : Rule) (cs : List ComponentView) (slots : List (Option Value)) (last : Option Tag) (place : ℕ) (c : ComponentView) (order : Tag) (definite : Bool) (room : ℕ) (octets : List ℕ) → IsDue rule cs slots last place c order definite room octets → HasPresent rule c room octets

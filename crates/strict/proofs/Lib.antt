@@ -24,7 +24,6 @@ pub mod EndingLemmas
 pub mod EndingInstances
 pub mod AloneLemmas
 pub mod ConstructedLemmas
-pub mod BegunLemmas
 pub mod MemberLemmas
 pub mod DueLemmas
 pub mod SetLemmas

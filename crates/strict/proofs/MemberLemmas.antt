@@ -1,5 +1,5 @@
 -- Lemmas on the components of a SET, one after another: each that was read is the one that stands there.
-use Rattle.std.proofs.Common.{◌≡◌, ℕ, zero, suc, ◌-◌, ◌≤◌, ◌⊎◌, inl, inr, List, [], ◌∷◌, ◌++◌, Bool, Option, Some, None, IsPermutation, Contains, length, set, refl, sym, ◌∙◌, subst, arith, append_assoc, length-append}
+use Rattle.std.proofs.Common.{◌≡◌, ℕ, zero, suc, ◌-◌, ◌≤◌, ◌⊎◌, inl, inr, List, [], ◌∷◌, ◌++◌, Bool, Option, Some, None, IsPermutation, Contains, length, map, option_map, set, refl, sym, ◌∙◌, subst, arith, append_assoc, length-append}
 use Rattle.std.specs.List.{AllByRecursion, concat}
 use Rattle.std.proofs.lemmas.List.Sorted.{IsPermutation-refl, IsPermutation-sym, IsPermutation-trans, IsPermutation-cons, IsPermutation-swap, Contains-permutation, length_permutation}
 use Rattle.octets.specs.declared.tag.Tag.{Tag}
@@ -7,16 +7,23 @@ use Rattle.octets.specs.Rule.{Rule}
 use Rattle.octets.specs.Tag.{ComesBefore}
 use Rattle.types.specs.declared.value.Value.{Value}
 use Rattle.types.specs.Shape.{Val}
-use Rattle.types.specs.View.{ComponentView, components_of}
+use Rattle.types.specs.View.{ComponentView, components_of, value_view}
 use Rattle.types.specs.Conforms.{DiffersFromDefault}
 use Rattle.types.specs.Encoding.{IsEncoding, standing}
 use Rattle.types.specs.Order.{IsOrderTagIn, AscendsByTag}
 use Rattle.types.proofs.ListLemmas.{not_in_nil, contains_first, contains_cases, contains_later}
 use Rattle.types.proofs.SortedLemmas.{AllPairs-first, AllPairs-rest}
 use Rattle.strict.specs.Head.{Fills, mark, EndsHere}
-use Rattle.strict.specs.Members.{IsEmptyAt, AreMembersLeft, AreFilled, ComesBehind, HasMembers}
+use Rattle.strict.specs.Members.{AreMembersLeft, ComesBehind, HasMembers}
+use Rattle.encoding_parts.specs.HeldParts.{set_components_view}
+use Rattle.encoding_parts.specs.Parts.{SetComponent, IsVacant}
 use Rattle.encoding_parts.proofs.OthersLemmas.{permutation_others}
+use Rattle.encoding_parts.proofs.SetComponentLemmas.{AreFilled}
 use Rattle.strict.proofs.PartLemmas.{ends_here, fills_after}
+
+-- the components, and what has come of them
+abbrev pub come_of : List ComponentView → List (Option Value) → List SetComponent
+come_of components slots = set_components_view components (map (option_map value_view) slots)
 
 -- this is the component at the place
 abbrev pub IsComponentAt : List ComponentView → ℕ → ComponentView → Type 0
@@ -29,7 +36,7 @@ pub record IsMember (rule : Rule) (components : List ComponentView) (slots : Lis
   pub component : ComponentView
   pub value : Val
   pub here : IsComponentAt components place component
-  pub empty : IsEmptyAt slots place
+  pub vacant : IsVacant (come_of components slots) place component.type
   pub encoding : IsEncoding rule component.type value part
   pub differs : DiffersFromDefault component.requirement value
 
@@ -46,7 +53,7 @@ picked_later : (rule : Rule) (c : ComponentView) (components : List ComponentVie
     → IsPicked rule components slots encodings part → IsPicked rule (c ∷ components) (slot ∷ slots) (encoding ∷ encodings) part
 picked_later rule c components slot slots encoding encodings part step p = record {
   place = suc p.place;
-  member = record { component = p.member.component; value = p.member.value; here = p.member.here; empty = p.member.empty; encoding = p.member.encoding; differs = p.member.differs };
+  member = record { component = p.member.component; value = p.member.value; here = p.member.here; vacant = p.member.vacant; encoding = p.member.encoding; differs = p.member.differs };
   others = encoding ∷ p.others;
   left = λ v. step (set slots p.place (Some v)) p.others (p.left v);
   order = order_later encoding;
@@ -68,7 +75,7 @@ picked rule (x ∷ components) (None ∷ slots) (Some octets ∷ encodings) part
     elim (contains_cases octets part (standing encodings) c) [
       | inl same ↦ record {
         place = zero;
-        member = record { component = x; value = h.0.0; here = refl; empty = refl; encoding = subst (IsEncoding rule x.type h.0.0) same h.0.1; differs = h.0.2 };
+        member = record { component = x; value = h.0.0; here = refl; vacant = (refl, refl); encoding = subst (IsEncoding rule x.type h.0.0) same h.0.1; differs = h.0.2 };
         others = None ∷ encodings;
         left = λ v. h.1;
         order = subst (λ y. IsPermutation (octets ∷ standing encodings) (y ∷ standing encodings)) same (IsPermutation-refl (octets ∷ standing encodings));
@@ -91,12 +98,12 @@ pub record IsNextMember (rule : Rule) (components : List ComponentView) (slots :
 -- or the end, where all others may be absent
 pub record IsNoMember (components : List ComponentView) (slots : List (Option Value)) (definite : Bool) (room : ℕ) (octets : List ℕ) : Type 0 where
   pub ends : EndsHere definite room octets
-  pub filled : AreFilled components slots
+  pub filled : AreFilled (come_of components slots)
 
-none_stands : (rule : Rule) (components : List ComponentView) (slots : List (Option Value)) (encodings : List (Option (List ℕ))) → AreMembersLeft rule components slots encodings → length (standing encodings) ≡ 0 → AreFilled components slots
+none_stands : (rule : Rule) (components : List ComponentView) (slots : List (Option Value)) (encodings : List (Option (List ℕ))) → AreMembersLeft rule components slots encodings → length (standing encodings) ≡ 0 → AreFilled (come_of components slots)
 none_stands rule [] [] [] h none = tt
-none_stands rule (c ∷ components) (Some v ∷ slots) (None ∷ encodings) h none = none_stands rule components slots encodings h none
-none_stands rule (c ∷ components) (None ∷ slots) (None ∷ encodings) h none = (h.0, none_stands rule components slots encodings h.1 none)
+none_stands rule (c ∷ components) (Some v ∷ slots) (None ∷ encodings) h none = (λ vacant. cc vacant, none_stands rule components slots encodings h none)
+none_stands rule (c ∷ components) (None ∷ slots) (None ∷ encodings) h none = (λ vacant. h.0, none_stands rule components slots encodings h.1 none)
 none_stands rule (c ∷ components) (None ∷ slots) (Some octets ∷ encodings) h none = absurd (omega (arith, none))
 none_stands rule components slots encodings h none = elim h [ ]
 

@@ -1,5 +1,5 @@
 -- Lemmas on the components of a SET that were read.
-use Rattle.std.proofs.Common.{◌≡◌, ◌↔◌, ℕ, zero, suc, ◌+◌, ◌-◌, inl, inr, List, [], ◌∷◌, ◌++◌, Bool, true, Option, Some, None, IsTrue, IsPermutation, AllPairs, MatchOption, Vec, Global, length, take, drop, map, option_map, set, refl, sym, ◌∙◌, ap, subst, subst₂, arith}
+use Rattle.std.proofs.Common.{◌≡◌, ◌↔◌, ℕ, zero, suc, ◌+◌, ◌-◌, inl, inr, List, [], ◌∷◌, ◌++◌, Bool, true, Option, Some, None, IsTrue, IsPermutation, AllPairs, MatchOption, Vec, Global, take, drop, map, option_map, set, refl, sym, ◌∙◌, ap, subst, subst₂, arith}
 use Rattle.std.specs.List.{AllByRecursion}
 use Rattle.std.proofs.Math.Seq.{take-add}
 use Rattle.std.proofs.lemmas.List.{length-drop, drop-drop}
@@ -24,27 +24,21 @@ use Rattle.types.proofs.SetOrderLemmas.{one_order_tag}
 use Rattle.types.proofs.SortedLemmas.{AllPairs-first, AllPairs-rest, AllPairs-from_first}
 use Rattle.types.proofs.TagLemmas.{contains_either}
 use Rattle.types.proofs.ViewLemmas.{value-Fields}
-use Rattle.encoding_parts.specs.Parts.{IsGoodType, IsGoodComponent}
+use Rattle.encoding_parts.specs.Parts.{IsVacant, IsGoodType, IsGoodComponent}
 use Rattle.encoding_parts.proofs.PartsOpenLemmas.{components_good}
+use Rattle.encoding_parts.proofs.SetComponentLemmas.{AreFilled}
 use Rattle.strict.specs.declared.canonical.Canonical.{Canonical}
 use Rattle.strict.specs.Canonical.{rule_of}
 use Rattle.strict.specs.Head.{EndsHere}
 use Rattle.strict.specs.Inside.{HasInside, IsInsideRead}
 use Rattle.strict.specs.Components.{IsFront, IsPresentRead}
-use Rattle.strict.specs.Members.{IsBegunAt, IsOrderTagOf, IsEmptyAt, AreMembersLeft, AreMembersCome, AreFilled, ComesBehind, ComesUpTo, HasMembers, AreMembersRead}
+use Rattle.strict.specs.Members.{IsOrderTagOf, AreMembersLeft, AreMembersCome, ComesBehind, ComesUpTo, HasMembers, AreMembersRead}
 use Rattle.strict.proofs.FrontLemmas.{canonical_of}
 use Rattle.strict.proofs.PartLemmas.{concat_last}
 use Rattle.strict.proofs.ComponentLemmas.{may_of_absent}
 use Rattle.strict.proofs.SequenceLemmas.{absent_stands}
-use Rattle.strict.proofs.MemberLemmas.{IsComponentAt}
-use Rattle.strict.proofs.DueLemmas.{IsDue, is_due, due_after, begins_first, order_in, read_begins}
-
--- there are as many slots as components
-pub come_length : (rule : Rule) (cs : List ComponentView) (slots : List (Option Value)) (encodings : List (Option (List ℕ))) → AreMembersCome rule cs slots encodings → length slots ≡ length cs
-come_length rule [] [] [] h = refl
-come_length rule (c ∷ cs) (None ∷ slots) (None ∷ encodings) h = ap suc (come_length rule cs slots encodings h)
-come_length rule (c ∷ cs) (Some v ∷ slots) (Some octets ∷ encodings) h = ap suc (come_length rule cs slots encodings h.1)
-come_length rule cs slots encodings h = elim h [ ]
+use Rattle.strict.proofs.MemberLemmas.{come_of, IsComponentAt}
+use Rattle.strict.proofs.DueLemmas.{IsFound, IsDue, is_due, due_after, order_in, read_begins}
 
 -- one that has come besides the others
 record IsOneMore (rule : Rule) (cs : List ComponentView) (slots : List (Option Value)) (encodings : List (Option (List ℕ))) (part : List ℕ) : Type 0 where
@@ -62,20 +56,20 @@ one_later rule c cs slot slots encoding encodings part step m = record { others 
         IsPermutation-trans (before ∷ standing m.others) (before ∷ (part ∷ standing encodings)) (part ∷ (before ∷ standing encodings)) (IsPermutation-cons before (standing m.others) (part ∷ standing encodings) m.order)
         (IsPermutation-swap (before ∷ (part ∷ standing encodings)) (part ∷ (before ∷ standing encodings)) 0 1 (omega arith) (omega arith) refl)
 
-one_more : (rule : Rule) (cs : List ComponentView) (slots : List (Option Value)) (encodings : List (Option (List ℕ))) (place : ℕ) (c : ComponentView) (v : Value) (part : List ℕ) → AreMembersCome rule cs slots encodings → IsEmptyAt slots place → IsComponentAt cs place c
+one_more : (rule : Rule) (cs : List ComponentView) (slots : List (Option Value)) (encodings : List (Option (List ℕ))) (place : ℕ) (c : ComponentView) (v : Value) (part : List ℕ) → AreMembersCome rule cs slots encodings → IsVacant (come_of cs slots) place c.type → IsComponentAt cs place c
     → IsEncoding rule c.type (value_view v) part → DiffersFromDefault c.requirement (value_view v) → IsOneMore rule cs (set slots place (Some v)) encodings part
-one_more rule [] [] [] place c v part h empty here encoding differs = absurd empty
-one_more rule (x ∷ cs) (None ∷ slots) (None ∷ encodings) zero c v part h empty here encoding differs = record {
+one_more rule [] [] [] place c v part h vacant here encoding differs = absurd vacant
+one_more rule (x ∷ cs) (None ∷ slots) (None ∷ encodings) zero c v part h vacant here encoding differs = record {
   others = Some part ∷ encodings;
   each = ((subst (λ (y : ComponentView). IsEncoding rule y.type (value_view v) part) (sym here) encoding, subst (λ (y : ComponentView). DiffersFromDefault y.requirement (value_view v)) (sym here) differs), h);
   order = IsPermutation-refl (part ∷ standing encodings);
 }
-one_more rule (x ∷ cs) (Some w ∷ slots) (Some octets ∷ encodings) zero c v part h empty here encoding differs = let no : Some w ≡ None = empty in cc
-one_more rule (x ∷ cs) (None ∷ slots) (None ∷ encodings) (suc place) c v part h empty here encoding differs =
-    one_later rule x cs None (set slots place (Some v)) None encodings part (λ others k. k) (one_more rule cs slots encodings place c v part h empty here encoding differs)
-one_more rule (x ∷ cs) (Some w ∷ slots) (Some octets ∷ encodings) (suc place) c v part h empty here encoding differs =
-    one_later rule x cs (Some w) (set slots place (Some v)) (Some octets) encodings part (λ others k. (h.0, k)) (one_more rule cs slots encodings place c v part h.1 empty here encoding differs)
-one_more rule cs slots encodings place c v part h empty here encoding differs = elim h [ ]
+one_more rule (x ∷ cs) (Some w ∷ slots) (Some octets ∷ encodings) zero c v part h vacant here encoding differs = cc vacant.0
+one_more rule (x ∷ cs) (None ∷ slots) (None ∷ encodings) (suc place) c v part h vacant here encoding differs =
+    one_later rule x cs None (set slots place (Some v)) None encodings part (λ others k. k) (one_more rule cs slots encodings place c v part h vacant here encoding differs)
+one_more rule (x ∷ cs) (Some w ∷ slots) (Some octets ∷ encodings) (suc place) c v part h vacant here encoding differs =
+    one_later rule x cs (Some w) (set slots place (Some v)) (Some octets) encodings part (λ others k. (h.0, k)) (one_more rule cs slots encodings place c v part h.1 vacant here encoding differs)
+one_more rule cs slots encodings place c v part h vacant here encoding differs = elim h [ ]
 
 -- one more at the end of what ascends
 pairs_last : (R : List ℕ → List ℕ → Type 0) (es : List (List ℕ)) (e : List ℕ) → AllPairs R es → AllByRecursion (λ a. R a e) es → AllPairs R (es ++ (e ∷ []))
@@ -127,16 +121,16 @@ no_members rule cs definite room octets slots none = record {
 }
 
 -- one component more
-member_read : (rule : Rule) (cs : List ComponentView) (slots : List (Option Value)) (last : Option Tag) (place : ℕ) (c : ComponentView) (order : Tag) (b definite : Bool) (room : ℕ) (octets : List ℕ) (v : Value) (at used : ℕ) → IsCanonical rule → IsGoodType c.type
-    → AreDistinct (tags_of_components (components_of cs)) → IsEmptyAt slots place → IsComponentAt cs place c → IsOrderTagIn rule (components_of cs) (take used (drop at octets)) order
+member_read : (rule : Rule) (cs : List ComponentView) (slots : List (Option Value)) (last : Option Tag) (place : ℕ) (c : ComponentView) (tag order : Tag) (b definite : Bool) (room : ℕ) (octets : List ℕ) (v : Value) (at used : ℕ) → IsCanonical rule → IsGoodType c.type
+    → AreDistinct (tags_of_components (components_of cs)) → IsFound cs slots place c tag → IsOrderTagIn rule (components_of cs) (take used (drop at octets)) order
     → (IsTrue b ↔ MatchOption last (Unit {0}) (λ before. ComesBefore before order)) → b ≡ true
     → ((more : List ℕ) → HasMembers rule cs slots last definite (room - at) (drop at octets ++ more) → IsDue rule cs slots last place c order definite (room - at) (drop at octets ++ more))
     → AreMembersRead rule cs slots last definite room octets at → IsPresentRead rule c (room - at) (drop at octets) (Some v) used → AreMembersRead rule cs (set slots place (Some v)) (Some order) definite room octets (at + used)
-member_read rule cs slots last place c order b definite room octets v at used canonical good distinct empty here ordered iff on due h one =
+member_read rule cs slots last place c tag order b definite room octets v at used canonical good distinct found ordered iff on due h one =
     let rest = drop at octets in
     let part = take used rest in
     let size = length-drop at octets in
-    let more = one_more rule cs slots h.encodings place c v part h.each empty here one.0.2 one.1 in
+    let more = one_more rule cs slots h.encodings place c v part h.each found.vacant found.here one.0.2 one.1 in
     let R = λ (a b : List ℕ). (t u : Tag) → IsOrderTagIn rule (components_of cs) a t → IsOrderTagIn rule (components_of cs) b u → ComesBefore t u in
     let only : (u : Tag) → IsOrderTagIn rule (components_of cs) part u → u ≡ order = λ u is. one_order_tag rule (components_of cs) part u order canonical distinct is ordered in
     let front = IsPermutation-trans (standing more.others) (part ∷ standing h.encodings) (part ∷ h.order) more.order (IsPermutation-cons part (standing h.encodings) h.order h.permutes) in
@@ -158,26 +152,25 @@ member_read rule cs slots last place c order b definite room octets v at used ca
     }
 
 pub member_more : (rule : Canonical) (cs : List ComponentView) (slots : List (Option Value)) (last : Option Tag) (place : ℕ) (c : ComponentView) (tag order : Tag) (b definite : Bool) (room : ℕ) (octets : List ℕ) (slot : Option Value) (at used : ℕ) → IsGoodType c.type
-    → AreDistinct (tags_of_components (components_of cs)) → IsFront (Some tag) definite (room - at) (drop at octets) → IsBegunAt cs place tag → IsEmptyAt slots place → IsComponentAt cs place c → IsOrderTagOf (rule_of rule) c.type tag order
+    → AreDistinct (tags_of_components (components_of cs)) → IsFront (Some tag) definite (room - at) (drop at octets) → IsFound cs slots place c tag → IsOrderTagOf (rule_of rule) c.type tag order
     → (IsTrue b ↔ MatchOption last (Unit {0}) (λ before. ComesBefore before order)) → b ≡ true → AreMembersRead (rule_of rule) cs slots last definite room octets at → IsPresentRead (rule_of rule) c (room - at) (drop at octets) slot used
     → AreMembersRead (rule_of rule) cs (set slots place slot) (Some order) definite room octets (at + used)
-member_more rule cs slots last place c tag order b definite room octets None at used good distinct front begun empty here is iff on h one = absurd one.1
-member_more rule cs slots last place c tag order b definite room octets (Some v) at used good distinct front begun empty here is iff on h one =
-    let first = begins_first cs place c tag here begun in
+member_more rule cs slots last place c tag order b definite room octets None at used good distinct front found is iff on h one = absurd one.1
+member_more rule cs slots last place c tag order b definite room octets (Some v) at used good distinct front found is iff on h one =
     let begins = read_begins (rule_of rule) c tag definite (room - at) used (drop at octets) v front one in
-    let ordered = order_in (rule_of rule) cs place c tag order (take used (drop at octets)) here is first begins in
-    member_read (rule_of rule) cs slots last place c order b definite room octets v at used (canonical_of rule) good distinct empty here ordered iff on
-    (λ more k. is_due (rule_of rule) cs slots last place c order definite (room - at) (drop at octets) more tag distinct front begun here is k) h one
+    let ordered = order_in (rule_of rule) cs place c tag order (take used (drop at octets)) found.here is found.first begins in
+    member_read (rule_of rule) cs slots last place c tag order b definite room octets v at used (canonical_of rule) good distinct found ordered iff on
+    (λ more k. is_due (rule_of rule) cs slots last place c order definite (room - at) (drop at octets) more tag distinct front found is k) h one
 
 -- the slots of all components
-filled_slots : (rule : Rule) (cs : List ComponentView) (slots : List (Option Value)) (encodings : List (Option (List ℕ))) → AreMembersCome rule cs slots encodings → AreFilled cs slots → AreSlotEncodings rule (components_of cs) (slots_of (map (option_map value_view) slots)) encodings
+filled_slots : (rule : Rule) (cs : List ComponentView) (slots : List (Option Value)) (encodings : List (Option (List ℕ))) → AreMembersCome rule cs slots encodings → AreFilled (come_of cs slots) → AreSlotEncodings rule (components_of cs) (slots_of (map (option_map value_view) slots)) encodings
 filled_slots rule [] [] [] h filled = tt
-filled_slots rule (c ∷ cs) (None ∷ slots) (None ∷ encodings) h filled = (absent_stands rule c.requirement (IsEncoding rule c.type) filled.0, filled_slots rule cs slots encodings h filled.1)
-filled_slots rule (c ∷ cs) (Some v ∷ slots) (Some octets ∷ encodings) h filled = (h.0.0, h.0.1, filled_slots rule cs slots encodings h.1 filled)
+filled_slots rule (c ∷ cs) (None ∷ slots) (None ∷ encodings) h filled = (absent_stands rule c.requirement (IsEncoding rule c.type) (filled.0 refl), filled_slots rule cs slots encodings h filled.1)
+filled_slots rule (c ∷ cs) (Some v ∷ slots) (Some octets ∷ encodings) h filled = (h.0.0, h.0.1, filled_slots rule cs slots encodings h.1 filled.1)
 filled_slots rule cs slots encodings h filled = elim h [ ]
 
 -- they are the contents octets of a SET
-pub set_read : (rule : Rule) (tag : Tag) (fields : List Field) (definite : Bool) (room : ℕ) (octets : List ℕ) (slots : Vec (Option Value) Global) (last : Option Tag) (used : ℕ) → AreFilled (map field_view fields) slots.items
+pub set_read : (rule : Rule) (tag : Tag) (fields : List Field) (definite : Bool) (room : ℕ) (octets : List ℕ) (slots : Vec (Option Value) Global) (last : Option Tag) (used : ℕ) → AreFilled (come_of (map field_view fields) slots.items)
     → AreMembersRead rule (map field_view fields) slots.items last definite room octets used → EndsHere definite (room - used) (drop used octets) → IsInsideRead rule (Shape.set tag (components_view fields)) definite room octets (Some (value.Fields slots)) used
 set_read rule tag fields definite room octets slots last used filled read ends =
     let shape = Shape.set tag (components_view fields) in

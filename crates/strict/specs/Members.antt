@@ -1,6 +1,6 @@
 -- Components of a SET that have been read at the front of some octets, and what can still stand there
 -- (X.690 8.11, 9.3, 10.3 and 11.5).
-use Rattle.std.specs.Prelude.{◌≡◌, ◌-◌, ◌≤◌, ◌⊎◌, ⊤, ℕ, zero, suc, Bool, List, [], ◌∷◌, ◌++◌, Option, Some, None, Contains, length, take, drop, map, IsPermutation}
+use Rattle.std.specs.Prelude.{◌≡◌, ◌-◌, ◌≤◌, ◌⊎◌, ⊤, ℕ, Bool, List, [], ◌∷◌, ◌++◌, Option, Some, None, length, take, drop, map, IsPermutation}
 use Rattle.std.specs.List.{AllByRecursion, concat}
 use Rattle.octets.specs.declared.tag.Tag.{Tag}
 use Rattle.octets.specs.Rule.{Rule, ber, cer, der}
@@ -13,18 +13,6 @@ use Rattle.types.specs.FirstTags.{first_tags}
 use Rattle.types.specs.Order.{IsLeast, IsOrderTagIn, AscendsByTag}
 use Rattle.types.specs.Encoding.{IsEncoding, standing}
 use Rattle.strict.specs.Head.{Fills, mark}
-
--- the component at the place is one that the tag begins
-abbrev pub IsBegunAt : List ComponentView → ℕ → Tag → Type 0
-IsBegunAt [] place tag = ⊥
-IsBegunAt (c ∷ others) zero tag = Contains (first_tags c.type) tag
-IsBegunAt (c ∷ others) (suc place) tag = IsBegunAt others place tag
-
--- the slot at the place is empty
-abbrev pub IsEmptyAt : List (Option Value) → ℕ → Type 0
-IsEmptyAt [] place = ⊥
-IsEmptyAt (slot ∷ slots) zero = slot ≡ None
-IsEmptyAt (slot ∷ slots) (suc place) = IsEmptyAt slots place
 
 -- the tag by which an encoding of the type is ordered that begins with this one (9.3 and 10.3)
 abbrev pub IsOrderTagOf : Rule → Shape → Tag → Tag → Type 0
@@ -48,13 +36,6 @@ AreMembersCome rule (c ∷ others) (None ∷ slots) (None ∷ encodings) = AreMe
 AreMembersCome rule (c ∷ others) (Some value ∷ slots) (Some octets ∷ encodings) =
     (IsEncoding rule c.type (value_view value) octets × DiffersFromDefault c.requirement (value_view value)) × AreMembersCome rule others slots encodings
 AreMembersCome _ _ _ _ = ⊥
-
--- no empty slot is of a component that must stand
-abbrev pub AreFilled : List ComponentView → List (Option Value) → Type 0
-AreFilled [] [] = ⊤
-AreFilled (c ∷ others) (None ∷ slots) = MayBeAbsent c.requirement × AreFilled others slots
-AreFilled (c ∷ others) (Some value ∷ slots) = AreFilled others slots
-AreFilled _ _ = ⊥
 
 -- the tag of an encoding comes behind that of the last one, if there is one
 abbrev pub ComesBehind : Rule → List ComponentView → Option Tag → List ℕ → Type 0

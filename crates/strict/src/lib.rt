@@ -15,7 +15,6 @@ mod items;
 mod leaf;
 mod members;
 mod parts;
-mod places;
 mod reading;
 mod segments;
 mod short;

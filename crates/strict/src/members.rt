@@ -18,9 +18,8 @@ use crate::canonical::Canonical;
 use crate::components::read_present;
 use crate::fronts::front_tag;
 use crate::head::Inside;
-use crate::places::{are_filled, place_due};
 use crate::tags::{comes_behind, order_tag};
-use encoding_parts::empty_slots;
+use encoding_parts::{SetComponents, emptied_slots};
 use octets::MAX_ENCODING;
 use std::alloc::Global;
 use types::{Field, Refusal, Value};
@@ -41,15 +40,19 @@ pub fn read_members(
     ensures value { IfOk result (λ used. (tag : Tag) → IsInsideRead (rule_of rule) (Shape.set tag (components_view fields.now)) inside.now.definite inside.now.room octets.now slot.new used) }
     ensures refused { IfErr result (RefusesStrictly (HasMembers (rule_of rule) (map field_view fields.now) (map (λ c. None) (map field_view fields.now)) None inside.now.definite inside.now.room) (AreFewer inside.now.definite inside.now.room) octets.now) }
 {
-    let Ok(empty) = empty_slots(alloc, fields) else {
+    let Ok(slots) = emptied_slots(alloc, fields, slot) else {
         return Err(Refusal::NoMemory);
     };
-    let mut slots = empty;
+    let behind = 0;
+    let mut set_components = SetComponents {
+        fields,
+        slots,
+        behind,
+    };
     let mut at = 0;
-    let mut behind = 0;
     let mut last = None;
     while let Some(tag) = front_tag(inside.definite, inside.room - at, &octets[at..])? {
-        let place = place_due(fields, &slots, behind, tag)?;
+        let (place, _) = set_components.due(tag)?;
         let field = &fields[place];
         let order = order_tag(rule, &field.ty, tag);
         if !comes_behind(last, order) {
@@ -61,14 +64,14 @@ pub fn read_members(
             field,
             inside.room - at,
             &octets[at..],
-            &mut slots[place],
+            &mut set_components.slots[place],
         )?;
         last = Some(order);
-        behind = place + 1;
+        set_components.behind = place + 1;
     }
-    if !are_filled(fields, &slots) {
+    if !set_components.are_filled() {
         return Err(Refusal::Missing);
     }
-    *slot = Some(Value::Fields(slots));
+    *slot = Some(Value::Fields(set_components.slots));
     Ok(at)
 }

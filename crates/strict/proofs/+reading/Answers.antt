@@ -402,14 +402,11 @@ components::read_present-returns-then-is_spelt_out-clause-refused t c = refused_
     let read = subst (λ t. IsRead rule t room octets slot c.in_ok-used.used) same c.in_ok-used.ensures.value in
     none_spelt_out rule view room octets more slot c.in_ok-used.used c.requires.good read spelt h)
 
-pub members::read_members-loop-slots-init : goal.members::read_members-loop-slots-init
-members::read_members-loop-slots-init = set.members::read_members-loop-slots-init
+pub members::read_members-loop-set_components-init : goal.members::read_members-loop-set_components-init
+members::read_members-loop-set_components-init = set.members::read_members-loop-set_components-init
 
 pub members::read_members-returns-in_err-tag-clause-refused : goal.members::read_members-returns-in_err-tag-clause-refused
 members::read_members-returns-in_err-tag-clause-refused = set.members::read_members-returns-in_err-tag-clause-refused
-
-pub members::read_members-place_due-requires-clause-slots : goal.members::read_members-place_due-requires-clause-slots
-members::read_members-place_due-requires-clause-slots = set.members::read_members-place_due-requires-clause-slots
 
 pub members::read_members-returns-in_err-place-clause-refused : goal.members::read_members-returns-in_err-place-clause-refused
 members::read_members-returns-in_err-place-clause-refused = set.members::read_members-returns-in_err-place-clause-refused
@@ -435,17 +432,14 @@ members::read_members-read_present-requires = set.members::read_members-read_pre
 pub members::read_members-returns-in_err-at-clause-refused : goal.members::read_members-returns-in_err-at-clause-refused
 members::read_members-returns-in_err-at-clause-refused = set.members::read_members-returns-in_err-at-clause-refused
 
-pub members::read_members-overflow_add-behind : goal.members::read_members-overflow_add-behind
-members::read_members-overflow_add-behind = set.members::read_members-overflow_add-behind
+pub members::read_members-overflow_add-set_components : goal.members::read_members-overflow_add-set_components
+members::read_members-overflow_add-set_components = set.members::read_members-overflow_add-set_components
 
-pub members::read_members-loop-slots-smaller : goal.members::read_members-loop-slots-smaller
-members::read_members-loop-slots-smaller = set.members::read_members-loop-slots-smaller
+pub members::read_members-loop-set_components-smaller : goal.members::read_members-loop-set_components-smaller
+members::read_members-loop-set_components-smaller = set.members::read_members-loop-set_components-smaller
 
-pub members::read_members-loop-slots-preserved : goal.members::read_members-loop-slots-preserved
-members::read_members-loop-slots-preserved = set.members::read_members-loop-slots-preserved
-
-pub members::read_members-are_filled-requires : goal.members::read_members-are_filled-requires
-members::read_members-are_filled-requires = set.members::read_members-are_filled-requires
+pub members::read_members-loop-set_components-preserved : goal.members::read_members-loop-set_components-preserved
+members::read_members-loop-set_components-preserved = set.members::read_members-loop-set_components-preserved
 
 pub members::read_members-returns-clause-value : goal.members::read_members-returns-clause-value
 members::read_members-returns-clause-value = set.members::read_members-returns-clause-value

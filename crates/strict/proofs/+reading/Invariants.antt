@@ -18,8 +18,10 @@ invariant-items::read_items-loop-list l = AreItemsRead (rule_of l.rule) (ty_view
 abbrev pub decreases-items::read_items-loop-list : goal.decreases-items::read_items-loop-list
 decreases-items::read_items-loop-list l = length l.octets - l.at
 
-abbrev pub invariant-members::read_members-loop-slots : goal.invariant-members::read_members-loop-slots
-invariant-members::read_members-loop-slots l = AreMembersRead (rule_of l.rule) (map field_view l.fields) l.slots.items l.last l.inside.definite l.inside.room l.octets l.at
+abbrev pub invariant-members::read_members-loop-set_components : goal.invariant-members::read_members-loop-set_components
+invariant-members::read_members-loop-set_components l =
+    AreMembersRead (rule_of l.rule) (map field_view l.fields) l.set_components.slots.items l.last l.inside.definite l.inside.room l.octets l.at
+    × (l.set_components.fields.now ≡ l.fields)
 
-abbrev pub decreases-members::read_members-loop-slots : goal.decreases-members::read_members-loop-slots
-decreases-members::read_members-loop-slots l = length l.octets - l.at
+abbrev pub decreases-members::read_members-loop-set_components : goal.decreases-members::read_members-loop-set_components
+decreases-members::read_members-loop-set_components l = length l.octets - l.at

@@ -9,7 +9,7 @@ use Rattle.types.proofs.LoopLemmas.{so}
 use Rattle.types.proofs.ViewLemmas.{value-Fields}
 use Rattle.encoding_parts.specs.HeldParts.{members_view}
 use Rattle.encoding_parts.specs.Parts.{SetComponent, IsSettled}
-use Rattle.encoding_parts.proofs.SetComponentLemmas.{AreFilled, AreSettled, members_cut, settled_length}
+use Rattle.encoding_parts.proofs.SetComponentLemmas.{AreSettled, members_cut, settled_length}
 use Rattle.encoding_parts.proofs.set_components.SetComponents.into_value.Goals as goal
 
 pub returns-clause-value : goal.returns-clause-value
@@ -25,7 +25,7 @@ returns-clause-value c =
     let within : length kept.items ≤ length fields = omega (arith, ap length cut ∙ length-take (length fields) slots, min-le_left (length fields) (length slots)) in
     let many : length new ≡ length kept.items = settled_length fields kept.items new within settled in
     record {
-      filled = subst (λ (l : List (Option Value)). AreFilled (members_view fields l)) c.deref.ensures.value (so _ _ c.are_filled.ensures c.if-not-are_filled.false);
+      filled = so _ _ c.are_filled.ensures c.if-not-are_filled.false;
       slots = map (option_map value_view) new;
       each = subst (λ (l : List SetComponent). AllZip IsSettled l (map (option_map value_view) new)) same settled;
       value_is = value-Fields _ ∙ ap (λ (l : List (Option Value)). Val.fields (slots_of (map (option_map value_view) l))) (with_items_is kept new (many ∙ sym kept.ok.0));

@@ -1,7 +1,0 @@
-use Rattle.types.proofs.LoopLemmas.{IsLeftTo}
-use Rattle.encoding_parts.specs.HeldParts.{members_view}
-use Rattle.encoding_parts.proofs.SetComponentLemmas.{AreFilled}
-use Rattle.encoding_parts.proofs.set_components.are_filled.Given as goal
-
-abbrev pub invariant-loop-place : goal.invariant-loop-place
-invariant-loop-place l = IsLeftTo AreFilled (members_view l.fields l.slots) l.place
