@@ -21,7 +21,7 @@ use Rattle.types.specs.Strings.{AreCerSegments, IsStringEncoding, bit_segment, o
 use Rattle.types.proofs.CerLemmas.{same_fronts, bits_by_der, bits_by_cer, one_der_bits}
 use Rattle.types.proofs.EncodingLemmas.{simple-injective}
 use Rattle.types.proofs.OneLeafEncodingLemmas.{one_string}
-use Rattle.canon.specs.Leaf.{IsLeafOf, IsLeaf, IsSimple, IsSimpleOf, IsWithin, IsSimplyEncoded, IsLeafEncoding}
+use Rattle.canon.specs.Leaf.{IsLeafOf, IsLeaf, IsSimple, IsWithin, IsSimplyEncoded, IsLeafEncoding}
 use Rattle.canon.specs.Rule.{rule_of}
 use Rattle.canon.specs.declared.rule.CanonicalRule.{CanonicalRule}
 use Rattle.canon.specs.declared.rule.CanonicalRule.TheVariants.{Cer, Der}
@@ -232,10 +232,6 @@ leaf_alike rule canonical tag shape v (inr h) c = subst (λ s. HoldAlike (IsLeaf
 pub simply_leaf : (rule : Rule) (tag : Tag) (v : Val) (octets : List ℕ) → IsSimplyEncoded rule tag v octets → IsLeafEncoding rule tag v octets
 simply_leaf rule tag (Val.simple value) octets h = h
 simply_leaf rule tag v octets h = elim h.spelt [ ]
-
--- one of a type whose encodings are primitive
-pub simple_conforms : (tag : Tag) (shape : Shape) (v : Val) → IsSimpleOf tag shape → Conforms shape v → IsSimple v
-simple_conforms tag shape v h c = conforms_simply tag h.0 v (subst (λ s. Conforms s v) h.1 c)
 
 pub simply_alike : (rule : Rule) (tag : Tag) (v : Val) → IsSimple v → HoldAlike (IsSimplyEncoded rule tag v) (IsLeafEncoding rule tag v)
 simply_alike rule tag (Val.simple value) h = record { to = λ b k. k; from = λ b k. k }

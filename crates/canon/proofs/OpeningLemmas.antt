@@ -1,5 +1,5 @@
 -- Lemmas on constructed encodings whose length is put in its place at the end.
-use Rattle.std.proofs.Common.{◌≡◌, ◌∙◌, ◌+◌, ◌-◌, ◌<◌, ℕ, suc, OnOk, inl, inr, true, List, [], ◌∷◌, ◌++◌, length, take, drop, get_or, slice_set, refl, sym, ap, ap₂, subst, arith, append_assoc, take-suc, length-append, length-drop, length-set, length-take}
+use Rattle.std.proofs.Common.{◌≡◌, ◌∙◌, ◌+◌, ◌-◌, ◌<◌, ℕ, suc, OnOk, inl, inr, Bool, true, List, [], ◌∷◌, ◌++◌, length, take, drop, get_or, slice_set, refl, sym, ap, ap₂, subst, arith, append_assoc, take-suc, length-append, length-drop, length-set, length-take}
 use Rattle.std.proofs.lemmas.List.{set_split, take_all, take-append-le, drop-append-le, get_or-append-add}
 use Rattle.std.specs.List.{swap_remove}
 use Rattle.std.specs.declared.result.Result.{Result}
@@ -10,18 +10,18 @@ use Rattle.octets.specs.Length.{IsShortestLength}
 use Rattle.octets.specs.Rule.{Rule, cer, der}
 use Rattle.octets.proofs.LengthLemmas.{IsShortestLength-short}
 use Rattle.octets.proofs.ResultLemmas.{OnOk-map}
-use Rattle.types.specs.Form.{IsConstructed}
+use Rattle.types.specs.Form.{IsConstructed, IsDefinite}
 use Rattle.canon.specs.Node.{IsAround}
 use Rattle.canon.specs.Opening.{IsOpening, IsLengthPut}
 use Rattle.canon.specs.Part.{Keeps}
 use Rattle.canon.proofs.PartLemmas.{take_front, drop_front}
 
-pub opened_kept : (tag : Tag) (old new : List ℕ) (place : ℕ) → IsOpening tag old new place → Keeps old new
-opened_kept tag old new place h = (h.identifier ++ 128 ∷ [], h.is ∙ append_assoc old h.identifier (128 ∷ []), tt)
+pub opened_kept : (tag : Tag) (constructed : Bool) (old new : List ℕ) (place : ℕ) → IsOpening tag constructed old new place → Keeps old new
+opened_kept tag constructed old new place h = (h.identifier ++ 128 ∷ [], h.is ∙ append_assoc old h.identifier (128 ∷ []), tt)
 
 -- the octet 80 was appended to identifier octets
-pub opened : (tag : Tag) (old one new : List ℕ) (place : ℕ) → Appends (IsIdentifier tag true) old one → new ≡ one ++ 128 ∷ [] → place + 1 ≡ length new → IsOpening tag old new place
-opened tag old one new place h push count = record {
+pub opened : (tag : Tag) (constructed : Bool) (old one new : List ℕ) (place : ℕ) → Appends (IsIdentifier tag constructed) old one → new ≡ one ++ 128 ∷ [] → place + 1 ≡ length new → IsOpening tag constructed old new place
+opened tag constructed old one new place h push count = record {
   identifier = h.0;
   tagged = h.2;
   is = push ∙ ap (λ s. s ++ 128 ∷ []) h.1;
@@ -35,15 +35,15 @@ whole_of before identifier inside end =
     ∙ append_assoc before identifier (128 ∷ (inside ++ end))
 
 -- ends by end-of-contents octets, or by a length
-pub closed_cer : (tag : Tag) (place : ℕ) (before one inside two new : List ℕ) → IsOpening tag before one place → two ≡ one ++ inside → new ≡ two ++ 0 ∷ 0 ∷ [] → Appends (IsConstructed cer tag inside) before new
+pub closed_cer : (tag : Tag) (place : ℕ) (before one inside two new : List ℕ) → IsOpening tag true before one place → two ≡ one ++ inside → new ≡ two ++ 0 ∷ 0 ∷ [] → Appends (IsConstructed cer tag inside) before new
 closed_cer tag place before one inside two new h is end = (
   h.identifier ++ (128 ∷ (inside ++ 0 ∷ 0 ∷ [])),
   end ∙ ap (λ s. s ++ 0 ∷ 0 ∷ []) (is ∙ ap (λ s. s ++ inside) h.is) ∙ whole_of before h.identifier inside (0 ∷ 0 ∷ []),
   record { identifier = h.identifier; tagged = h.tagged; joined = refl },
 )
 
-pub closed_der : (tag : Tag) (place : ℕ) (before one inside two new : List ℕ) → IsOpening tag before one place → two ≡ one ++ inside → IsLengthPut place two new → Appends (IsConstructed der tag inside) before new
-closed_der tag place before one inside two new h is put =
+pub closed_definite : (tag : Tag) (constructed : Bool) (place : ℕ) (before one inside two new : List ℕ) → IsOpening tag constructed before one place → two ≡ one ++ inside → IsLengthPut place two new → Appends (IsDefinite der tag constructed inside) before new
+closed_definite tag constructed place before one inside two new h is put =
     let head = before ++ h.identifier in
     let split : two ≡ head ++ (128 ∷ inside) = is ∙ ap (λ s. s ++ inside) h.is ∙ append_assoc head (128 ∷ []) inside in
     let front : take place two ≡ head = ap (take place) split ∙ take_front head (128 ∷ inside) place h.at in
@@ -110,7 +110,7 @@ long_length_put place n old one two new d count put gone moved =
     }
 
 -- contents octets between an opening and what ends it
-pub around_closed : {E : Type 0} (r : Result (Unit {0}) E) (rule : Rule) (tag : Tag) (P Q : List ℕ → Type 0) (place : ℕ) (old one two new : List ℕ) → IsOpening tag old one place → Appends P one two → ((b : List ℕ) → IsAround P rule tag b → Q b)
-    → OnOk r ((of : Tag) (before opening inside : List ℕ) → IsOpening of before opening place → two ≡ opening ++ inside → Appends (IsConstructed rule of inside) before new) → OnOk r (Appends Q old new)
+pub around_closed : {E : Type 0} (r : Result (Unit {0}) E) (rule : Rule) (tag : Tag) (P Q : List ℕ → Type 0) (place : ℕ) (old one two new : List ℕ) → IsOpening tag true old one place → Appends P one two → ((b : List ℕ) → IsAround P rule tag b → Q b)
+    → OnOk r ((of : Tag) (before opening inside : List ℕ) → IsOpening of true before opening place → two ≡ opening ++ inside → Appends (IsConstructed rule of inside) before new) → OnOk r (Appends Q old new)
 around_closed r rule tag P Q place old one two new h a f closed =
     OnOk-map r _ _ (λ close. let w = close tag old one a.0 h a.1 in (w.0, w.1, f w.0 record { contents = a.0; inside = a.2; whole = w.2 })) closed

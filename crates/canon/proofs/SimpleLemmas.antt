@@ -6,12 +6,9 @@ use Rattle.octets.specs.declared.tag.Tag.{Tag}
 use Rattle.octets.specs.Front.{Appends}
 use Rattle.octets.specs.Length.{IsShortestLength}
 use Rattle.octets.specs.Rule.{Rule, der, IsCanonical}
-use Rattle.octets.proofs.IdentifierOctetsLemmas.{IsIdentifier-size}
-use Rattle.octets.proofs.ShortestLemmas.{IsLength-size}
 use Rattle.octets.proofs.RuleLemmas.{cer_is_canonical, der_is_canonical}
 use Rattle.primitives.specs.Boolean.{IsBoolean, IsCanonicalBoolean}
 use Rattle.primitives.specs.Integer.{IsInteger}
-use Rattle.primitives.proofs.IntegerLemmas.{at_most_sixteen_octets, one_integer_encoding}
 use Rattle.types.specs.declared.value.Value.{Value}
 use Rattle.types.specs.declared.value.Value as value_is
 use Rattle.types.specs.Shape.{SimpleType, SimpleValue, Val}
@@ -20,13 +17,14 @@ use Rattle.types.specs.Contents.{IsContents}
 use Rattle.types.specs.Form.{IsPrimitive}
 use Rattle.types.proofs.CanonicalLemmas.{primitive_by_cer, primitive_by_der}
 use Rattle.types.proofs.ContentsExistenceLemmas.{simple_contents}
-use Rattle.types.proofs.FormLemmas.{length-definite}
 use Rattle.types.proofs.ViewLemmas.{value-Integer, value-Enumerated}
 use Rattle.canon.specs.declared.rule.CanonicalRule.{CanonicalRule}
 use Rattle.canon.specs.declared.rule.CanonicalRule.TheVariants.{Cer, Der}
 use Rattle.canon.specs.Rule.{rule_of}
 use Rattle.canon.specs.Leaf.{IsContentsOf, IsSimple, IsWithin, IsPrimitiveHead, IsNumberEncoding, IsSimplyEncoded}
-use Rattle.canon.specs.Size.{AreShort, HasSize}
+use Rattle.canon.specs.Opening.{IsOpening, IsLengthPut}
+use Rattle.canon.specs.Size.{HasSize}
+use Rattle.canon.proofs.OpeningLemmas.{closed_definite}
 use Rattle.canon.proofs.PrimitiveLemmas.{primitive_exists}
 use Rattle.canon.proofs.StringSizeLemmas.{SizesPrimitive}
 
@@ -56,12 +54,14 @@ simple_made rule tag v n old mid new head contents count =
       record { contents = contents.0; spelt = contents.2; primitive = primitive_from_der rule tag contents.0 whole record { identifier = h.identifier; size = h.size; tagged = h.tagged; sized = sized; joined = joined } },
     )
 
--- a primitive encoding of few contents octets is within the limit
-pub primitive_short : (tag : Tag) (contents octets : List ℕ) → tag.number ≤ MAX_TAG_NUMBER → length contents ≤ 2451 → IsPrimitive der tag contents octets → length octets ≤ 1_048_576
-primitive_short tag contents octets kept few h =
-    let front = IsIdentifier-size tag false h.identifier kept h.tagged in
-    let size = IsLength-size (length contents) h.size h.sized.form in
-    omega (arith, few, front.1, size.1, length-definite der tag false contents octets h)
+-- an opening, contents octets behind it, and their length in its place
+pub simple_closed : (rule : CanonicalRule) (tag : Tag) (v : Val) (place : ℕ) (old one two new : List ℕ) → IsOpening tag false old one place → Appends (IsContentsOf (rule_of rule) v) one two → IsLengthPut place two new → Appends (IsSimplyEncoded (rule_of rule) tag v) old new
+simple_closed rule tag v place old one two new opening contents put =
+    let whole = closed_definite tag false place old one contents.0 two new opening contents.1 put in (
+      whole.0,
+      whole.1,
+      record { contents = contents.0; spelt = contents.2; primitive = primitive_from_der rule tag contents.0 whole.0 whole.2 },
+    )
 
 -- some contents octets
 within_contents : (rule : Rule) (value : SimpleValue) → IsCanonical rule → IsWithin value → (contents : List ℕ) × IsContents rule value contents
@@ -83,12 +83,6 @@ some_simple rule tag v n kept simple few count =
     let wide : 2 ^ 64 ≡ 18446744073709551616 = refl in
     let p = primitive_exists tag some.0 kept (omega (arith, count some.0 some.1, few, wide)) in
     (p.0, record { contents = some.0; spelt = some.1; primitive = primitive_from_der rule tag some.0 p.0 (primitive_by_der tag some.0 p.0 p.1) })
-
-pub simple_short : (rule : CanonicalRule) (tag : Tag) (v : Val) (n : ℕ) → tag.number ≤ MAX_TAG_NUMBER → IsSimple v → n ≤ 2451 → ((contents : List ℕ) → IsContentsOf (rule_of rule) v contents → length contents ≡ n) → AreShort (IsSimplyEncoded (rule_of rule) tag v)
-simple_short rule tag v n kept simple few count = record {
-  each = λ octets h. primitive_short tag h.contents octets kept (omega (arith, count h.contents h.spelt, few)) (primitive_to_der rule tag h.contents octets h.primitive);
-  there = some_simple rule tag v n kept simple few count;
-}
 
 pub simple_size : (rule : CanonicalRule) (tag : Tag) (v : Val) (n size : ℕ) → tag.number ≤ MAX_TAG_NUMBER → IsSimple v → n ≤ 2451 → ((contents : List ℕ) → IsContentsOf (rule_of rule) v contents → length contents ≡ n) → SizesPrimitive tag n size
     → HasSize (IsSimplyEncoded (rule_of rule) tag v) size
@@ -133,11 +127,3 @@ number_spelt rule v number contents (inr is) h = subst (λ w. IsContentsOf (rule
 pub number_encoded : (rule : CanonicalRule) (tag : Tag) (v : Val) (number : ℤ) (octets : List ℕ) → IsNumber v number → IsNumberEncoding tag number octets → IsSimplyEncoded (rule_of rule) tag v octets
 number_encoded rule tag v number octets (inl is) h = record { contents = h.contents; spelt = subst (λ w. IsContentsOf (rule_of rule) w h.contents) (sym is) h.spelt; primitive = primitive_from_der rule tag h.contents octets h.primitive }
 number_encoded rule tag v number octets (inr is) h = record { contents = h.contents; spelt = subst (λ w. IsContentsOf (rule_of rule) w h.contents) (sym is) h.spelt; primitive = primitive_from_der rule tag h.contents octets h.primitive }
-
--- its encodings are within the limit
-pub number_short : (rule : CanonicalRule) (tag : Tag) (v : Val) (number : ℤ) → IsNumber v number → tag.number ≤ MAX_TAG_NUMBER → IsSimple v → AreShort (IsSimplyEncoded (rule_of rule) tag v)
-number_short rule tag v number is kept simple =
-    let some = contents_there rule v simple in
-    let spelt = number_spelt rule v number some.0 is some.1 in
-    simple_short rule tag v (length some.0) kept simple (omega (arith, at_most_sixteen_octets number some.0 (number_fits v number is simple) spelt))
-    (λ contents h. ap length (one_integer_encoding number contents some.0 (number_spelt rule v number contents is h) spelt))

@@ -1,18 +1,17 @@
 -- Lemmas on types of the code, by their nodes.
-use Rattle.std.proofs.Common.{◌≡◌, ◌⊎◌, inl, inr, ◌≤◌, ℕ, Vec, Box, Global, map, sym, ap, ◌∙◌, subst}
+use Rattle.std.proofs.Common.{◌≡◌, ◌⊎◌, inl, inr, ◌≤◌, ℕ, Vec, Box, Global, sym, ap, ◌∙◌, subst}
 use Rattle.octets.specs.declared.tag.Tag.{Tag}
 use Rattle.octets.specs.Rule.{Rule, IsCanonical}
 use Rattle.types.specs.declared.ty.Field.{Field}
-use Rattle.types.specs.declared.ty.Item.{Item}
 use Rattle.types.specs.declared.ty.Ty.{Ty}
 use Rattle.types.specs.declared.ty.Ty as node
-use Rattle.types.specs.Shape.{SimpleType, Val, listed, Shape, Components}
-use Rattle.types.specs.View.{item_view, ty_view, components_view}
+use Rattle.types.specs.Shape.{Val, listed, Shape, Components}
+use Rattle.types.specs.View.{ty_view, components_view}
 use Rattle.types.specs.Encoding.{IsEncoding}
 use Rattle.types.specs.Leaf.{tag_of, IsLeaf}
-use Rattle.types.proofs.ViewLemmas.{ty-Boolean, ty-Integer, ty-Enumerated, ty-Null, ty-Oid, ty-RelativeOid, ty-Sequence, ty-Set, ty-SequenceOf, ty-SetOf, ty-Explicit}
+use Rattle.types.proofs.ViewLemmas.{ty-Sequence, ty-Set, ty-SequenceOf, ty-SetOf, ty-Explicit}
 use Rattle.canon.specs.Node.{HasGoodNodes, AreItems, AreComponents}
-use Rattle.canon.specs.Leaf.{IsLeafOf, IsSimpleOf}
+use Rattle.canon.specs.Leaf.{IsLeafOf}
 use Rattle.canon.specs.Size.{HasSize}
 use Rattle.canon.proofs.AlikeLemmas.{size_alike}
 use Rattle.canon.proofs.NodeLemmas.{IsListOf, IsRecordOf, IsFramed, HasItems, HasSlots, sequence_alike, set_alike, sequence_of_alike, set_of_alike}
@@ -34,16 +33,6 @@ framed_view ty tag (inr (inl h)) = inr (inl (components_view h.0.items, ap ty_vi
 framed_view ty tag (inr (inr (inl h))) = inr (inr (inl (ty_view h.0.value, ap ty_view h.1 ∙ ty-SequenceOf tag h.0)))
 framed_view ty tag (inr (inr (inr (inl h)))) = inr (inr (inr (inl (ty_view h.0.value, ap ty_view h.1 ∙ ty-SetOf tag h.0))))
 framed_view ty tag (inr (inr (inr (inr h)))) = inr (inr (inr (inr (ty_view h.0.value, ap ty_view h.1 ∙ ty-Explicit tag h.0))))
-
-pub simple_view : (ty : Ty) (tag : Tag)
-    → (ty ≡ node.Boolean tag) ⊎ ((ty ≡ node.Integer tag) ⊎ (((items : Vec Item Global) × (ty ≡ node.Enumerated tag items)) ⊎ ((ty ≡ node.Null tag) ⊎ ((ty ≡ node.Oid tag) ⊎ (ty ≡ node.RelativeOid tag)))))
-    → IsSimpleOf tag (ty_view ty)
-simple_view ty tag (inl is) = (SimpleType.boolean, ap ty_view is ∙ ty-Boolean tag)
-simple_view ty tag (inr (inl is)) = (SimpleType.integer, ap ty_view is ∙ ty-Integer tag)
-simple_view ty tag (inr (inr (inl h))) = (SimpleType.enumerated (map item_view h.0.items), ap ty_view h.1 ∙ ty-Enumerated tag h.0)
-simple_view ty tag (inr (inr (inr (inl is)))) = (SimpleType.null, ap ty_view is ∙ ty-Null tag)
-simple_view ty tag (inr (inr (inr (inr (inl is))))) = (SimpleType.oid, ap ty_view is ∙ ty-Oid tag)
-simple_view ty tag (inr (inr (inr (inr (inr is))))) = (SimpleType.relative_oid, ap ty_view is ∙ ty-RelativeOid tag)
 
 pub leaf_of : (tag : Tag) (shape : Shape) → IsLeaf shape → tag_of shape ≡ tag → IsLeafOf tag shape
 leaf_of tag (Shape.simple own type) leaf is = inl (type, ap (λ t. Shape.simple t type) is)

@@ -1,5 +1,5 @@
 -- Lemmas on what writers leave.
-use Rattle.std.proofs.Common.{◌≡◌, ◌<◌, ◌++◌, ℕ, List, length, arith, Ok, Err, OnOk, OnErr, IsErrAnd, sym, subst₂}
+use Rattle.std.proofs.Common.{true, ◌≡◌, ◌<◌, ◌++◌, ℕ, List, length, arith, Ok, Err, OnOk, OnErr, IsErrAnd, sym, subst₂}
 use Rattle.std.proofs.lemmas.List.Sorted.{IsPermutation-refl}
 use Rattle.std.specs.declared.result.Result.{Result}
 use Rattle.octets.specs.declared.no_memory.NoMemory.{NoMemory}
@@ -28,11 +28,11 @@ refused {r = Ok x} G h k = absurd h
 refused {r = Err e} G h k = record { appended = tt; kept = k }
 
 -- contents octets between an opening and what ends it
-pub written_around : (r : Result (Unit {0}) NoMemory) (rule : Rule) (tag : Tag) (P Q : List ℕ → Type 0) (place : ℕ) (old one two new : List ℕ) → IsOpening tag old one place → Appends P one two → ((b : List ℕ) → IsAround P rule tag b → Q b)
-    → OnOk r ((of : Tag) (before opening inside : List ℕ) → IsOpening of before opening place → two ≡ opening ++ inside → Appends (IsConstructed rule of inside) before new) → OnErr r (Keeps two new) → Writes Q r old new
+pub written_around : (r : Result (Unit {0}) NoMemory) (rule : Rule) (tag : Tag) (P Q : List ℕ → Type 0) (place : ℕ) (old one two new : List ℕ) → IsOpening tag true old one place → Appends P one two → ((b : List ℕ) → IsAround P rule tag b → Q b)
+    → OnOk r ((of : Tag) (before opening inside : List ℕ) → IsOpening of true before opening place → two ≡ opening ++ inside → Appends (IsConstructed rule of inside) before new) → OnErr r (Keeps two new) → Writes Q r old new
 written_around r rule tag P Q place old one two new h a f closed left = record {
   appended = around_closed r rule tag P Q place old one two new h a f closed;
-  kept = kept r (Keeps two new) (Keeps old new) (keeps_chain old two new (keeps_chain old one two (opened_kept tag old one place h) (a.0, a.1, tt))) left;
+  kept = kept r (Keeps two new) (Keeps old new) (keeps_chain old two new (keeps_chain old one two (opened_kept tag true old one place h) (a.0, a.1, tt))) left;
 }
 
 -- contents octets, of a type and a value that are known

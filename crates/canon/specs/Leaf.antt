@@ -17,10 +17,6 @@ use Rattle.types.specs.Strings.{IsStringEncoding, bit_segment, octet_segment, Is
 abbrev pub IsLeafOf : Tag → Shape → Type 0
 IsLeafOf tag shape = ((type : SimpleType) × (shape ≡ Shape.simple tag type)) ⊎ ((type : StringType) × (shape ≡ Shape.string tag type))
 
--- one whose values have primitive encodings alone, and its tag
-abbrev pub IsSimpleOf : Tag → Shape → Type 0
-IsSimpleOf tag shape = (type : SimpleType) × (shape ≡ Shape.simple tag type)
-
 -- numbers of 128 bits, contents octets of wider ones, and arcs, within the limits
 abbrev pub IsWithin : SimpleValue → Type 0
 IsWithin (SimpleValue.boolean truth) = ⊤

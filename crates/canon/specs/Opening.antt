@@ -1,13 +1,13 @@
--- A constructed encoding whose length octets are put in place once its contents octets stand.
-use Rattle.std.specs.Prelude.{◌≡◌, ◌-◌, ℕ, suc, true, List, [], ◌∷◌, ◌++◌, length, take, drop}
+-- An encoding whose length octets are put in place once its contents octets stand.
+use Rattle.std.specs.Prelude.{◌≡◌, ◌-◌, ℕ, suc, Bool, List, [], ◌∷◌, ◌++◌, length, take, drop}
 use Rattle.octets.specs.declared.tag.Tag.{Tag}
 use Rattle.octets.specs.Identifier.{IsIdentifier}
 use Rattle.octets.specs.Length.{IsShortestLength}
 
 -- identifier octets and the octet 80 were appended, the latter at that place
-pub record IsOpening (tag : Tag) (old new : List ℕ) (place : ℕ) : Type 0 where
+pub record IsOpening (tag : Tag) (constructed : Bool) (old new : List ℕ) (place : ℕ) : Type 0 where
   pub identifier : List ℕ
-  pub tagged : IsIdentifier tag true identifier
+  pub tagged : IsIdentifier tag constructed identifier
   pub is : new ≡ (old ++ identifier) ++ 128 ∷ []
   pub at : place ≡ length (old ++ identifier)
 

@@ -5,8 +5,3 @@ use Rattle.std.specs.Prelude.{◌≡◌, ◌≤◌, ℕ, List, length, min}
 pub record HasSize (Is : List ℕ → Type 0) (size : ℕ) : Type 0 where
   pub each : (octets : List ℕ) → Is octets → size ≡ min (length octets) 1_048_577
   pub there : size ≤ 1_048_576 → (octets : List ℕ) × Is octets
-
--- all such octets are within the limit, and there are some
-pub record AreShort (Is : List ℕ → Type 0) : Type 0 where
-  pub each : (octets : List ℕ) → Is octets → length octets ≤ 1_048_576
-  pub there : (octets : List ℕ) × Is octets

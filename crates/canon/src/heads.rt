@@ -1,6 +1,6 @@
 //! What stands around contents octets (X.690 9.1 and 10.1).
 
-ghost use Rattle.std.specs.Prelude.{◌≡◌, ◌≤◌, ◌<◌, ◌+◌, ◌-◌, ◌∷◌, [], ◌++◌, ℕ, List, length, take, drop, reverse, IfOk, OnOk, OnErr};
+ghost use Rattle.std.specs.Prelude.{true, ◌≡◌, ◌≤◌, ◌<◌, ◌+◌, ◌-◌, ◌∷◌, [], ◌++◌, ℕ, List, length, take, drop, reverse, IfOk, OnOk, OnErr};
 ghost use Rattle.octets.specs.declared.TheConstants.{MAX_TAG_NUMBER};
 ghost use Rattle.octets.specs.declared.tag.Tag.{Tag as TagOf};
 ghost use Rattle.octets.specs.Front.{Appends};
@@ -114,27 +114,27 @@ pub(crate) fn put_end(out: &mut Vec<u8>) -> Result<(), NoMemory>
     Ok(out.extend_from_slice(&[0x00, 0x00])?)
 }
 
-// Appends the identifier octets of a constructed encoding and the octet 80, and returns where the latter
-// stands.
+// Appends identifier octets and the octet 80, and returns where the latter stands.
 #[inline(always)]
-pub(crate) fn put_opening(tag: Tag, out: &mut Vec<u8>) -> Result<usize, NoMemory>
-    ensures opened { IfOk result (IsOpening tag out.old.items out.new.items) }
+pub(crate) fn put_opening(tag: Tag, constructed: bool, out: &mut Vec<u8>) -> Result<usize, NoMemory>
+    ensures opened { IfOk result (IsOpening tag constructed out.old.items out.new.items) }
     ensures kept { OnErr result (Keeps out.old.items out.new.items) }
 {
     if tag.number < 31 {
-        put_pair(leading_octet(tag) + 0x20, 0x80, out)?;
+        let form = if constructed { 0x20 } else { 0x00 };
+        put_pair(leading_octet(tag) + form, 0x80, out)?;
         return Ok(out.len() - 1);
     }
-    put_long_opening(tag, out)
+    put_long_opening(tag, constructed, out)
 }
 
-// Appends the opening of a constructed encoding, whatever the tag.
+// Appends them, whatever the tag.
 #[inline(never)]
-fn put_long_opening(tag: Tag, out: &mut Vec<u8>) -> Result<usize, NoMemory>
-    ensures opened { IfOk result (IsOpening tag out.old.items out.new.items) }
+fn put_long_opening(tag: Tag, constructed: bool, out: &mut Vec<u8>) -> Result<usize, NoMemory>
+    ensures opened { IfOk result (IsOpening tag constructed out.old.items out.new.items) }
     ensures kept { OnErr result (Keeps out.old.items out.new.items) }
 {
-    put_identifier(out, tag, true)?;
+    put_identifier(out, tag, constructed)?;
     out.push(0x80)?;
     Ok(out.len() - 1)
 }
@@ -149,7 +149,7 @@ pub(crate) fn put_closing(
 ) -> Result<(), NoMemory>
     requires { place < length out.old.items }
     ensures closed { OnOk result ((tag : TagOf) (before opened inside : List ℕ) →
-        IsOpening tag before opened place → out.old.items ≡ opened ++ inside →
+        IsOpening tag true before opened place → out.old.items ≡ opened ++ inside →
         Appends (IsConstructed (rule_of rule) tag inside) before out.new.items) }
     ensures kept { OnErr result (Keeps out.old.items out.new.items) }
 {
@@ -160,7 +160,7 @@ pub(crate) fn put_closing(
 }
 
 // Puts the shortest length of what stands behind `place` there.
-fn put_length(place: usize, out: &mut Vec<u8>) -> Result<(), NoMemory>
+pub(crate) fn put_length(place: usize, out: &mut Vec<u8>) -> Result<(), NoMemory>
     requires { place < length out.old.items }
     ensures put { OnOk result (IsLengthPut place out.old.items out.new.items) }
     ensures kept { OnErr result (Keeps out.old.items out.new.items) }

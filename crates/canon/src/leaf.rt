@@ -5,11 +5,11 @@ ghost use Rattle.octets.specs.declared.TheConstants.{MAX_ENCODING, MAX_TAG_NUMBE
 ghost use Rattle.types.specs.View.{value_view};
 ghost use Rattle.canon.specs.Leaf.{IsLeaf, IsLeafEncoding, IsSimple, IsSimplyEncoded};
 ghost use Rattle.canon.specs.Rule.{rule_of};
-ghost use Rattle.canon.specs.Size.{AreShort, HasSize};
+ghost use Rattle.canon.specs.Size.{HasSize};
 ghost use Rattle.canon.specs.Writes.{Writes};
 
 use crate::contents::{put_contents, size_of_contents};
-use crate::heads::put_primitive_head;
+use crate::heads::{put_length, put_opening, put_primitive_head};
 use crate::numbers::put_number;
 use crate::rule::CanonicalRule;
 use crate::segments::{put_octets, put_string, size_of_string};
@@ -98,9 +98,8 @@ pub(crate) fn put_simple(
 ) -> Result<(), NoMemory>
     requires tag { tag.number ≤ MAX_TAG_NUMBER }
     requires simple { IsSimple (value_view value.now) }
-    ensures written { Writes (IsSimplyEncoded (rule_of rule) tag (value_view value.now))
+    ensures { Writes (IsSimplyEncoded (rule_of rule) tag (value_view value.now))
         result out.old.items out.new.items }
-    ensures short { AreShort (IsSimplyEncoded (rule_of rule) tag (value_view value.now)) }
 {
     match value {
         Value::Boolean(truth) => {
@@ -118,8 +117,9 @@ pub(crate) fn put_simple(
         | Value::Fields(_)
         | Value::Items(_)
         | Value::Chosen(..) => {
-            put_primitive_head(tag, size_of_contents(rule, value), out)?;
-            put_contents(rule, value, out)
+            let place = put_opening(tag, false, out)?;
+            put_contents(rule, value, out)?;
+            put_length(place, out)
         }
     }
 }

@@ -68,7 +68,7 @@ fn put_constructed(
         | Ty::SequenceOf(tag, _)
         | Ty::SetOf(tag, _)
         | Ty::Explicit(tag, _) => {
-            let place = put_opening(*tag, out)?;
+            let place = put_opening(*tag, true, out)?;
             put_parts(alloc, rule, ty, value, out)?;
             put_closing(rule, place, out)
         }

@@ -25,4 +25,4 @@ returns-in-Octets c =
 
 pub returns-in-Boolean : goal.returns-in-Boolean
 returns-in-Boolean c =
-    written_by c.put_simple.ensures.written (simply_leaf (rule_of c.args.rule) c.args.tag (value_view c.args.value.now))
+    written_by c.put_simple.ensures (simply_leaf (rule_of c.args.rule) c.args.tag (value_view c.args.value.now))

@@ -1,5 +1,5 @@
 use Rattle.std.specs.Int.{w128}
-use Rattle.std.proofs.Common.{◌≡◌, ◌⊎◌, ◌∙◌, ℕ, ℤ, List, Bool, OnOk, OnErr, length, to_z, of_z, subst, ap, arith}
+use Rattle.std.proofs.Common.{◌≡◌, ◌⊎◌, ◌∙◌, ℕ, ℤ, List, Bool, false, OnOk, OnErr, length, to_z, of_z, subst, ap}
 use Rattle.std.proofs.lemmas.Int.{to_z-of_z}
 use Rattle.std.specs.declared.result.Result.{Result}
 use Rattle.octets.specs.declared.no_memory.NoMemory.{NoMemory}
@@ -11,13 +11,15 @@ use Rattle.types.specs.declared.value.Value.{Value}
 use Rattle.types.specs.declared.value.Value as value_is
 use Rattle.types.specs.View.{value_view}
 use Rattle.types.proofs.ViewLemmas.{value-Boolean}
+use Rattle.canon.specs.Opening.{IsLengthPut}
 use Rattle.canon.specs.Part.{Keeps}
 use Rattle.canon.specs.Rule.{rule_of}
 use Rattle.canon.specs.Leaf.{IsContentsOf, IsNumberEncoding, IsPrimitiveHead, IsSimple, IsSimplyEncoded}
 use Rattle.canon.specs.Writes.{Writes}
 use Rattle.canon.specs.declared.rule.CanonicalRule.{CanonicalRule}
-use Rattle.canon.proofs.KeptLemmas.{kept}
-use Rattle.canon.proofs.SimpleLemmas.{simple_made, simple_short, boolean_counts, boolean_contents, number_encoded, number_fits, number_short, number_view}
+use Rattle.canon.proofs.KeptLemmas.{kept, keeps_chain}
+use Rattle.canon.proofs.OpeningLemmas.{opened_kept}
+use Rattle.canon.proofs.SimpleLemmas.{simple_made, simple_closed, boolean_counts, boolean_contents, number_encoded, number_fits, number_view}
 use Rattle.canon.proofs.WritesLemmas.{written_by}
 use Rattle.canon.proofs.leaf.put_simple.Goals as goal
 
@@ -37,8 +39,8 @@ truth_counts rule value truth is = boolean_counts rule (value_view value) truth 
 number_same : (value : Value) (number : ℤ) → (value ≡ value_is.Integer number) ⊎ (value ≡ value_is.Enumerated number) → IsSimple (value_view value) → to_z w128 (of_z w128 number) ≡ number
 number_same value number is simple = to_z-of_z w128 number (number_fits (value_view value) number (number_view value number is) simple)
 
-pub returns-in_ok-put_primitive_head-in-Boolean-clause-written : goal.returns-in_ok-put_primitive_head-in-Boolean-clause-written
-returns-in_ok-put_primitive_head-in-Boolean-clause-written c =
+pub returns-in_ok-put_primitive_head-in-Boolean : goal.returns-in_ok-put_primitive_head-in-Boolean
+returns-in_ok-put_primitive_head-in-Boolean c =
     let value = c.args.value.now in
     let truth = c.in-Boolean.truth in
     let mid = c.put_primitive_head.new.out.items in
@@ -46,35 +48,26 @@ returns-in_ok-put_primitive_head-in-Boolean-clause-written c =
     written c.put_boolean.result c.args.rule c.args.tag value 1 (IsCanonicalBoolean truth) c.args.out.now.items mid new c.in_ok-put_primitive_head-in-Boolean.ensures.appended
     (boolean_contents c.args.rule (value_view value) truth mid new (ap value_view c.in-Boolean.is ∙ value-Boolean truth)) (truth_counts c.args.rule value truth c.in-Boolean.is) c.put_boolean.ensures.appended c.put_boolean.ensures.unchanged
 
-pub returns-in_ok-put_primitive_head-in-Boolean-clause-short : goal.returns-in_ok-put_primitive_head-in-Boolean-clause-short
-returns-in_ok-put_primitive_head-in-Boolean-clause-short c =
-    simple_short c.args.rule c.args.tag (value_view c.args.value.now) 1 c.requires.tag c.requires.simple (omega arith) (truth_counts c.args.rule c.args.value.now c.in-Boolean.truth c.in-Boolean.is)
+pub returns-in_ok-put_contents-in-WideInteger : goal.returns-in_ok-put_contents-in-WideInteger
+returns-in_ok-put_contents-in-WideInteger c =
+    let rule = c.args.rule in
+    let tag = c.args.tag in
+    let v = value_view c.args.value.now in
+    let place = c.in_ok-place-in-WideInteger.place in
+    let old = c.args.out.now.items in
+    let one = c.put_opening.new.out.items in
+    let two = c.put_contents.new.out.items in
+    let new = c.put_length.new.out.items in
+    let opening = c.in_ok-place-in-WideInteger.ensures.opened in
+    let contents = c.in_ok-put_contents-in-WideInteger.ensures.appended in
+    record {
+      appended = OnOk-map c.put_length.result (IsLengthPut place two new) (Appends (IsSimplyEncoded (rule_of rule) tag v) old new) (simple_closed rule tag v place old one two new opening contents) c.put_length.ensures.put;
+      kept = kept c.put_length.result (Keeps two new) (Keeps old new) (keeps_chain old two new (keeps_chain old one two (opened_kept tag false old one place opening) (contents.0, contents.1, tt))) c.put_length.ensures.kept;
+    }
 
-pub returns-in_err-put_primitive_head-in-Boolean-clause-short : goal.returns-in_err-put_primitive_head-in-Boolean-clause-short
-returns-in_err-put_primitive_head-in-Boolean-clause-short c =
-    simple_short c.args.rule c.args.tag (value_view c.args.value.now) 1 c.requires.tag c.requires.simple (omega arith) (truth_counts c.args.rule c.args.value.now c.in-Boolean.truth c.in-Boolean.is)
-
-pub returns-in-Integer-clause-written : goal.returns-in-Integer-clause-written
-returns-in-Integer-clause-written c =
+pub returns-in-Integer : goal.returns-in-Integer
+returns-in-Integer c =
     let value = c.args.value.now in
     let number = c.in-Integer.number in
     written_by (subst (λ n. Writes (IsNumberEncoding c.args.tag n) c.put_number.result c.args.out.now.items c.put_number.new.out.items) (number_same value number c.in-Integer.is c.requires.simple) c.put_number.ensures)
     (λ b h. number_encoded c.args.rule c.args.tag (value_view value) number b (number_view value number c.in-Integer.is) h)
-
-pub returns-in-Integer-clause-short : goal.returns-in-Integer-clause-short
-returns-in-Integer-clause-short c =
-    let value = c.args.value.now in
-    number_short c.args.rule c.args.tag (value_view value) c.in-Integer.number (number_view value c.in-Integer.number c.in-Integer.is) c.requires.tag c.requires.simple
-
-pub returns-in_ok-put_primitive_head-in-WideInteger-clause-written : goal.returns-in_ok-put_primitive_head-in-WideInteger-clause-written
-returns-in_ok-put_primitive_head-in-WideInteger-clause-written c =
-    written c.put_contents.result c.args.rule c.args.tag c.args.value.now c.size_of_contents.result (IsContentsOf (rule_of c.args.rule) (value_view c.args.value.now)) c.args.out.now.items c.put_primitive_head-in-WideInteger.new.out.items c.put_contents.new.out.items
-    c.in_ok-put_primitive_head-in-WideInteger.ensures.appended (λ h. h) c.size_of_contents.ensures.size c.put_contents.ensures.appended c.put_contents.ensures.unchanged
-
-pub returns-in_ok-put_primitive_head-in-WideInteger-clause-short : goal.returns-in_ok-put_primitive_head-in-WideInteger-clause-short
-returns-in_ok-put_primitive_head-in-WideInteger-clause-short c =
-    simple_short c.args.rule c.args.tag (value_view c.args.value.now) c.size_of_contents.result c.requires.tag c.requires.simple c.size_of_contents.ensures.at_most c.size_of_contents.ensures.size
-
-pub returns-in_err-put_primitive_head-in-WideInteger-clause-short : goal.returns-in_err-put_primitive_head-in-WideInteger-clause-short
-returns-in_err-put_primitive_head-in-WideInteger-clause-short c =
-    simple_short c.args.rule c.args.tag (value_view c.args.value.now) c.size_of_contents.result c.requires.tag c.requires.simple c.size_of_contents.ensures.at_most c.size_of_contents.ensures.size

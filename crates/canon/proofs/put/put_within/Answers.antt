@@ -1,15 +1,12 @@
-use Rattle.std.proofs.Common.{◌≡◌, OnOk, IfErr, Ok, Err, true, is_ok, sym, subst, ap, arith, length, length-append}
+use Rattle.std.proofs.Common.{◌≡◌, OnOk, Ok, Err, true, is_ok, sym, subst, ap, arith, length, length-append}
 use Rattle.std.specs.declared.result.Result.{Result}
 use Rattle.octets.specs.Front.{Appends}
 use Rattle.types.specs.declared.ty.Ty.{Ty}
-use Rattle.types.specs.declared.refusal.Refusal.TheVariants.{NoMemory, OutputTooLong}
-use Rattle.types.specs.Encoding.{IsAccepted, IsEncoding}
+use Rattle.types.specs.Encoding.{IsEncoding}
 use Rattle.types.specs.View.{ty_view, value_view}
-use Rattle.canon.specs.Leaf.{IsSimpleOf, IsSimplyEncoded}
 use Rattle.canon.specs.Rule.{rule_of}
 use Rattle.canon.specs.Size.{HasSize}
-use Rattle.canon.proofs.AcceptedLemmas.{accepted, simple_accepted, simple_is_accepted}
-use Rattle.canon.proofs.AlikeLemmas.{appended_by}
+use Rattle.canon.proofs.AcceptedLemmas.{accepted}
 use Rattle.canon.proofs.put.put_within.Goals as goal
 
 -- what was appended where a call was not refused
@@ -42,25 +39,4 @@ returns-clause-too_long c =
       λ none.
           let some = sized.there (omega (arith, c.if-size_of-gt-MAX_ENCODING.false)) in
           absurd (none some.0 (accepted c.args.rule shape v some.0 c.as_type-shape.ensures.well_formed some.1 (omega (arith, sized.each some.0 some.1, c.if-size_of-gt-MAX_ENCODING.false)))),
-    )
-
-pub returns-in-Some-clause-appended : goal.returns-in-Some-clause-appended
-returns-in-Some-clause-appended c =
-    let rule = rule_of c.args.rule in
-    let shape = ty_view c.args.ty.now in
-    let v = value_view c.args.value.now in
-    let is = subst (λ (t : Ty). IsSimpleOf c.in-Some.tag (ty_view t)) c.as_type-shape.ensures.value c.in-Some.ensures in
-    appended_by c.put_short.result (IsSimplyEncoded rule c.in-Some.tag v) (IsAccepted rule shape v) c.args.out.now.items c.put_short.new.out.items
-    (λ b h. simple_accepted c.args.rule c.in-Some.tag shape v b is c.as_type-shape.ensures.well_formed c.requires c.put_short.ensures.short h) c.put_short.ensures.appended
-
-pub returns-in-Some-clause-too_long : goal.returns-in-Some-clause-too_long
-returns-in-Some-clause-too_long c =
-    let shape = ty_view c.args.ty.now in
-    let v = value_view c.args.value.now in
-    let is = subst (λ (t : Ty). IsSimpleOf c.in-Some.tag (ty_view t)) c.as_type-shape.ensures.value c.in-Some.ensures in
-    let some = simple_is_accepted c.args.rule c.in-Some.tag shape v is c.as_type-shape.ensures.well_formed c.requires c.put_short.ensures.short in (
-      λ same.
-          let no : OutputTooLong ≡ NoMemory = subst (λ result. IfErr result (λ refusal. refusal ≡ NoMemory)) same c.put_short.ensures.refused in
-          cc,
-      λ none. absurd (none some.0 some.1),
     )

@@ -1,4 +1,4 @@
-use Rattle.std.proofs.Common.{◌≡◌, ◌∙◌, ◌+◌, ◌<◌, ℕ, suc, List, [], ◌∷◌, ◌++◌, Option, Some, None, length, take, get_or, map, inl, inr, refl, sym, ap, subst, subst₂, arith, rules}
+use Rattle.std.proofs.Common.{true, ◌≡◌, ◌∙◌, ◌+◌, ◌<◌, ℕ, suc, List, [], ◌∷◌, ◌++◌, Option, Some, None, length, take, get_or, map, inl, inr, refl, sym, ap, subst, subst₂, arith, rules}
 use Rattle.std.proofs.lemmas.List.{length-map, take_all}
 use Rattle.octets.specs.declared.tag.Tag.{Tag}
 use Rattle.octets.specs.Front.{Appends}
@@ -95,7 +95,7 @@ put_constructed-returns-in_err-put_parts-in-Sequence t c =
     let old = c.args.out.now.items in
     let one = c.put_opening.new.out.items in
     refused _ c.from_residual-in_err-put_parts-in-Sequence.ensures.1
-    (keeps_chain old one c.put_parts.new.out.items (opened_kept c.in-Sequence.tag old one c.in_ok-place-in-Sequence.place c.in_ok-place-in-Sequence.ensures.opened) c.in_err-put_parts-in-Sequence.ensures.kept)
+    (keeps_chain old one c.put_parts.new.out.items (opened_kept c.in-Sequence.tag true old one c.in_ok-place-in-Sequence.place c.in_ok-place-in-Sequence.ensures.opened) c.in_err-put_parts-in-Sequence.ensures.kept)
 
 pub put_parts-returns-in-Sequence : goal.put_parts-returns-in-Sequence
 put_parts-returns-in-Sequence t c =
