@@ -7,8 +7,22 @@ ghost use Rattle.octets.specs.Front.{Appends};
 
 use crate::NoMemory;
 
-/// Appends the octets of `number` in base 128.
+/// Appends the octets of `number` in base 128: mostly one, for which there is room.
+#[inline(always)]
 pub fn put_base_128(out: &mut Vec<u8>, number: u128) -> Result<(), NoMemory>
+    ensures appended { OnOk result (Appends (IsBase128 number) out.old.items out.new.items) }
+    ensures unchanged { OnErr result (out.new.items ≡ out.old.items) }
+{
+    if number < 0x80 && out.len() < out.capacity() {
+        out.push_reserved(number as u8);
+        return Ok(());
+    }
+    put_long_base_128(out, number)
+}
+
+// Appends the octets of `number` in base 128, of any size.
+#[inline(never)]
+fn put_long_base_128(out: &mut Vec<u8>, number: u128) -> Result<(), NoMemory>
     ensures appended { OnOk result (Appends (IsBase128 number) out.old.items out.new.items) }
     ensures unchanged { OnErr result (out.new.items ≡ out.old.items) }
 {

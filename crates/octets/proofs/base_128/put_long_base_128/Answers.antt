@@ -2,7 +2,7 @@ use Rattle.std.proofs.Common.{◌≡◌, ◌-◌, ◌+◌, ◌/◌, ◌%◌, ℕ
 use Rattle.std.proofs.lemmas.List.{take_all, length-drop}
 use Rattle.octets.proofs.Base128SpellingLemmas.{IsBase128Spelling, IsBase128Spelling-last, IsBase128Spelling-step, IsBase128-from_spelling}
 use Rattle.octets.proofs.Base128Lemmas.{base_128-pair}
-use Rattle.octets.proofs.base_128.put_base_128.Goals as goal
+use Rattle.octets.proofs.base_128.put_long_base_128.Goals as goal
 
 pub loop-rest-init : goal.loop-rest-init
 loop-rest-init c =
