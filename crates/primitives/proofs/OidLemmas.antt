@@ -1,8 +1,8 @@
 -- Lemmas on the contents octets of an OBJECT IDENTIFIER and of a RELATIVE-OID.
-use Rattle.std.proofs.Common.{◌≡◌, ℕ, ◌+◌, ◌*◌, ◌^◌, ◌<◌, ◌≤◌, inl, inr, List, [], ◌∷◌, ◌++◌, length, take, drop, refl, sym, ◌∙◌, ap, arith, All, get_or, subst, length-append, append_assoc}
+use Rattle.std.proofs.Common.{◌≡◌, ℕ, ◌+◌, ◌-◌, ◌*◌, ◌^◌, ◌<◌, ◌≤◌, inl, inr, List, [], ◌∷◌, ◌++◌, length, take, drop, refl, sym, ◌∙◌, ap, arith, All, get_or, subst, length-append, append_assoc}
 use Rattle.std.specs.List.{AllZip, concat}
 use Rattle.std.proofs.lemmas.List.{append-nil, length-drop, take-append-drop, drop-drop, nil_from_length}
-use Rattle.std.proofs.lemmas.List.Elements.{All-append, All-cons, All-nil}
+use Rattle.std.proofs.lemmas.List.Elements.{All-append, All-cons, All-nil, All-tail}
 use Rattle.std.proofs.lemmas.List.Folds.{concat-append}
 use Rattle.std.proofs.lemmas.Bool.{cases_lt}
 use Rattle.std.proofs.Math.Seq.{take-add, get_or-append_seam}
@@ -10,7 +10,7 @@ use Rattle.octets.specs.Base128.{IsBase128}
 use Rattle.octets.specs.Front.{HasFront}
 use Rattle.octets.proofs.FrontLemmas.{HasFront-from_parts}
 use Rattle.octets.proofs.UniqueLemmas.{base_128_unique}
-use Rattle.primitives.specs.Oid.{AreSubidentifiers, AreOfArcs, AreWithinLimits, IsReadSubidentifier}
+use Rattle.primitives.specs.Oid.{AreSubidentifiers, AreSmallSubidentifiers, AreOfArcs, IsFirstArc, IsOid, IsOidValue, IsReadSubidentifier}
 use Rattle.primitives.specs.Laws.{OneOidValue, OneOidEncoding, OneRelativeOidValue, OneRelativeOidEncoding}
 use Rattle.primitives.proofs.SubidentifierLemmas.{subidentifier_unique, some_octets}
 
@@ -58,25 +58,22 @@ pub record GoOn (numbers others rest : List ℕ) : Type 0 where
 -- the numbers stand in the first `start` octets, and all the subidentifiers of the octets begin with them
 pub record AreRead (contents : List ℕ) (start : ℕ) (numbers : List ℕ) : Type 0 where
   pub there : start ≤ length contents
-  pub spelt : AreSubidentifiers numbers (take start contents)
-  pub within : AreWithinLimits numbers
+  pub spelt : AreSmallSubidentifiers numbers (take start contents)
   pub only : (others : List ℕ) → AreSubidentifiers others contents → GoOn numbers others (drop start contents)
 
 pub AreRead-none : (contents : List ℕ) → AreRead contents 0 []
 AreRead-none contents = record {
   there = omega arith;
-  spelt = AreSubidentifiers-none;
-  within = record { few = omega arith; below = All-nil (λ number. number < 2 ^ 128) };
+  spelt = record { spelt = AreSubidentifiers-none; below = All-nil (λ number. number < 2 ^ 128) };
   only = λ others h. record { more = others; whole = refl; spelt = h };
 }
 
-pub AreRead-more : (contents : List ℕ) (start : ℕ) (numbers : List ℕ) (n used : ℕ) → AreRead contents start numbers → length numbers < 128 → IsReadSubidentifier (drop start contents) n used → AreRead contents (start + used) (numbers ++ n ∷ [])
-AreRead-more contents start numbers n used h few g = record {
+pub AreRead-more : (contents : List ℕ) (start : ℕ) (numbers : List ℕ) (n used : ℕ) → AreRead contents start numbers → IsReadSubidentifier (drop start contents) n used → AreRead contents (start + used) (numbers ++ n ∷ [])
+AreRead-more contents start numbers n used h g = record {
   there = omega (arith, g.there, length-drop start contents, h.there);
-  spelt = subst (AreSubidentifiers (numbers ++ n ∷ [])) (sym (take-add start used contents)) (AreSubidentifiers-snoc numbers (take start contents) n (take used (drop start contents)) h.spelt g.spelt);
-  within = record {
-    few = omega (arith, length-append numbers (n ∷ []));
-    below = All-append (λ number. number < 2 ^ 128) numbers (n ∷ []) h.within.below (All-cons (λ number. number < 2 ^ 128) n [] g.within (All-nil (λ number. number < 2 ^ 128)));
+  spelt = record {
+    spelt = subst (AreSubidentifiers (numbers ++ n ∷ [])) (sym (take-add start used contents)) (AreSubidentifiers-snoc numbers (take start contents) n (take used (drop start contents)) h.spelt.spelt g.spelt);
+    below = All-append (λ number. number < 2 ^ 128) numbers (n ∷ []) h.spelt.below (All-cons (λ number. number < 2 ^ 128) n [] g.within (All-nil (λ number. number < 2 ^ 128)));
   };
   only = λ others k.
       let on = h.only others k in
@@ -104,12 +101,12 @@ some_of [] contents (p ∷ ps) each joined some = absurd each
 some_of (m ∷ ms) contents [] each joined some = absurd each
 some_of (m ∷ ms) contents (p ∷ ps) each joined some = record { number = m; others = ms; octets = p; rest = concat ps; whole = refl; parts = joined; spelt = each.0 }
 
--- 128 subidentifiers, and more octets
-pub no_subidentifiers-many : (contents : List ℕ) (start : ℕ) (numbers others : List ℕ) → AreRead contents start numbers → 128 ≤ length numbers → start < length contents → AreWithinLimits others → AreSubidentifiers others contents → ⊥
-no_subidentifiers-many contents start numbers others h many past within spelt =
-    let on = h.only others spelt in
+-- as many subidentifiers as there may be, and more octets
+pub no_subidentifiers-many : (contents : List ℕ) (start : ℕ) (numbers others : List ℕ) → AreRead contents start numbers → length others ≤ length numbers → start < length contents → AreSmallSubidentifiers others contents → ⊥
+no_subidentifiers-many contents start numbers others h many past g =
+    let on = h.only others g.spelt in
     let some = some_of on.more (drop start contents) on.spelt.spellings on.spelt.each on.spelt.joined (omega (arith, length-drop start contents)) in
-    omega (arith, within.few, ap length on.whole, length-append numbers on.more, ap length some.whole)
+    omega (arith, many, ap length on.whole, length-append numbers on.more, ap length some.whole)
 
 number_below : (numbers : List ℕ) (n : ℕ) (others : List ℕ) → All (λ number. number < 2 ^ 128) (numbers ++ n ∷ others) → n < 2 ^ 128
 number_below numbers n others h =
@@ -118,13 +115,13 @@ number_below numbers n others h =
     omega (arith, below, item)
 
 -- octets that no subidentifier within the limit begins
-pub no_subidentifiers-bad : (contents : List ℕ) (start : ℕ) (numbers others : List ℕ) → AreRead contents start numbers → start < length contents → ((n : ℕ) → n < 2 ^ 128 → HasFront (IsBase128 n) (drop start contents) → ⊥) → AreWithinLimits others → AreSubidentifiers others contents → ⊥
-no_subidentifiers-bad contents start numbers others h past none within spelt =
-    let on = h.only others spelt in
+pub no_subidentifiers-bad : (contents : List ℕ) (start : ℕ) (numbers others : List ℕ) → AreRead contents start numbers → start < length contents → ((n : ℕ) → n < 2 ^ 128 → HasFront (IsBase128 n) (drop start contents) → ⊥) → AreSmallSubidentifiers others contents → ⊥
+no_subidentifiers-bad contents start numbers others h past none g =
+    let on = h.only others g.spelt in
     let some = some_of on.more (drop start contents) on.spelt.spellings on.spelt.each on.spelt.joined (omega (arith, length-drop start contents)) in
     let whole : others ≡ numbers ++ some.number ∷ some.others = on.whole ∙ ap (λ t. numbers ++ t) some.whole in
-    let below : some.number < 2 ^ 128 = number_below numbers some.number some.others (subst (All (λ number. number < 2 ^ 128)) whole within.below) in
-    none some.number below (HasFront-from_parts (IsBase128 some.number) some.octets some.rest (drop start contents) some.parts some.spelt)
+    let first : some.number < 2 ^ 128 = number_below numbers some.number some.others (subst (All (λ number. number < 2 ^ 128)) whole g.below) in
+    none some.number first (HasFront-from_parts (IsBase128 some.number) some.octets some.rest (drop start contents) some.parts some.spelt)
 
 none_of : (numbers : List ℕ) (spellings : List (List ℕ)) → AllZip IsBase128 numbers spellings → [] ≡ concat spellings → length numbers ≡ 0
 none_of [] spellings each joined = refl
@@ -140,6 +137,52 @@ same_numbers arcs m n f g =
     let others : f.others ≡ g.others = cc whole in
     let shared : 40 * f.first + f.second ≡ 40 * g.first + g.second = omega arith in
     f.numbers_are ∙ (ap (λ k. k ∷ f.others) shared ∙ (ap (λ t. (40 * g.first + g.second) ∷ t) others ∙ sym g.numbers_are))
+
+-- the arcs that share a subidentifier, and those of the others
+pub AreOfArcs-from_first : (shared first : ℕ) (others : List ℕ) → IsFirstArc shared first → AreOfArcs (first ∷ (shared - 40 * first) ∷ others) (shared ∷ others)
+AreOfArcs-from_first shared first others h = record {
+  first = first;
+  second = shared - 40 * first;
+  others = others;
+  arcs_are = refl;
+  at_most_2 = h.at_most_2;
+  at_most_39 = λ low. omega (arith, h.at_most_39 low);
+  numbers_are = ap (λ k. k ∷ others) (omega (arith, h.not_more));
+}
+
+-- the first subidentifier is read, and then the others
+pub AreSubidentifiers-cons : (contents : List ℕ) (n used : ℕ) (others : List ℕ) → IsReadSubidentifier contents n used → AreSubidentifiers others (drop used contents) → AreSubidentifiers (n ∷ others) contents
+AreSubidentifiers-cons contents n used others g h = record {
+  spellings = take used contents ∷ h.spellings;
+  each = (g.spelt, h.each);
+  joined = sym (take-append-drop used contents) ∙ ap (λ t. take used contents ++ t) h.joined;
+}
+
+small_of : (arcs contents : List ℕ) (v : IsOidValue arcs) → IsOid arcs contents → AreSmallSubidentifiers v.numbers contents
+small_of arcs contents v h = record {
+  spelt = subst (λ n. AreSubidentifiers n contents) (same_numbers arcs h.numbers v.numbers h.of_arcs v.of_arcs) h.spelt;
+  below = v.within.below;
+}
+
+-- octets that no subidentifier within the limit begins
+pub no_oid-bad : (contents arcs : List ℕ) → ((n : ℕ) → n < 2 ^ 128 → HasFront (IsBase128 n) contents → ⊥) → IsOidValue arcs → IsOid arcs contents → ⊥
+no_oid-bad contents arcs none v h =
+    let small = small_of arcs contents v h in
+    elim (cases_lt 0 (length contents)) [
+      | inl some ↦ no_subidentifiers-bad contents 0 [] v.numbers (AreRead-none contents) some none small
+      | inr few ↦
+          let empty : [] ≡ contents = sym (nil_from_length contents (omega arith)) in
+          let no_numbers = none_of v.numbers small.spelt.spellings small.spelt.each (empty ∙ small.spelt.joined) in
+          omega (arith, no_numbers, ap length v.of_arcs.numbers_are)
+    ]
+
+-- octets behind the first subidentifier that are not the others
+pub no_oid-rest : (contents arcs : List ℕ) (n used : ℕ) → IsReadSubidentifier contents n used → ((others : List ℕ) → length others ≤ 127 → AreSmallSubidentifiers others (drop used contents) → ⊥) → IsOidValue arcs → IsOid arcs contents → ⊥
+no_oid-rest contents arcs n used g none v h =
+    let small = small_of arcs contents v h in
+    let first = first_of n (take used contents) (drop used contents) v.numbers small.spelt.spellings g.spelt small.spelt.each (take-append-drop used contents ∙ small.spelt.joined) in
+    let below = subst (All (λ number. number < 2 ^ 128)) first.whole small.below in
+    none first.others (omega (arith, v.within.few, ap length first.whole)) (record { spelt = first.spelt; below = All-tail (λ number. number < 2 ^ 128) n first.others below })
 
 same_first : (x y v w : ℕ) → x ≤ 2 → v ≤ 2 → (x ≤ 1 → y ≤ 39) → (v ≤ 1 → w ≤ 39) → 40 * x + y ≡ 40 * v + w → x ≡ v
 same_first x y v w hx hv hy hw sum =

@@ -42,6 +42,11 @@ pub record AreWithinLimits (numbers : List ℕ) : Type 0 where
   pub few : length numbers ≤ 128
   pub below : All (λ number. number < 2 ^ 128) numbers
 
+-- these are subidentifiers within the limit on each, and their octets
+pub record AreSmallSubidentifiers (numbers contents : List ℕ) : Type 0 where
+  pub spelt : AreSubidentifiers numbers contents
+  pub below : All (λ number. number < 2 ^ 128) numbers
+
 -- these are the arcs of an OBJECT IDENTIFIER within the limits
 pub record IsOidValue (arcs : List ℕ) : Type 0 where
   pub numbers : List ℕ

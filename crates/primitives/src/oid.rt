@@ -2,14 +2,14 @@
 //!
 //! The limits on the number and the size of subidentifiers are this project's own (`docs/PROFILE.md`).
 
-ghost use Rattle.std.specs.Prelude.{◌≡◌, ℕ, List, ◌∷◌, ◌++◌, IfOk, OnOk, OnErr, IsErrOf};
+ghost use Rattle.std.specs.Prelude.{◌≡◌, ◌≤◌, ◌+◌, ℕ, List, [], ◌∷◌, ◌++◌, length, IfOk, OnOk, OnErr, IsErrOf};
 ghost use Rattle.octets.specs.Front.{Appends};
-ghost use Rattle.primitives.specs.Oid.{AreSubidentifiers, IsFirstArc, IsOid, IsOidValue, IsRelativeOid, IsRelativeOidValue};
+ghost use Rattle.primitives.specs.Oid.{AreSubidentifiers, AreSmallSubidentifiers, IsFirstArc, IsOid, IsOidValue, IsRelativeOid, IsRelativeOidValue};
 
 use crate::subidentifier::read_subidentifier;
 use crate::{Fault, MAX_SUBIDENTIFIERS};
 use octets::{NoMemory, put_base_128};
-use std::alloc::Global;
+use std::alloc::{AllocError, Global};
 
 /// The arcs of an OBJECT IDENTIFIER's contents octets.
 pub fn read_oid(alloc: Global, contents: &[u8]) -> Result<Vec<u128>, Fault>
@@ -29,12 +29,15 @@ pub fn read_oid_into(contents: &[u8], arcs: &mut Vec<u128>) -> Result<(), Fault>
     ensures within { OnOk result (IsOidValue arcs.new.items) }
     ensures none { IsErrOf result Fault.Contents → (arcs : List ℕ) → IsOidValue arcs → ¬ IsOid arcs contents.now }
 {
-    read_subidentifiers(contents, arcs)?;
-    let shared = arcs[0];
+    let Some((shared, used)) = read_subidentifier(contents) else {
+        return Err(Fault::Contents);
+    };
     let first = first_arc(shared);
-    arcs[0] = shared - 40 * first;
-    arcs.insert(0, first)?;
-    Ok(())
+    arcs.clear();
+    put_number(first, arcs)?;
+    put_number(shared - 40 * first, arcs)?;
+    // One arc more than subidentifiers.
+    read_subidentifiers(&contents[used..], MAX_SUBIDENTIFIERS + 1, arcs)
 }
 
 // The first arc of the two that share a subidentifier.
@@ -57,32 +60,52 @@ pub fn read_relative_oid(alloc: Global, contents: &[u8]) -> Result<Vec<u128>, Fa
     ensures none { IsErrOf result Fault.Contents → (arcs : List ℕ) → IsRelativeOidValue arcs → ¬ IsRelativeOid arcs contents.now }
 {
     let mut arcs = Vec::new(alloc);
-    read_subidentifiers(contents, &mut arcs)?;
-    Ok(arcs)
-}
-
-// Puts the subidentifiers of contents octets into the vector in place of the numbers in it.
-fn read_subidentifiers(contents: &[u8], arcs: &mut Vec<u128>) -> Result<(), Fault>
-    ensures value { OnOk result (IsRelativeOid arcs.new.items contents.now) }
-    ensures within { OnOk result (IsRelativeOidValue arcs.new.items) }
-    ensures none { IsErrOf result Fault.Contents → (arcs : List ℕ) → IsRelativeOidValue arcs → ¬ IsRelativeOid arcs contents.now }
-{
-    arcs.clear();
-    let mut start = 0usize;
-    while start < contents.len() {
-        if arcs.len() == MAX_SUBIDENTIFIERS {
-            return Err(Fault::Contents);
-        }
-        let Some((arc, used)) = read_subidentifier(&contents[start..]) else {
-            return Err(Fault::Contents);
-        };
-        arcs.push(arc)?;
-        start += used;
-    }
+    read_subidentifiers(contents, MAX_SUBIDENTIFIERS, &mut arcs)?;
     if arcs.is_empty() {
         return Err(Fault::Contents);
     }
+    Ok(arcs)
+}
+
+// Appends the subidentifiers of contents octets to the vector, which gets no longer than `most`.
+fn read_subidentifiers(contents: &[u8], most: usize, arcs: &mut Vec<u128>) -> Result<(), Fault>
+    requires { length arcs.old.items ≤ most }
+    ensures appended { OnOk result (Appends (λ numbers. AreSmallSubidentifiers numbers contents.now) arcs.old.items arcs.new.items) }
+    ensures within { OnOk result (length arcs.new.items ≤ most) }
+    ensures none { IsErrOf result Fault.Contents → (numbers : List ℕ) → length arcs.old.items + length numbers ≤ most → ¬ AreSmallSubidentifiers numbers contents.now }
+{
+    let mut start = 0usize;
+    while start < contents.len() {
+        if arcs.len() == most {
+            return Err(Fault::Contents);
+        }
+        let Some((number, used)) = read_subidentifier(&contents[start..]) else {
+            return Err(Fault::Contents);
+        };
+        put_number(number, arcs)?;
+        start += used;
+    }
     Ok(())
+}
+
+// Appends a number: mostly there is room for it.
+#[inline(always)]
+fn put_number(number: u128, numbers: &mut Vec<u128>) -> Result<(), AllocError>
+    ensures { OnOk result (numbers.new.items ≡ numbers.old.items ++ number ∷ []) }
+{
+    if numbers.len() < numbers.capacity() {
+        numbers.push_reserved(number);
+        return Ok(());
+    }
+    grow_by_number(number, numbers)
+}
+
+// Appends a number, and makes room for it where there is none.
+#[inline(never)]
+fn grow_by_number(number: u128, numbers: &mut Vec<u128>) -> Result<(), AllocError>
+    ensures { OnOk result (numbers.new.items ≡ numbers.old.items ++ number ∷ []) }
+{
+    Ok(numbers.push(number)?)
 }
 
 /// Appends the contents octets of an OBJECT IDENTIFIER.

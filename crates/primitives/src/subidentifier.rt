@@ -6,7 +6,8 @@ ghost use Rattle.octets.specs.Base128.{IsBase128};
 ghost use Rattle.octets.specs.Front.{HasFront};
 ghost use Rattle.primitives.specs.Oid.{IsReadSubidentifier};
 
-/// Reads the subidentifier at the front of `octets`, and says how many octets it has.
+/// Reads the subidentifier at the front of `octets`, and says how many octets it has: mostly one.
+#[inline(always)]
 pub fn read_subidentifier(octets: &[u8]) -> Option<(u128, usize)>
     ensures value { IfSome result (λ read. IsReadSubidentifier octets.now read.0 read.1) }
     ensures none { IfNone result ((number : ℕ) → number < 2 ^ 128 → ¬ HasFront (IsBase128 number) octets.now) }
@@ -15,6 +16,15 @@ pub fn read_subidentifier(octets: &[u8]) -> Option<(u128, usize)>
     if first < 0x80 {
         return Some((u128::from(first), 1));
     }
+    read_long_subidentifier(octets)
+}
+
+// Reads the subidentifier at the front of `octets`, of any size.
+#[inline(never)]
+fn read_long_subidentifier(octets: &[u8]) -> Option<(u128, usize)>
+    ensures value { IfSome result (λ read. IsReadSubidentifier octets.now read.0 read.1) }
+    ensures none { IfNone result ((number : ℕ) → number < 2 ^ 128 → ¬ HasFront (IsBase128 number) octets.now) }
+{
     let mut number = 0u128;
     for (i, octet) in octets.iter().enumerate() {
         if i == 0 && *octet == 0x80 {

@@ -1,7 +1,7 @@
 use Rattle.std.proofs.Common.{◌≡◌, ◌≢◌, ◌<◌, ◌≤◌, ◌^◌, arith, subst, length, get_or, refl}
 use Rattle.primitives.proofs.SubidentifierLemmas.{IsBegun, IsBegun-more, IsBase128-from_begun, no_subidentifier-great, no_subidentifier-open}
-use Rattle.primitives.proofs.subidentifier.read_subidentifier.Goals as goal
-use Rattle.primitives.proofs.subidentifier.read_subidentifier.Goals.{else-i-eq0-via-then-i-eq0+else-octet, else-i-eq0-via-else-i-eq0}
+use Rattle.primitives.proofs.subidentifier.read_long_subidentifier.Goals as goal
+use Rattle.primitives.proofs.subidentifier.read_long_subidentifier.Goals.{else-i-eq0-via-then-i-eq0+else-octet, else-i-eq0-via-else-i-eq0}
 
 pub returns-then-number-clause-none : goal.returns-then-number-clause-none
 returns-then-number-clause-none c = λ number small front.
@@ -16,8 +16,8 @@ returns-then-octet-lt128-clause-value c =
     let last = IsBase128-from_begun octets i c.loop-i.number (get_or octets i 0) c.loop-i.invariant.begun c.loop-i-test.true refl c.if-octet-lt128.true in
     record {
       there = omega (arith, c.loop-i-test.true);
-      within = omega (arith, limit, c.from-in-loop-i.ensures, c.type_inv.octets i);
-      spelt = rw c.from-in-loop-i.ensures last;
+      within = omega (arith, limit, c.from.ensures, c.type_inv.octets i);
+      spelt = rw c.from.ensures last;
     }
 
 pub loop-i-preserved : goal.loop-i-preserved
@@ -32,8 +32,8 @@ loop-i-preserved c =
     ] in
     let more = IsBegun-more octets i c.loop-i.number (get_or octets i 0) c.loop-i.invariant.begun c.loop-i-test.true refl c.if-octet-lt128.false (omega (arith, c.type_inv.octets i)) first in
     record {
-      begun = rw c.from-in-loop-i.ensures more;
-      within = omega (arith, limit, c.from-in-loop-i.ensures);
+      begun = rw c.from.ensures more;
+      within = omega (arith, limit, c.from.ensures);
     }
 
 pub returns-clause-none : goal.returns-clause-none
