@@ -27,7 +27,7 @@ use Rattle.strict.specs.Canonical.{rule_of}
 use Rattle.strict.specs.Head.{Fills, mark, EndsHere}
 use Rattle.strict.specs.Components.{HasComponents, EndsOrBegins}
 use Rattle.strict.proofs.PartLemmas.{one_of, same_part, one_begins, no_end_here, ends_here, fills_after}
-use Rattle.strict.proofs.FrontLemmas.{canonical_of, BeginsPart, within_of, begins_front}
+use Rattle.strict.proofs.FrontLemmas.{canonical_of, BeginsPart, within_of, begins_front, part_begins}
 
 pub run_within : (left : List ComponentView) (tag : Tag) → AllByRecursion IsGoodComponent left → Contains (tags_of_run (components_of left)) tag → tag.number ≤ 268_435_455
 run_within [] tag good c = absurd (not_in_nil tag c)
@@ -144,9 +144,8 @@ none_stands rule c others definite room octets good none h =
     elim (next_component rule c others definite room octets h) [
       | inl l ↦ l
       | inr s ↦
-          let b = encoding_begins (rule_of rule) c.type s.value s.part s.encoding in
-          let one = one_of (rule_of rule) c.type s.value s.part good s.encoding in
-          absurd (none (record { tag = b.0; first = b.1; head = within_of b.0 room s.part s.tail octets s.parts s.fits b.2 }) (subst BeginsAboveZero (sym s.parts) (one_begins s.part s.tail one)))
+          let b = part_begins (rule_of rule) c.type room octets good (record { value = s.value; part = s.part; rest = s.tail; encoding = s.encoding; fits = s.fits; parts = s.parts }) in
+          absurd (none b.0 b.1)
     ]
 
 -- what was read is the one that stands

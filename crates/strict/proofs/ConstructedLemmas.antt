@@ -5,10 +5,8 @@ use Rattle.octets.specs.Rule.{Rule}
 use Rattle.types.specs.declared.value.Value.{Value}
 use Rattle.types.specs.FirstTags.{first_tags}
 use Rattle.types.specs.Form.{IsConstructed}
-use Rattle.types.specs.Leaf.{IsLeaf}
 use Rattle.types.specs.Shape.{Val, Shape}
 use Rattle.types.specs.Encoding.{IsEncoding}
-use Rattle.encoding_parts.specs.HeldParts.{IsNode}
 use Rattle.encoding_parts.specs.Parts.{IsNodeFor}
 use Rattle.strict.specs.declared.canonical.Canonical.{Canonical}
 use Rattle.strict.specs.declared.head.Inside.{Inside}
@@ -17,16 +15,6 @@ use Rattle.strict.specs.Head.{HasConstructed, IsOpened, mark}
 use Rattle.strict.specs.Inside.{HasParts, contents_of, HasInside, IsInsideRead}
 use Rattle.strict.specs.Reading.{IsRead, HasPart}
 use Rattle.strict.proofs.InsideLemmas.{closed}
-
-pub parts_of_others : (type : Shape) → (IsLeaf type → ⊥) → IsNode type → HasParts type
-parts_of_others (Shape.simple tag type) no_leaf node = absurd (no_leaf tt)
-parts_of_others (Shape.string tag type) no_leaf node = absurd (no_leaf tt)
-parts_of_others (Shape.sequence tag components) no_leaf node = tt
-parts_of_others (Shape.set tag components) no_leaf node = tt
-parts_of_others (Shape.sequence_of tag type) no_leaf node = tt
-parts_of_others (Shape.set_of tag type) no_leaf node = tt
-parts_of_others (Shape.choice alternatives) no_leaf node = absurd node
-parts_of_others (Shape.explicit tag type) no_leaf node = tt
 
 -- the type is its own node, whose encodings are constructed
 pub node_of_parts : (type : Shape) (tag : Tag) → HasParts type → first_tags type ≡ tag ∷ [] → IsNodeFor tag type type

@@ -3,18 +3,23 @@ use Rattle.std.proofs.Common.{◌≡◌, ◌↔◌, ℕ, ◌≤◌, inl, inr, Li
 use Rattle.std.proofs.lemmas.List.{length-take-le, take-append-drop}
 use Rattle.octets.specs.declared.tag.Tag.{Tag}
 use Rattle.octets.specs.Identifier.{IsIdentifier}
-use Rattle.octets.specs.Rule.{IsCanonical}
+use Rattle.octets.specs.Rule.{Rule, IsCanonical}
 use Rattle.octets.proofs.IdentifierLemmas.{identifier_unique}
 use Rattle.types.specs.Shape.{Shape}
 use Rattle.types.specs.FirstTags.{first_tags}
 use Rattle.types.specs.Order.{BeginsWith, BeginsWithOneOf}
+use Rattle.types.proofs.BeginningLemmas.{encoding_begins}
+use Rattle.types.proofs.FirstTagLemmas.{tag_within}
 use Rattle.encoding_parts.specs.Head.{IsTagWithin, IsReadTag}
+use Rattle.encoding_parts.specs.Parts.{IsGoodType}
 use Rattle.encoding_parts.specs.Segments.{BeginsAboveZero}
 use Rattle.strict.specs.declared.canonical.Canonical.{Canonical}
 use Rattle.strict.specs.declared.canonical.Canonical.TheVariants.{Cer, Der}
 use Rattle.strict.specs.Canonical.{rule_of}
 use Rattle.strict.specs.Head.{EndsHere}
-use Rattle.strict.specs.Components.{IsFront}
+use Rattle.strict.specs.Components.{IsFront, EndsOrBegins}
+use Rattle.strict.specs.Reading.{HasPart}
+use Rattle.strict.proofs.PartLemmas.{one_of, one_begins}
 
 pub canonical_of : (rule : Canonical) → IsCanonical (rule_of rule)
 canonical_of Cer = λ same. cc
@@ -85,3 +90,17 @@ pub front_known : (front : Option Tag) (b : Bool) (type : Shape) (definite : Boo
 front_known None true type definite room octets h iff = absurd (iff.0 refl)
 front_known None false type definite room octets h iff = nothing_begins type definite room octets h
 front_known (Some tag) b type definite room octets h iff = standing_known b type definite room octets tag h.0 iff h.1
+
+-- an encoding of the type that stands at the front begins there
+pub part_begins : (rule : Rule) (type : Shape) (room : ℕ) (octets : List ℕ) → IsGoodType type → HasPart rule type room octets → BeginsPart type room octets × BeginsAboveZero octets
+part_begins rule type room octets good h =
+    let b = encoding_begins rule type h.value h.part h.encoding in
+    (record { tag = b.0; first = b.1; head = within_of b.0 room h.part h.rest octets h.parts h.fits b.2 }, subst BeginsAboveZero (sym h.parts) (one_begins h.part h.rest (one_of rule type h.value h.part good h.encoding)))
+
+-- so it can be told that it does
+pub part_or_end : (rule : Rule) (type : Shape) (definite : Bool) (room : ℕ) (octets : List ℕ) → IsGoodType type → HasPart rule type room octets → EndsOrBegins definite room octets
+part_or_end rule type definite room octets good h = let b = part_begins rule type room octets good h in inr (b.0.tag, tag_within type b.0.tag good.within b.0.first, b.0.head, b.1)
+
+-- where none begins, none stands
+pub no_part : (rule : Rule) (type : Shape) (definite : Bool) (room : ℕ) (octets more : List ℕ) → IsGoodType type → IsStandingKnown false type definite room octets → HasPart rule type room (octets ++ more) → ⊥
+no_part rule type definite room octets more good known h = let b = part_begins rule type room (octets ++ more) good h in known more b.0 b.1

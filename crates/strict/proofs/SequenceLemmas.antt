@@ -1,5 +1,5 @@
 -- Lemmas on the components of a SEQUENCE that were read.
-use Rattle.std.proofs.Common.{◌≡◌, ℕ, ◌+◌, ◌-◌, ◌≤◌, List, [], ◌∷◌, ◌++◌, Bool, true, false, Option, Some, None, Vec, Global, length, take, drop, map, option_map, refl, sym, ◌∙◌, ap, ap₂, subst, subst₂, arith, append_assoc, append-nil}
+use Rattle.std.proofs.Common.{◌≡◌, ℕ, ◌+◌, ◌-◌, ◌≤◌, inl, inr, List, [], ◌∷◌, ◌++◌, Bool, true, false, Option, Some, None, Vec, Global, length, take, drop, map, option_map, refl, sym, ◌∙◌, ap, ap₂, subst, subst₂, arith, append_assoc, append-nil}
 use Rattle.std.specs.List.{AllByRecursion, concat}
 use Rattle.std.proofs.Math.Seq.{take-add}
 use Rattle.std.proofs.lemmas.List.{length-drop, drop-drop, drop_all, take_all}
@@ -25,7 +25,7 @@ use Rattle.strict.specs.Inside.{HasInside, IsInsideRead}
 use Rattle.strict.specs.Components.{HasPresent, IsPresentRead, HasComponents, AreComponentsRead}
 use Rattle.strict.proofs.PartLemmas.{ends_here}
 use Rattle.strict.proofs.FrontLemmas.{IsStandingKnown, begins_tag}
-use Rattle.strict.proofs.ComponentLemmas.{none_stands, that_one, it_stands}
+use Rattle.strict.proofs.ComponentLemmas.{next_component, none_stands, that_one, it_stands}
 
 pub absent_stands : (rule : Rule) (requirement : Requirement) (P : Val → List ℕ → Type 0) → MayBeAbsent requirement → StandsForAbsent rule requirement P None
 absent_stands rule required P h = h
@@ -67,6 +67,15 @@ present_stands rule c others definite room octets more runs goods known h =
     let begins : BeginsWithOneOf (first_tags c.type) (octets ++ more) = (b.tag, b.first, begins_tag b.tag room octets more b.head) in
     let s = it_stands rule c others definite room (octets ++ more) runs goods begins (known.1 more) h in
     record { value = s.value; part = s.part; rest = s.tail; encoding = s.encoding; differs = s.differs; fits = s.fits; parts = s.parts }
+
+-- so one stands that cannot be absent, or that begins there
+pub present_first : (rule : Canonical) (c : ComponentView) (others : List ComponentView) (definite : Bool) (room : ℕ) (octets more : List ℕ) → RunsAreDistinct (components_of (c ∷ others)) → AllByRecursion IsGoodComponent others
+    → (MayBeAbsent c.requirement → IsStandingKnown true c.type definite room octets) → HasComponents (rule_of rule) (c ∷ others) definite room (octets ++ more) → HasPresent (rule_of rule) c room (octets ++ more)
+present_first rule c others definite room octets more runs goods known h =
+    elim (next_component rule c others definite room (octets ++ more) h) [
+      | inl l ↦ present_stands rule c others definite room octets more runs goods (known l.may) h
+      | inr s ↦ record { value = s.value; part = s.part; rest = s.tail; encoding = s.encoding; differs = s.differs; fits = s.fits; parts = s.parts }
+    ]
 
 -- no component yet
 pub none_read : (rule : Rule) (others : List ComponentView) (definite : Bool) (room : ℕ) (octets : List ℕ) (slots : List (Option Value)) → slots ≡ [] → AreComponentsRead rule [] others definite room octets slots 0

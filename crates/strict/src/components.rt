@@ -1,6 +1,6 @@
 //! SEQUENCEs: components in order of declaration (X.690 8.9 and 11.5).
 
-ghost use Rattle.std.specs.Prelude.{◌<◌, ◌≤◌, length, map, IfOk, IfErr};
+ghost use Rattle.std.specs.Prelude.{◌<◌, ◌≤◌, length, map, IfOk, IfErr, IfSome};
 ghost use Rattle.std.specs.List.{AllByRecursion};
 ghost use Rattle.octets.specs.declared.TheConstants.{MAX_ENCODING};
 ghost use Rattle.octets.specs.declared.tag.Tag.{Tag};
@@ -8,6 +8,7 @@ ghost use Rattle.types.specs.FirstTags.{RunsAreDistinct};
 ghost use Rattle.types.specs.Shape.{Shape};
 ghost use Rattle.types.specs.View.{components_view, field_view};
 ghost use Rattle.encoding_parts.specs.Parts.{IsGoodComponent};
+ghost use Rattle.strict.specs.declared.canonical.Canonical.{Canonical};
 ghost use Rattle.strict.specs.Canonical.{rule_of};
 ghost use Rattle.strict.specs.Bars.{RefusesStrictly};
 ghost use Rattle.strict.specs.Head.{AreFewer};
@@ -15,7 +16,8 @@ ghost use Rattle.strict.specs.Inside.{IsInsideRead};
 ghost use Rattle.strict.specs.Components.{HasPresent, IsPresentRead, HasComponents, IsComponentRead, HasComponentFirst};
 
 use crate::canonical::Canonical;
-use crate::fronts::{front_tag, is_left_out, is_next, is_spelt_out, left_over, not_next};
+use crate::filling::read_shortly;
+use crate::fronts::{front_tag, is_spelt_out, left_over, stands_next, why_not_read};
 use crate::head::Inside;
 use crate::parts::read_one;
 use encoding_parts::{clear, take_slots};
@@ -43,19 +45,24 @@ pub fn read_components(
         return Err(Refusal::NoMemory);
     };
     let mut slots = taken;
+    let front = &octets[..octets.len().min(inside.room)];
     let mut at = 0;
     for (place, field) in fields.iter().enumerate() {
-        at += read_component(
-            alloc,
-            rule,
-            field,
-            fields,
-            place,
-            inside.definite,
-            inside.room - at,
-            &octets[at..],
-            &mut slots[place],
-        )?;
+        let slot = &mut slots[place];
+        at += match read_shortly_present(alloc, field, &front[at..], slot) {
+            Some(used) => used,
+            None => read_component(
+                alloc,
+                rule,
+                field,
+                fields,
+                place,
+                inside.definite,
+                inside.room - at,
+                &octets[at..],
+                slot,
+            )?,
+        };
     }
     match front_tag(inside.definite, inside.room - at, &octets[at..])? {
         Some(tag) => Err(left_over(tag, &slots)),
@@ -67,8 +74,7 @@ pub fn read_components(
 }
 
 // Reads the encoding of the component at the front, which has this place, if it stands there, or none where it may be
-// absent. Most that are absent are the last ones, and for those no octet is looked at. Any other is read at once, and
-// only where that is refused its tag is looked at.
+// absent. Of a component that may be, the tag is looked at first, and of any other only where it is refused.
 #[cycle(reading)]
 #[inline(always)]
 fn read_component(
@@ -88,24 +94,38 @@ fn read_component(
     ensures value { IfOk result (λ used. IsComponentRead (rule_of rule) (field_view field.now) definite room octets.now slot.new used) }
     ensures refused { IfErr result (RefusesStrictly (HasComponentFirst (rule_of rule) (field_view field.now) definite room) (AreFewer definite room) octets.now) }
 {
-    if is_left_out(&field.presence, definite, room) {
+    if may_be_absent(&field.presence) && !stands_next(definite, room, octets, &field.ty)? {
         clear(slot);
         return Ok(0);
     }
     match read_present(alloc, rule, field, room, octets, slot) {
         Ok(used) => Ok(used),
-        Err(refusal) => {
-            let front = front_tag(definite, room, octets)?;
-            if is_next(front, &field.ty) {
-                return Err(refusal);
-            }
-            if !may_be_absent(&field.presence) {
-                return Err(not_next(front, &fields[place + 1..]));
-            }
-            clear(slot);
-            Ok(0)
-        }
+        Err(refusal) => Err(why_not_read(
+            refusal,
+            definite,
+            room,
+            octets,
+            &field.ty,
+            &fields[place + 1..],
+        )),
     }
+}
+
+// Reads the encoding of the component at the front, which is not that of its default, where it has no parts and can be
+// looked at once, and returns how many octets it has. Of all others it says nothing, and of what is refused.
+#[inline(always)]
+fn read_shortly_present(
+    alloc: Global,
+    field: &Field,
+    octets: &[u8],
+    slot: &mut Option<Value>,
+) -> Option<usize>
+    ensures { IfSome result (λ used. (rule : Canonical) → IsPresentRead (rule_of rule) (field_view field.now) (length octets.now) octets.now slot.new used) }
+{
+    let tag = field.ty.leaf_tag()?;
+    let used = read_shortly(alloc, &field.ty, tag, octets, slot)?;
+    let spelt_out = is_spelt_out(&field.presence, slot);
+    if spelt_out { None } else { Some(used) }
 }
 
 // Reads the encoding of the component at the front, which is not that of its default.

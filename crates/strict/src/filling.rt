@@ -1,6 +1,6 @@
 //! Values of contents octets, put where they belong: a value is large to hand on.
 
-ghost use Rattle.std.specs.Prelude.{◌≡◌, IsTrue, IfSome, MatchOption};
+ghost use Rattle.std.specs.Prelude.{◌≡◌, length, IsTrue, IfSome, MatchOption};
 ghost use Rattle.octets.specs.Rule.{der};
 ghost use Rattle.types.specs.Leaf.{tag_of, IsLeaf};
 ghost use Rattle.types.specs.View.{ty_view, value_view};
@@ -17,23 +17,22 @@ use primitives::read_bits_in;
 use std::alloc::Global;
 use types::{Ty, Value};
 
-// Reads the encoding at the front, of a type without parts under this tag, into the slot, if it is a primitive one of at
-// most `room` octets that two octets stand before, and returns how many octets it has. Of all others it says nothing, and
-// of what is refused.
+// Reads the encoding at the front, of a type without parts under this tag, into the slot, if it is a primitive one with
+// two octets before its contents octets, and returns how many octets it has. Of all others it says nothing, and of what
+// is refused.
 #[inline(never)]
 pub fn read_shortly(
     alloc: Global,
     ty: &Ty,
     tag: Tag,
-    room: usize,
     octets: &[u8],
     slot: &mut Option<Value>,
 ) -> Option<usize>
     requires leaf { IsLeaf (ty_view ty.now) }
     requires tag { tag_of (ty_view ty.now) ≡ tag }
-    ensures { IfSome result (λ used. (rule : Canonical) → IsRead (rule_of rule) (ty_view ty.now) room octets.now slot.new used) }
+    ensures { IfSome result (λ used. (rule : Canonical) → IsRead (rule_of rule) (ty_view ty.now) (length octets.now) octets.now slot.new used) }
 {
-    let stop = short_primitive(tag, room, octets)?;
+    let stop = short_primitive(tag, octets.len(), octets)?;
     if fill_canonical(alloc, ty, &octets[2..stop], slot) {
         Some(stop)
     } else {

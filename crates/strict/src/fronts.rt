@@ -1,20 +1,24 @@
 //! What stands at the front where a component must begin or the contents octets end.
 
-ghost use Rattle.std.specs.Prelude.{◌≡◌, ⊤, false, ◌↔◌, ℕ, List, None, Contains, IsTrue, IfOk, IfErr, MatchOption};
-ghost use Rattle.types.specs.Conforms.{DiffersFromDefault, MayBeAbsent};
+ghost use Rattle.std.specs.Prelude.{◌≡◌, ⊤, false, ◌↔◌, ◌⊎◌, Option, None, Contains, IsTrue, IfOk, IfErr, MatchOption};
+ghost use Rattle.octets.specs.declared.tag.Tag.{Tag};
+ghost use Rattle.types.specs.Conforms.{DiffersFromDefault};
 ghost use Rattle.types.specs.FirstTags.{first_tags};
 ghost use Rattle.types.specs.Refusal.{IsFinal};
 ghost use Rattle.types.specs.View.{ty_view, value_view, requirement_view};
-ghost use Rattle.encoding_parts.specs.Parts.{IsSlotOf};
+ghost use Rattle.encoding_parts.specs.Parts.{IsGoodType, IsSlotOf};
+ghost use Rattle.strict.specs.declared.canonical.Canonical.{Canonical};
+ghost use Rattle.strict.specs.Canonical.{rule_of};
 ghost use Rattle.strict.specs.Bars.{RefusesStrictly};
 ghost use Rattle.strict.specs.Components.{IsFront, EndsOrBegins};
-ghost use Rattle.strict.specs.Head.{EndsHere, AreFewer};
+ghost use Rattle.strict.specs.Head.{AreFewer};
+ghost use Rattle.strict.specs.Reading.{HasPart};
 ghost use Rattle.strict.specs.Refusal.{IsOfStrictReading};
 
 use crate::ends::ends;
 use encoding_parts::{begins, is_default, not_due, read_head_tag};
 use octets::Tag;
-use types::{Field, Presence, Refusal, Ty, Value, may_be_absent};
+use types::{Field, Presence, Refusal, Ty, Value};
 
 // The tag at the front, or none where the contents octets end there.
 pub fn front_tag(definite: bool, room: usize, octets: &[u8]) -> Result<Option<Tag>, Refusal>
@@ -28,33 +32,48 @@ pub fn front_tag(definite: bool, room: usize, octets: &[u8]) -> Result<Option<Ta
     Ok(Some(tag))
 }
 
-// Whether an encoding of the type can begin there.
-pub fn is_next(front: Option<Tag>, ty: &Ty) -> bool
-    ensures { IsTrue result ↔ MatchOption front ⊥ (λ tag. Contains (first_tags (ty_view ty.now)) tag) }
+// Whether the tag at the front is one that encodings of the type begin with.
+#[inline(never)]
+pub fn stands_next(definite: bool, room: usize, octets: &[u8], ty: &Ty) -> Result<bool, Refusal>
+    ensures value { IfOk result (λ stands. (front : Option Tag) × IsFront front definite room octets.now
+        × (IsTrue stands ↔ MatchOption front ⊥ (λ tag. Contains (first_tags (ty_view ty.now)) tag))) }
+    ensures refused { IfErr result (RefusesStrictly (EndsOrBegins definite room) (AreFewer definite room) octets.now) }
 {
-    match front {
-        Some(tag) => begins(ty, tag),
-        None => false,
+    match front_tag(definite, room, octets)? {
+        Some(tag) => Ok(begins(ty, tag)),
+        None => Ok(false),
     }
 }
 
-// Whether the component is absent because the contents octets of the definite form end there.
-#[inline(always)]
-pub fn is_left_out(presence: &Presence, definite: bool, room: usize) -> bool
-    ensures { IsTrue result → ((octets : List ℕ) → EndsHere definite room octets) × MayBeAbsent (requirement_view presence.now) }
+// Why no encoding of the type is read at the front, before these: it is refused so, or none begins there.
+#[inline(never)]
+pub fn why_not_read(
+    refusal: Refusal,
+    definite: bool,
+    room: usize,
+    octets: &[u8],
+    ty: &Ty,
+    later: &[Field],
+) -> Refusal
+    requires { IsGoodType (ty_view ty.now) }
+    ensures { (result ≡ refusal) ⊎ ((rule : Canonical) → RefusesStrictly (HasPart (rule_of rule) (ty_view ty.now) room) (AreFewer definite room) octets.now result) }
 {
-    definite && room == 0 && may_be_absent(presence)
+    match front_tag(definite, room, octets) {
+        Ok(Some(tag)) => if begins(ty, tag) {
+            refusal
+        } else {
+            not_next(tag, later)
+        },
+        Ok(None) => Refusal::Missing,
+        Err(unknown) => unknown,
+    }
 }
 
-// Why what stands there is refused where a component must, before these.
-#[inline(never)]
-pub fn not_next(front: Option<Tag>, later: &[Field]) -> Refusal
+// Why the tag is refused where a component must stand, before these.
+fn not_next(tag: Tag, later: &[Field]) -> Refusal
     ensures never { IsFinal result }
     ensures numbers { IsOfStrictReading result }
 {
-    let Some(tag) = front else {
-        return Refusal::Missing;
-    };
     for field in later {
         if begins(&field.ty, tag) {
             return Refusal::Missing;

@@ -2,7 +2,6 @@
 
 ghost use Rattle.std.specs.Prelude.{◌-◌, ◌≤◌, drop, IfOk, IfErr};
 ghost use Rattle.octets.specs.declared.TheConstants.{MAX_ENCODING};
-ghost use Rattle.types.specs.Leaf.{IsLeaf};
 ghost use Rattle.types.specs.Shape.{Shape};
 ghost use Rattle.types.specs.View.{alternatives_view, ty_view};
 ghost use Rattle.encoding_parts.specs.Parts.{IsGoodType};
@@ -42,16 +41,20 @@ pub fn read_one(
     ensures value { IfOk result (λ used. IsRead (rule_of rule) (ty_view ty.now) room octets.now slot.new used) }
     ensures refused { IfErr result (RefusesPart rule (ty_view ty.now) room octets.now) }
 {
-    let Some(tag) = ty.leaf_tag() else {
-        return read_parts(alloc, rule, ty, room, octets, slot);
-    };
-    match read_shortly(alloc, ty, tag, room, octets, slot) {
-        Some(used) => Ok(used),
-        None => read_leaf(alloc, rule, ty, tag, room, octets, slot),
+    if let Some(tag) = ty.leaf_tag() {
+        let front = &octets[..octets.len().min(room)];
+        return match read_shortly(alloc, ty, tag, front, slot) {
+            Some(used) => Ok(used),
+            None => read_leaf(alloc, rule, ty, tag, room, octets, slot),
+        };
+    }
+    match ty {
+        Ty::Choice(alternatives) => read_chosen(alloc, rule, alternatives, room, octets, slot),
+        _ => read_parts(alloc, rule, ty, room, octets, slot),
     }
 }
 
-// Reads an encoding of a type with parts: that of an alternative, or one that is opened, read inside and closed.
+// Reads an encoding of a type with parts: it is opened, read inside and closed.
 #[cycle(reading)]
 fn read_parts(
     alloc: Global,
@@ -61,15 +64,12 @@ fn read_parts(
     octets: &[u8],
     slot: &mut Option<Value>,
 ) -> Result<usize, Refusal>
-    requires parts { ¬ IsLeaf (ty_view ty.now) }
+    requires parts { HasParts (ty_view ty.now) }
     requires good { IsGoodType (ty_view ty.now) }
     requires room { room ≤ MAX_ENCODING }
     ensures value { IfOk result (λ used. IsRead (rule_of rule) (ty_view ty.now) room octets.now slot.new used) }
     ensures refused { IfErr result (RefusesPart rule (ty_view ty.now) room octets.now) }
 {
-    if let Ty::Choice(alternatives) = ty {
-        return read_chosen(alloc, rule, alternatives, room, octets, slot);
-    }
     let Some(tag) = ty.tag() else { unreachable!() };
     let inside = opened(rule, tag, room, octets)?;
     let behind = &octets[inside.start..];

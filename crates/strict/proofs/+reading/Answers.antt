@@ -1,44 +1,41 @@
-use Rattle.std.proofs.Common.{rules, ◌≡◌, ◌+◌, ◌-◌, ◌≤◌, ◌<◌, inl, ◌++◌, ◌∷◌, ℕ, [], Some, None, Err, length, map, take, drop, set, MatchOption, true, false, sym, ap, ◌∙◌, subst, subst₂, arith, refl}
+use Rattle.std.proofs.Common.{rules, ◌≡◌, ◌+◌, ◌-◌, ◌≤◌, ◌<◌, inl, inr, ◌++◌, ◌∷◌, ℕ, List, [], Option, Some, None, Err, length, map, take, drop, set, MatchOption, true, false, sym, ap, ◌∙◌, subst, subst₂, arith, refl}
 use Rattle.std.specs.Ordering.{nat_cmp, is_lt}
 use Rattle.std.specs.Cmp.Lexicographic.{slice_cmp}
-use Rattle.std.specs.List.{concat}
 use Rattle.std.proofs.lemmas.List.{take_rest, take_more_set, length-set, length-drop}
-use Rattle.octets.specs.declared.TheConstants.{MAX_ENCODING}
-use Rattle.types.specs.Leaf.{IsLeaf}
 use Rattle.types.specs.Shape.{Shape}
 use Rattle.types.specs.View.{ty_view, value_view, field_view, components_view, alternative_view, alternatives_view}
 use Rattle.types.specs.Conforms.{MayBeAbsent}
-use Rattle.types.specs.Encoding.{standing}
+use Rattle.types.specs.declared.value.Value.{Value}
 use Rattle.types.specs.declared.ty.Ty as node
 use Rattle.types.specs.declared.ty.Field as field
 use Rattle.types.specs.declared.ty.Alternative as alternative
 use Rattle.octets.proofs.ResultLemmas.{IfOk-map, IfErr-map}
 use Rattle.types.proofs.LimitLemmas.{alternative_type}
 use Rattle.types.proofs.ViewLemmas.{ty-Sequence, ty-Set, ty-SequenceOf, ty-SetOf, ty-Explicit}
-use Rattle.encoding_parts.specs.HeldParts.{IsNode}
 use Rattle.encoding_parts.specs.Parts.{IsGoodType, IsSlotOf}
 use Rattle.encoding_parts.specs.Renewed.{new_items}
 use Rattle.strict.specs.Canonical.{rule_of}
 use Rattle.strict.specs.Begun.{IsBegun}
 use Rattle.strict.specs.Head.{EndsHere, IsEndKnown, AreFewer}
 use Rattle.strict.specs.Reading.{IsRead, HasPart}
-use Rattle.strict.specs.Components.{IsFront, HasComponents, AreComponentsRead}
+use Rattle.strict.specs.Components.{IsFront, HasComponents, AreComponentsRead, HasComponentFirst}
 use Rattle.strict.specs.Bars.{RefusesStrictly}
 use Rattle.strict.specs.Inside.{HasInside, IsInsideRead}
 use Rattle.strict.specs.Items.{AreItemsRead, between}
 use Rattle.strict.proofs.BarsLemmas.{refused_of, refused_for_good, refused_by, refused_behind, refused_named, refused_through}
-use Rattle.strict.proofs.PartLemmas.{read_some}
+use Rattle.strict.proofs.PartLemmas.{read_some, read_in_front, read_behind_in_front}
 use Rattle.strict.proofs.FieldLemmas.{field_type, field_requirement, run_at, first_of, whole_of}
-use Rattle.strict.proofs.FrontLemmas.{IsStandingKnown, front_known, nothing_begins}
+use Rattle.strict.proofs.FrontLemmas.{IsStandingKnown, front_known}
 use Rattle.strict.proofs.PresentLemmas.{part_of_present, none_spelt_out}
-use Rattle.strict.proofs.ComponentLemmas.{ends_or_begins, none_stands}
-use Rattle.strict.proofs.SequenceLemmas.{absent_read, stands_read, present_stands, none_read, component_more, good_components, components_inside, all_read, ends_behind_all, sequence_read}
+use Rattle.strict.proofs.ComponentLemmas.{ends_or_begins}
+use Rattle.strict.proofs.SequenceLemmas.{absent_read, stands_read, present_first, none_read, component_more, good_components, components_inside, all_read, ends_behind_all, sequence_read}
 use Rattle.strict.proofs.ItemLemmas.{item_or_end, item_stands, no_items, item_read, none_out_of_order, list_read, items_inside}
-use Rattle.strict.proofs.ConstructedLemmas.{parts_of_others, node_of_parts, can_of_parts, constructed_of, inside_of, constructed_read}
+use Rattle.strict.proofs.ConstructedLemmas.{node_of_parts, can_of_parts, constructed_of, inside_of, constructed_read}
 use Rattle.strict.proofs.ChosenLemmas.{tag_of_part, choice_of_part, this_at, none_there, good_at, chosen_read}
 use Rattle.strict.proofs.AloneLemmas.{alone_inside, ends_alone, explicit_read, part_alone}
 use Rattle.strict.proofs.EndingLemmas.{fewer_behind, begun_short, item_behind, begun_constructed, begun_around, begun_chosen}
 use Rattle.strict.proofs.+reading.Goals as goal
+use Rattle.strict.proofs.+reading.Goals.{components::read_components-in-Some, components::read_components-in-None+in_ok-at-in-None, components::read_component-else-may_be_absent-via-then-may_be_absent+in_ok-stands_next+else-not-branch, components::read_component-else-may_be_absent-via-else-may_be_absent}
 use Rattle.strict.proofs.SetLemmas.{members_inside, good_members}
 use Rattle.strict.proofs.+reading.Answers.Members as set
 mod Members
@@ -229,8 +226,8 @@ components::read_components-read_component-requires t c =
     let run = run_at fields i f bound is c.requires.good c.requires.runs in
     (search (rules, node.the_lemmas, field.the_lemmas, bound, is), (run.good, (omega (arith, c.requires.room), bound)))
 
-pub components::read_components-returns-in_err-at-clause-refused : goal.components::read_components-returns-in_err-at-clause-refused
-components::read_components-returns-in_err-at-clause-refused t c =
+pub components::read_components-returns-in_err-at-in-None-clause-refused : goal.components::read_components-returns-in_err-at-in-None-clause-refused
+components::read_components-returns-in_err-at-in-None-clause-refused t c =
     let octets = c.args.octets.now in
     let rule = rule_of c.args.rule in
     let fields = c.args.fields.now in
@@ -246,17 +243,41 @@ components::read_components-returns-in_err-at-clause-refused t c =
     let so_far = subst (λ l. AreComponentsRead rule (map field_view (take i fields)) l d room octets (take i c.loop-place.slots.items) at) run.here c.loop-place.invariant.0 in
     let first = c.loop-place.invariant.0 in
     refused_through c.from_residual.result c.from_residual.ensures.1
-    (refused_behind at c.in_err-at.ensures.refused (λ more h. (others, run.runs, run.goods, so_far.forth more (subst (λ l. HasComponents rule l d room (octets ++ more)) (whole_of fields i f bound is) h)))
+    (refused_behind at c.in_err-at-in-None.ensures.refused (λ more h. (others, run.runs, run.goods, so_far.forth more (subst (λ l. HasComponents rule l d room (octets ++ more)) (whole_of fields i f bound is) h)))
     (λ k. fewer_behind d room at octets first.within first.there k))
 
-pub components::read_components-overflow_add-at : goal.components::read_components-overflow_add-at
-components::read_components-overflow_add-at t c =
+-- the component that was read, at once or not
+component_at : (t : ℕ) (c : goal.components::read_components-After-row_known-1 t) → (slot : Option Value) × (c.match-read_shortly_present.slots.items ≡ set c.loop-place.slots.items c.loop-place.place slot)
+    × AreComponentsRead (rule_of c.args.rule) (field_view c.index-fields-place.result ∷ []) (map field_view (drop (c.loop-place.place + 1) c.args.fields.now)) c.args.inside.now.definite (c.args.inside.now.room - c.loop-place.at) (drop c.loop-place.at c.args.octets.now) (slot ∷ []) c.match-read_shortly_present.at
+component_at t c =
+    let octets = c.args.octets.now in
+    let rule = rule_of c.args.rule in
     let fields = c.args.fields.now in
+    let d = c.args.inside.now.definite in
+    let room = c.args.inside.now.room in
+    let i = c.loop-place.place in
     let f = c.index-fields-place.result in
-    let bound : c.loop-place.place < length fields = c.loop-place-test.true in
-    let run = run_at fields c.loop-place.place f bound c.index-fields-place.is c.requires.good c.requires.runs in
-    let one = c.in_ok-at.ensures.value (map field_view (drop (c.loop-place.place + 1) fields)) run.runs run.goods in
-    omega (arith, one.within, c.requires.room, c.loop-place.invariant.0.within)
+    let view = field_view f in
+    let run = run_at fields i f c.loop-place-test.true c.index-fields-place.is c.requires.good c.requires.runs in
+    let at = c.loop-place.at in
+    let so_far = c.loop-place.invariant.0 in
+    let n = c.min.result in
+    let others = map field_view (drop (i + 1) fields) in
+    elim c.match-read_shortly_present.branch [
+      | components::read_components-in-Some w ↦
+          let slot = c.read_shortly_present.new.slot in
+          let used = w.in-Some.used in
+          let present = w.in-Some.ensures c.args.rule in
+          let read = read_behind_in_front rule view.type room n at octets slot used (omega (arith, c.min.ensures, so_far.there, so_far.within)) (omega (arith, c.min.ensures)) (omega (arith, c.min.ensures)) present.0 in
+          (slot, ap (λ v. v.items) w.slots-is, subst (AreComponentsRead rule (view ∷ []) others d (room - at) (drop at octets) (slot ∷ [])) (sym w.at-is) (stands_read c.args.rule view others d (room - at) (drop at octets) slot used run.good.type run.runs run.goods (read, present.1)))
+      | components::read_components-in-None+in_ok-at-in-None w ↦
+          let slot = w.read_component.new.slot in
+          let read = subst (λ x. AreComponentsRead rule (view ∷ []) others d (room - at) x (slot ∷ []) w.in_ok-at-in-None.field-0) (take_rest octets at) (w.in_ok-at-in-None.ensures.value others run.runs run.goods) in
+          (slot, ap (λ v. v.items) w.slots-is, subst (AreComponentsRead rule (view ∷ []) others d (room - at) (drop at octets) (slot ∷ [])) (sym w.at-is) read)
+    ]
+
+pub components::read_components-overflow_add-at : goal.components::read_components-overflow_add-at
+components::read_components-overflow_add-at t c = let one = (component_at t c).2 in omega (arith, one.within, c.requires.room, c.loop-place.invariant.0.within)
 
 pub components::read_components-loop-place-preserved : goal.components::read_components-loop-place-preserved
 components::read_components-loop-place-preserved t c =
@@ -274,13 +295,13 @@ components::read_components-loop-place-preserved t c =
     let others = map field_view (drop (i + 1) fields) in
     let slots = c.loop-place.slots.items in
     let so_far = subst (λ l. AreComponentsRead rule (map field_view (take i fields)) l d room octets (take i slots) at) run.here c.loop-place.invariant.0 in
-    let used = c.in_ok-at.field-0 in
-    let slot = c.read_component.new.slot in
-    let one = subst (λ x. AreComponentsRead rule (field_view f ∷ []) others d (room - at) x (slot ∷ []) used) (take_rest octets at) (c.in_ok-at.ensures.value others run.runs run.goods) in
-    let more = component_more rule (map field_view (take i fields)) (field_view f) others d room octets (take i slots) slot at used so_far one in
+    let used = c.match-read_shortly_present.at in
+    let one = component_at t c in
+    let slot = one.0 in
+    let more = component_more rule (map field_view (take i fields)) (field_view f) others d room octets (take i slots) slot at used so_far one.2 in
     let filled : take (i + 1) (set slots i slot) ≡ take i slots ++ (slot ∷ []) = take_more_set slots i slot (omega (arith, bound, c.loop-place.invariant.1)) in (
-      subst₂ (λ first l. AreComponentsRead rule first others d room octets l (at + used)) (sym (first_of fields i f bound is)) (sym filled) more,
-      length-set slots i slot ∙ c.loop-place.invariant.1,
+      subst₂ (λ first l. AreComponentsRead rule first others d room octets l (at + used)) (sym (first_of fields i f bound is)) (sym (ap (take (i + 1)) one.1 ∙ filled)) more,
+      ap length one.1 ∙ (length-set slots i slot ∙ c.loop-place.invariant.1),
     )
 
 pub components::read_components-returns-in_err-tag-clause-refused : goal.components::read_components-returns-in_err-tag-clause-refused
@@ -296,8 +317,8 @@ components::read_components-returns-in_err-tag-clause-refused t c =
     refused_through c.from_residual-in_err-tag.result c.from_residual-in_err-tag.ensures.1
     (refused_behind at c.in_err-tag.ensures.refused (λ more h. inl (ends_behind_all rule (map field_view fields) d room octets more c.loop-place.slots.items at read h)) (λ k. fewer_behind d room at octets first.within first.there k))
 
-pub components::read_components-returns-in-Some-clause-refused : goal.components::read_components-returns-in-Some-clause-refused
-components::read_components-returns-in-Some-clause-refused t c = refused_for_good (c.left_over.ensures.never, c.left_over.ensures.numbers) (λ more h.
+pub components::read_components-returns-in-Some-2-clause-refused : goal.components::read_components-returns-in-Some-2-clause-refused
+components::read_components-returns-in-Some-2-clause-refused t c = refused_for_good (c.left_over.ensures.never, c.left_over.ensures.numbers) (λ more h.
     let octets = c.args.octets.now in
     let rule = rule_of c.args.rule in
     let fields = c.args.fields.now in
@@ -305,79 +326,73 @@ components::read_components-returns-in-Some-clause-refused t c = refused_for_goo
     let room = c.args.inside.now.room in
     let at = c.loop-place.at in
     let read = all_read rule fields c.loop-place.place d room octets c.loop-place.slots.items at c.loop-place-test.false c.loop-place.invariant.1 c.loop-place.invariant.0 in
-    let front : IsFront (Some c.in-Some.tag) d (room - at) (drop at octets) = subst₂ (λ f x. IsFront f d (room - at) x) c.in-Some.is (take_rest octets at) c.in_ok-tag.ensures.value in
+    let front : IsFront (Some c.in-Some-2.tag) d (room - at) (drop at octets) = subst₂ (λ f x. IsFront f d (room - at) x) c.in-Some-2.is (take_rest octets at) c.in_ok-tag.ensures.value in
     front.1 more (ends_behind_all rule (map field_view fields) d room octets more c.loop-place.slots.items at read h))
 
-pub components::read_components-returns-in-None-clause-value : goal.components::read_components-returns-in-None-clause-value
-components::read_components-returns-in-None-clause-value t c =
+pub components::read_components-returns-in-None-2-clause-value : goal.components::read_components-returns-in-None-2-clause-value
+components::read_components-returns-in-None-2-clause-value t c =
     let octets = c.args.octets.now in
     let d = c.args.inside.now.definite in
     let room = c.args.inside.now.room in
     let at = c.loop-place.at in
-    let ends : EndsHere d (room - at) (drop at octets) = subst₂ (λ f x. IsFront f d (room - at) x) c.in-None.is (take_rest octets at) c.in_ok-tag.ensures.value in
+    let ends : EndsHere d (room - at) (drop at octets) = subst₂ (λ f x. IsFront f d (room - at) x) c.in-None-2.is (take_rest octets at) c.in_ok-tag.ensures.value in
     let read = all_read (rule_of c.args.rule) c.args.fields.now c.loop-place.place d room octets c.loop-place.slots.items at c.loop-place-test.false c.loop-place.invariant.1 c.loop-place.invariant.0 in
     λ tag. sequence_read (rule_of c.args.rule) tag c.args.fields.now d room octets c.loop-place.slots at read ends
 
-pub components::read_component-returns-then-is_left_out-clause-value : goal.components::read_component-returns-then-is_left_out-clause-value
-components::read_component-returns-then-is_left_out-clause-value t c = λ others runs goods.
-    let octets = c.args.octets.now in
-    let f = c.args.field.now in
-    let view = field_view f in
-    let d = c.args.definite in
-    let room = c.args.room in
-    let left = c.is_left_out.ensures c.if-is_left_out.true in
-    let known : IsStandingKnown false view.type d room octets = nothing_begins view.type d room octets (left.0 octets) in
-    let may : MayBeAbsent view.requirement = subst MayBeAbsent (sym (field_requirement f)) left.1 in
-    absent_read c.args.rule view others d room octets c.clear.new.slot c.clear.ensures may c.requires.good.type known
-
-pub components::read_component-returns-in-Ok-clause-value : goal.components::read_component-returns-in-Ok-clause-value
-components::read_component-returns-in-Ok-clause-value t c = λ others runs goods.
-    stands_read c.args.rule (field_view c.args.field.now) others c.args.definite c.args.room c.args.octets.now c.read_present.new.slot c.in-Ok.used c.requires.good.type runs goods c.in-Ok.ensures.value
-
-pub components::read_component-returns-in_err-front-in-Err-clause-refused : goal.components::read_component-returns-in_err-front-in-Err-clause-refused
-components::read_component-returns-in_err-front-in-Err-clause-refused t c =
+pub components::read_component-returns-in_err-stands_next-clause-refused : goal.components::read_component-returns-in_err-stands_next-clause-refused
+components::read_component-returns-in_err-stands_next-clause-refused t c =
     let octets = c.args.octets.now in
     let rule = c.args.rule in
     let view = field_view c.args.field.now in
     let d = c.args.definite in
     let room = c.args.room in
     refused_through c.from_residual.result c.from_residual.ensures.1
-    (refused_by c.in_err-front-in-Err.ensures.refused (λ more h. ends_or_begins rule (view ∷ h.0) d room (octets ++ more) (c.requires.good, h.2) h.3) (λ k. k))
+    (refused_by c.in_err-stands_next.ensures.refused (λ more h. ends_or_begins rule (view ∷ h.0) d room (octets ++ more) (c.requires.good, h.2) h.3) (λ k. k))
 
-pub components::read_component-returns-then-is_next-clause-refused : goal.components::read_component-returns-then-is_next-clause-refused
-components::read_component-returns-then-is_next-clause-refused t c =
-    let octets = c.args.octets.now in
-    let rule = c.args.rule in
-    let f = c.args.field.now in
-    let view = field_view f in
-    let d = c.args.definite in
-    let room = c.args.room in
-    let known : IsStandingKnown true view.type d room octets = subst₂ (λ b t. IsStandingKnown b t d room octets) c.if-is_next.true (sym (field_type f)) (front_known c.in_ok-front-in-Err.front c.is_next.result (ty_view f.ty) d room octets c.in_ok-front-in-Err.ensures.value c.is_next.ensures) in
-    refused_by c.in-Err.ensures.refused (λ more h. present_stands rule view h.0 d room octets more h.1 h.2 known h.3) (λ k. omega (arith, k))
-
-pub components::read_component-returns-then-not-may_be_absent-clause-refused : goal.components::read_component-returns-then-not-may_be_absent-clause-refused
-components::read_component-returns-then-not-may_be_absent-clause-refused t c = refused_for_good (c.not_next.ensures.never, c.not_next.ensures.numbers) (λ more h.
+pub components::read_component-returns-then-not-branch-clause-value : goal.components::read_component-returns-then-not-branch-clause-value
+components::read_component-returns-then-not-branch-clause-value t c = λ others runs goods.
     let octets = c.args.octets.now in
     let f = c.args.field.now in
     let view = field_view f in
     let d = c.args.definite in
     let room = c.args.room in
-    let known : IsStandingKnown false view.type d room octets = subst₂ (λ b t. IsStandingKnown b t d room octets) c.if-is_next.false (sym (field_type f)) (front_known c.in_ok-front-in-Err.front c.is_next.result (ty_view f.ty) d room octets c.in_ok-front-in-Err.ensures.value c.is_next.ensures) in
-    let left = none_stands c.args.rule view h.0 d room (octets ++ more) c.requires.good.type (known more) h.3 in
-    let yes : c.may_be_absent.result ≡ true = c.may_be_absent.ensures.1 (subst MayBeAbsent (field_requirement f) left.may) in
-    let no : c.may_be_absent.result ≡ false = c.if-not-may_be_absent.true in
-    absurd cc)
+    let front = c.in_ok-stands_next.ensures.value in
+    let known : IsStandingKnown false view.type d room octets = subst₂ (λ b t. IsStandingKnown b t d room octets) c.if-not-branch.true (sym (field_type f)) (front_known front.0 c.in_ok-stands_next.field-0 (ty_view f.ty) d room octets front.1 front.2) in
+    let may : MayBeAbsent view.requirement = subst MayBeAbsent (sym (field_requirement f)) (c.may_be_absent.ensures.0 c.if-may_be_absent.true) in
+    absent_read c.args.rule view others d room octets c.clear.new.slot c.clear.ensures may c.requires.good.type known
 
-pub components::read_component-returns-else-not-may_be_absent-clause-value : goal.components::read_component-returns-else-not-may_be_absent-clause-value
-components::read_component-returns-else-not-may_be_absent-clause-value t c = λ others runs goods.
+pub components::read_component-returns-in-Err-clause-refused : goal.components::read_component-returns-in-Err-clause-refused
+components::read_component-returns-in-Err-clause-refused t c =
     let octets = c.args.octets.now in
+    let rule = rule_of c.args.rule in
     let f = c.args.field.now in
     let view = field_view f in
     let d = c.args.definite in
     let room = c.args.room in
-    let known : IsStandingKnown false view.type d room octets = subst₂ (λ b t. IsStandingKnown b t d room octets) c.if-is_next.false (sym (field_type f)) (front_known c.in_ok-front-in-Err.front c.is_next.result (ty_view f.ty) d room octets c.in_ok-front-in-Err.ensures.value c.is_next.ensures) in
-    let may : MayBeAbsent view.requirement = subst MayBeAbsent (sym (field_requirement f)) (c.may_be_absent.ensures.0 c.if-not-may_be_absent.false) in
-    absent_read c.args.rule view others d room octets c.clear-in-Err.new.slot c.clear-in-Err.ensures may c.requires.good.type known
+    let known : MayBeAbsent view.requirement → IsStandingKnown true view.type d room octets = λ may. elim c.else-may_be_absent.branch [
+      | components::read_component-else-may_be_absent-via-then-may_be_absent+in_ok-stands_next+else-not-branch w ↦
+          let front = w.in_ok-stands_next.ensures.value in
+          subst₂ (λ b t. IsStandingKnown b t d room octets) w.if-not-branch.false (sym (field_type f)) (front_known front.0 w.in_ok-stands_next.field-0 (ty_view f.ty) d room octets front.1 front.2)
+      | components::read_component-else-may_be_absent-via-else-may_be_absent w ↦
+          let yes : c.may_be_absent.result ≡ true = c.may_be_absent.ensures.1 (subst MayBeAbsent (field_requirement f) may) in
+          let no : c.may_be_absent.result ≡ false = w.if-may_be_absent.false in
+          absurd cc
+    ] in
+    let first = λ (more : List ℕ) (h : HasComponentFirst rule view d room (octets ++ more)). present_first c.args.rule view h.0 d room octets more h.1 h.2 known h.3 in
+    elim c.why_not_read.ensures [
+      | inl same ↦ subst (RefusesStrictly (HasComponentFirst rule view d room) (AreFewer d room) octets) (sym same) (refused_by c.in-Err.ensures.refused first (λ k. omega (arith, k)))
+      | inr other ↦ refused_by (other c.args.rule) (λ more h. subst (λ t. HasPart rule t room (octets ++ more)) (field_type f) (part_of_present rule view room (octets ++ more) (first more h))) (λ k. k)
+    ]
+
+pub parts::read_one-returns-in-Some-read_shortly-clause-value : goal.parts::read_one-returns-in-Some-read_shortly-clause-value
+parts::read_one-returns-in-Some-read_shortly-clause-value t c =
+    let octets = c.args.octets.now in
+    let n = c.min.result in
+    read_in_front (rule_of c.args.rule) (ty_view c.args.ty.now) c.args.room n octets c.read_shortly.new.slot c.in-Some-read_shortly.used (omega (arith, c.min.ensures)) (omega (arith, c.min.ensures)) (c.in-Some-read_shortly.ensures c.args.rule)
+
+pub components::read_component-returns-in-Ok-clause-value : goal.components::read_component-returns-in-Ok-clause-value
+components::read_component-returns-in-Ok-clause-value t c = λ others runs goods.
+    stands_read c.args.rule (field_view c.args.field.now) others c.args.definite c.args.room c.args.octets.now c.read_present.new.slot c.in-Ok.used c.requires.good.type runs goods c.in-Ok.ensures.value
 
 pub components::read_present-returns-in_err-used-clause-refused : goal.components::read_present-returns-in_err-used-clause-refused
 components::read_present-returns-in_err-used-clause-refused t c =
@@ -461,8 +476,7 @@ parts::read_inside-read_members-requires t c =
 
 pub parts::read_parts-returns-in_err-inside-clause-refused : goal.parts::read_parts-returns-in_err-inside-clause-refused
 parts::read_parts-returns-in_err-inside-clause-refused t c =
-    let own : IsNode (ty_view c.args.ty.now) = search (rules, node.the_lemmas, c.in_default.not-Choice) in
-    let parts = parts_of_others (ty_view c.args.ty.now) c.requires.parts own in
+    let parts = c.requires.parts in
     let octets = c.args.octets.now in
     let rule = c.args.rule in
     let type = ty_view c.args.ty.now in
@@ -485,8 +499,7 @@ parts::read_parts-returns-in-Ok-clause-value t c =
 
 pub parts::read_parts-returns-in-Err-clause-refused : goal.parts::read_parts-returns-in-Err-clause-refused
 parts::read_parts-returns-in-Err-clause-refused t c =
-    let own : IsNode (ty_view c.args.ty.now) = search (rules, node.the_lemmas, c.in_default.not-Choice) in
-    let parts = parts_of_others (ty_view c.args.ty.now) c.requires.parts own in
+    let parts = c.requires.parts in
     let octets = c.args.octets.now in
     let rule = c.args.rule in
     let type = ty_view c.args.ty.now in

@@ -1,4 +1,4 @@
-use Rattle.std.proofs.Common.{◌+◌, sym, subst, arith}
+use Rattle.std.proofs.Common.{◌+◌, length, sym, subst, arith}
 use Rattle.types.specs.View.{ty_view}
 use Rattle.types.specs.Leaf.{tag_of}
 use Rattle.strict.specs.Leaf.{IsPlace}
@@ -9,7 +9,7 @@ use Rattle.strict.proofs.filling.read_shortly.Goals as goal
 pub returns-then-fill_canonical : goal.returns-then-fill_canonical
 returns-then-fill_canonical c = λ rule.
     let octets = c.args.octets.now in
-    let room = c.args.room in
+    let room = length octets in
     let type = ty_view c.args.ty.now in
     let stop = c.in_ok-stop.stop in
     let h = c.in_ok-stop.ensures in
