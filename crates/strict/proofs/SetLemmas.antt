@@ -1,8 +1,8 @@
 -- Lemmas on the components of a SET that were read.
-use Rattle.std.proofs.Common.{◌≡◌, ◌↔◌, ℕ, zero, suc, ◌+◌, ◌-◌, inl, inr, List, [], ◌∷◌, ◌++◌, Bool, true, Option, Some, None, IsTrue, IsPermutation, AllPairs, MatchOption, Vec, Global, take, drop, map, option_map, set, refl, sym, ◌∙◌, ap, subst, subst₂, arith}
+use Rattle.std.proofs.Common.{◌≡◌, ◌↔◌, ℕ, zero, suc, ◌+◌, ◌-◌, inl, inr, List, [], ◌∷◌, ◌++◌, Bool, true, Option, Some, None, IsTrue, IsPermutation, AllPairs, Contains, MatchOption, Vec, Global, length, get_or, take, drop, map, option_map, set, refl, sym, ◌∙◌, ap, subst, subst₂, arith}
 use Rattle.std.specs.List.{AllByRecursion}
 use Rattle.std.proofs.Math.Seq.{take-add}
-use Rattle.std.proofs.lemmas.List.{length-drop, drop-drop}
+use Rattle.std.proofs.lemmas.List.{length-drop, drop-drop, take_rest}
 use Rattle.std.proofs.lemmas.List.Sorted.{IsPermutation-refl, IsPermutation-sym, IsPermutation-trans, IsPermutation-cons, IsPermutation-swap, IsPermutation-to_front}
 use Rattle.octets.specs.declared.tag.Tag.{Tag}
 use Rattle.octets.specs.Rule.{Rule, IsCanonical}
@@ -11,10 +11,10 @@ use Rattle.types.specs.declared.ty.Field.{Field}
 use Rattle.types.specs.declared.value.Value.{Value}
 use Rattle.types.specs.declared.value.Value as value
 use Rattle.types.specs.Shape.{Val, Slots, no_slot, absent, present, Shape}
-use Rattle.types.specs.View.{ComponentView, components_of, components_view, field_view, slots_of, slots_view, value_view}
+use Rattle.types.specs.View.{ComponentView, components_of, components_view, field_view, slots_of, slots_view, ty_view, value_view}
 use Rattle.types.specs.Conforms.{DiffersFromDefault}
 use Rattle.types.specs.Encoding.{IsEncoding, AreSlotEncodings, standing}
-use Rattle.types.specs.FirstTags.{AreDistinct, tags_of_components}
+use Rattle.types.specs.FirstTags.{first_tags, AreDistinct, tags_of_components}
 use Rattle.types.specs.Form.{IsConstructed}
 use Rattle.types.specs.Order.{IsOrderTagIn}
 use Rattle.types.proofs.DepthLemmas.{absent_is_none}
@@ -24,6 +24,7 @@ use Rattle.types.proofs.SetOrderLemmas.{one_order_tag}
 use Rattle.types.proofs.SortedLemmas.{AllPairs-first, AllPairs-rest, AllPairs-from_first}
 use Rattle.types.proofs.TagLemmas.{contains_either}
 use Rattle.types.proofs.ViewLemmas.{value-Fields}
+use Rattle.encoding_parts.specs.HeldParts.{members_view}
 use Rattle.encoding_parts.specs.Parts.{IsVacant, IsGoodType, IsGoodComponent}
 use Rattle.encoding_parts.proofs.PartsOpenLemmas.{components_good}
 use Rattle.encoding_parts.proofs.SetComponentLemmas.{AreFilled}
@@ -34,11 +35,12 @@ use Rattle.strict.specs.Inside.{HasInside, IsInsideRead}
 use Rattle.strict.specs.Components.{IsFront, IsPresentRead}
 use Rattle.strict.specs.Members.{IsOrderTagOf, AreMembersLeft, AreMembersCome, ComesBehind, ComesUpTo, HasMembers, AreMembersRead}
 use Rattle.strict.proofs.FrontLemmas.{canonical_of}
+use Rattle.strict.proofs.FieldLemmas.{field_type}
 use Rattle.strict.proofs.PartLemmas.{concat_last}
 use Rattle.strict.proofs.ComponentLemmas.{may_of_absent}
 use Rattle.strict.proofs.SequenceLemmas.{absent_stands}
 use Rattle.strict.proofs.MemberLemmas.{come_of, IsComponentAt}
-use Rattle.strict.proofs.DueLemmas.{IsFound, IsDue, is_due, due_after, order_in, read_begins}
+use Rattle.strict.proofs.DueLemmas.{IsFound, IsDue, found_at, is_due, due_after, order_in, read_begins}
 
 -- one that has come besides the others
 record IsOneMore (rule : Rule) (cs : List ComponentView) (slots : List (Option Value)) (encodings : List (Option (List ℕ))) (part : List ℕ) : Type 0 where
@@ -214,3 +216,13 @@ members_inside rule tag cs definite room octets h =
 
 pub good_members : (tag : Tag) (fields : List Field) → IsGoodType (Shape.set tag (components_view fields)) → AllByRecursion IsGoodComponent (map field_view fields)
 good_members tag fields good = components_good (map field_view fields) good.within.1 good.tags.1 good.defaults.1 good.defaults.0
+
+-- where a tag was read and its component found, it is due in all that goes on with all components
+pub due_there : {rule : Rule} {own fields : List Field} {slots : List (Option Value)} {last front : Option Tag} {definite : Bool} {room at : ℕ} {octets : List ℕ} {tag : Tag} (place : ℕ) (type : Shape) (f : Field) (order : Tag) → AreDistinct (tags_of_components (components_of (map field_view fields)))
+    → AreMembersRead rule (map field_view fields) slots last definite room octets at → own ≡ fields → front ≡ Some tag → IsFront front definite (room - at) (take (length octets - at) (drop at octets)) → IsVacant (members_view own slots) place type × Contains (first_tags type) tag → f ≡ get_or fields place f
+    → IsOrderTagOf rule (ty_view f.ty) tag order → (more : List ℕ) → HasMembers rule (map field_view fields) (map (λ c. None) (map field_view fields)) None definite room (octets ++ more) → IsDue rule (map field_view fields) slots last place (field_view f) order definite (room - at) (drop at octets ++ more)
+due_there {rule} {own} {fields} {slots} {last} {front} {definite} {room} {at} {octets} {tag} place type f order distinct read same known there due is ordered more h =
+    let here : IsFront (Some tag) definite (room - at) (drop at octets) = subst₂ (λ t x. IsFront t definite (room - at) x) known (take_rest octets at) there in
+    let found = found_at own fields slots place type f tag same due is in
+    let by = subst (λ t. IsOrderTagOf rule t tag order) (sym (field_type f)) ordered in
+    is_due rule (map field_view fields) slots last place (field_view f) order definite (room - at) (drop at octets) more tag distinct here found by (read.forth more h)

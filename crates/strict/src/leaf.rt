@@ -24,7 +24,8 @@ use std::alloc::Global;
 use types::{Refusal, Ty, Value};
 
 // Reads the encoding at the front, of a type without parts under this tag, into the slot, and returns how many octets it
-// has: at most `room`. Strings alone have constructed ones, and of CER the long ones. All values but those of BOOLEAN, INTEGER within 128 bits, ENUMERATED and NULL take memory.
+// has: at most `room`. Strings alone have constructed ones, and of CER the long ones. All values but those of BOOLEAN,
+// INTEGER within 128 bits, ENUMERATED and NULL take memory.
 pub fn read_leaf(
     alloc: Global,
     rule: Canonical,

@@ -1,5 +1,5 @@
 -- What is answered of the readers of a SET.
-use Rattle.std.proofs.Common.{rules, ◌≡◌, ◌-◌, ◌++◌, ℕ, List, Some, None, length, map, take, drop, true, false, sym, refl, subst, subst₂, arith}
+use Rattle.std.proofs.Common.{rules, ◌≡◌, ◌-◌, ◌++◌, List, Some, None, length, map, take, drop, true, false, sym, refl, subst, subst₂, arith}
 use Rattle.std.proofs.lemmas.List.{take_rest, length-drop}
 use Rattle.types.specs.declared.ty.Field.{Field}
 use Rattle.types.specs.View.{ty_view, field_view}
@@ -11,12 +11,12 @@ use Rattle.encoding_parts.proofs.SetComponentLemmas.{NoneDue, AreFilled, members
 use Rattle.strict.specs.Canonical.{rule_of}
 use Rattle.strict.specs.Head.{EndsHere}
 use Rattle.strict.specs.Components.{IsFront, IsPresentRead}
-use Rattle.strict.specs.Members.{IsOrderTagOf, HasMembers}
+use Rattle.strict.specs.Members.{IsOrderTagOf}
 use Rattle.strict.proofs.BarsLemmas.{due_strictly, refused_for_good, refused_behind, refused_through}
 use Rattle.strict.proofs.PartLemmas.{read_some}
 use Rattle.strict.proofs.FieldLemmas.{field_type}
-use Rattle.strict.proofs.DueLemmas.{found_at, found_below, members_begin, members_filled, none_goes_on, is_due, present_due, none_before, component_all}
-use Rattle.strict.proofs.SetLemmas.{no_members, member_more, set_read}
+use Rattle.strict.proofs.DueLemmas.{found_at, found_below, members_begin, members_filled, none_goes_on, present_due, none_before, component_all}
+use Rattle.strict.proofs.SetLemmas.{no_members, due_there, member_more, set_read}
 use Rattle.strict.proofs.EndingLemmas.{fewer_behind, less_behind}
 use Rattle.strict.proofs.+reading.Goals as goal
 
@@ -80,26 +80,17 @@ pub members::read_members-returns-then-not-comes_behind-clause-refused : goal.me
 members::read_members-returns-then-not-comes_behind-clause-refused t c = refused_for_good (tt, tt) (λ more h.
     let octets = c.args.octets.now in
     let rule = rule_of c.args.rule in
-    let fields = c.args.fields.now in
-    let cs = map field_view fields in
     let d = c.args.inside.now.definite in
     let room = c.args.inside.now.room in
-    let at = c.loop-set_components.at in
-    let slots = c.loop-set_components.set_components.slots.items in
-    let last = c.loop-set_components.last in
-    let read = c.loop-set_components.invariant.0 in
-    let tag = c.in-Some.tag in
-    let front : IsFront (Some tag) d (room - at) (drop at octets) = subst₂ (λ f x. IsFront f d (room - at) x) c.in-Some.is (take_rest octets at) c.in_ok-tag.ensures.value in
+    let l = c.loop-set_components in
     let place = c.in_ok-place.place in
     let f = c.index-fields-place.result in
-    let view = field_view f in
-    let own = c.loop-set_components.set_components in
-    let found = found_at own.fields.now fields own.slots.items place (ty_view c.in_ok-place.field-0-1.now) f tag c.loop-set_components.invariant.1 c.in_ok-place.ensures.value c.index-fields-place.is in
     let order = c.order_tag-order.result in
-    let ordered : IsOrderTagOf rule view.type tag order = subst (λ t. IsOrderTagOf rule t tag order) (sym (field_type f)) c.order_tag-order.ensures in
-    let due = λ (more : List ℕ) (k : HasMembers rule cs slots last d (room - at) (drop at octets ++ more)). is_due rule cs slots last place view order d (room - at) (drop at octets) more tag c.requires.distinct front found ordered k in
+    let due = due_there place (ty_view c.in_ok-place.field-0-1.now) f order c.requires.distinct l.invariant.0 l.invariant.1 c.in-Some.is c.in_ok-tag.ensures.value c.in_ok-place.ensures.value c.index-fields-place.is c.order_tag-order.ensures in
+    let cs = map field_view c.args.fields.now in
+    let slots = l.set_components.slots.items in
     let off : c.comes_behind.result ≡ false = search rules in
-    none_before rule cs slots last place view order c.comes_behind.result d (room - at) (drop at octets ++ more) c.comes_behind.ensures off (due more (read.forth more h)))
+    none_before rule cs slots l.last place (field_view f) order c.comes_behind.result d (room - l.at) (drop l.at octets ++ more) c.comes_behind.ensures off (due more h))
 
 pub members::read_members-index_mut-requires : goal.members::read_members-index_mut-requires
 members::read_members-index_mut-requires t c =
@@ -123,26 +114,18 @@ pub members::read_members-returns-in_err-at-clause-refused : goal.members::read_
 members::read_members-returns-in_err-at-clause-refused t c =
     let octets = c.args.octets.now in
     let rule = rule_of c.args.rule in
-    let fields = c.args.fields.now in
-    let cs = map field_view fields in
     let d = c.args.inside.now.definite in
     let room = c.args.inside.now.room in
-    let at = c.loop-set_components.at in
-    let slots = c.loop-set_components.set_components.slots.items in
-    let last = c.loop-set_components.last in
-    let read = c.loop-set_components.invariant.0 in
-    let tag = c.in-Some.tag in
-    let front : IsFront (Some tag) d (room - at) (drop at octets) = subst₂ (λ f x. IsFront f d (room - at) x) c.in-Some.is (take_rest octets at) c.in_ok-tag.ensures.value in
+    let l = c.loop-set_components in
     let place = c.in_ok-place.place in
     let f = c.index-fields-place.result in
-    let view = field_view f in
-    let own = c.loop-set_components.set_components in
-    let found = found_at own.fields.now fields own.slots.items place (ty_view c.in_ok-place.field-0-1.now) f tag c.loop-set_components.invariant.1 c.in_ok-place.ensures.value c.index-fields-place.is in
     let order = c.order_tag-order.result in
-    let ordered : IsOrderTagOf rule view.type tag order = subst (λ t. IsOrderTagOf rule t tag order) (sym (field_type f)) c.order_tag-order.ensures in
-    let due = λ (more : List ℕ) (k : HasMembers rule cs slots last d (room - at) (drop at octets ++ more)). is_due rule cs slots last place view order d (room - at) (drop at octets) more tag c.requires.distinct front found ordered k in
+    let due = due_there place (ty_view c.in_ok-place.field-0-1.now) f order c.requires.distinct l.invariant.0 l.invariant.1 c.in-Some.is c.in_ok-tag.ensures.value c.in_ok-place.ensures.value c.index-fields-place.is c.order_tag-order.ensures in
+    let cs = map field_view c.args.fields.now in
+    let slots = l.set_components.slots.items in
+    let read = l.invariant.0 in
     refused_through c.from_residual-in_err-at.result c.from_residual-in_err-at.ensures.1
-    (refused_behind at c.in_err-at.ensures.refused (λ more h. present_due rule cs slots last place view order d (room - at) (drop at octets ++ more) (due more (read.forth more h))) (λ k. less_behind d room at octets read.within read.there k))
+    (refused_behind l.at c.in_err-at.ensures.refused (λ more h. present_due rule cs slots l.last place (field_view f) order d (room - l.at) (drop l.at octets ++ more) (due more h)) (λ k. less_behind d room l.at octets read.within read.there k))
 
 pub members::read_members-overflow_add-set_components : goal.members::read_members-overflow_add-set_components
 members::read_members-overflow_add-set_components t c = search (rules, found_below c.loop-set_components.set_components.fields.now c.args.fields.now c.loop-set_components.set_components.slots.items c.in_ok-place.place (ty_view c.in_ok-place.field-0-1.now) c.loop-set_components.invariant.1 c.in_ok-place.ensures.value.0)
