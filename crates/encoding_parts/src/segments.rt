@@ -73,6 +73,7 @@ impl Segments {
     /// Refused with `Truncated` where octets are missing, with another of the refusals 2 to 11 where no octets
     /// after these complete the string, and with `NoMemory`: what is joined takes memory, and so do more than
     /// eight open encodings.
+    #[inline(always)]
     pub fn pass(&mut self, kind: Kind, octets: &[u8]) -> Result<usize, Refusal>
         requires open { self.old.frames.items ≢ [] }
         requires sound { IsSound kind self.old }
@@ -102,6 +103,7 @@ impl Segments {
 
     // Takes what stands next in the innermost open encoding, and answers how many octets it has: its
     // end, a primitive segment, or the identifier octets and length octets of a constructed one.
+    #[inline(always)]
     fn step(&mut self, kind: Kind, frame: Frame, octets: &[u8]) -> Result<usize, Refusal>
         requires top { IsTop frame self.old.frames.items }
         requires sound { IsSound kind self.old }
@@ -121,6 +123,7 @@ impl Segments {
     }
 
     // Takes a primitive segment, or the beginning of a constructed one.
+    #[inline(always)]
     fn segment(&mut self, kind: Kind, frame: Frame, octets: &[u8]) -> Result<usize, Refusal>
         requires top { IsTop frame self.old.frames.items }
         requires sound { IsSound kind self.old }
@@ -148,6 +151,7 @@ impl Segments {
     }
 
     // Takes the primitive segment of these contents octets, which ends behind so many octets.
+    #[inline(always)]
     fn join(
         &mut self,
         kind: Kind,
