@@ -1,21 +1,13 @@
 -- Lemmas on how many contents octets numbers and arcs have.
-use Rattle.std.proofs.Common.{◌≡◌, inl, inr, ℕ, ◌+◌, ◌-◌, ◌*◌, ◌/◌, ◌^◌, ◌<◌, ◌≤◌, suc, Bool, true, false, List, [], ◌∷◌, ◌++◌, length, take, drop, get_or, refl, sym, ap, subst, ◌∙◌, arith, length-append, FitsSigned}
-use Rattle.std.specs.Int.{w128}
+use Rattle.std.proofs.Common.{◌≡◌, inl, inr, ℕ, ◌+◌, ◌-◌, ◌*◌, ◌/◌, ◌^◌, ◌<◌, ◌≤◌, suc, List, [], ◌∷◌, length, take, drop, get_or, refl, sym, ap, subst, ◌∙◌, arith, length-append}
 use Rattle.std.specs.List.{AllZip, concat}
 use Rattle.std.proofs.lemmas.Bool.{cases_lt}
 use Rattle.std.proofs.lemmas.List.{take_all}
-use Rattle.std.proofs.lemmas.Int.{ints}
 use Rattle.std.proofs.Math.Nat.{pow-suc, mul-le-mul_left, mul_assoc}
 use Rattle.octets.specs.Base128.{IsBase128}
-use Rattle.octets.specs.Rule.{cer}
 use Rattle.octets.proofs.Base128Lemmas.{IsBase128-size}
-use Rattle.octets.proofs.RuleLemmas.{cer_is_canonical}
 use Rattle.octets.proofs.SizeLemmas.{base_128_size}
-use Rattle.primitives.specs.Integer.{IsInteger, number_at, last_octet_at}
 use Rattle.primitives.specs.Oid.{AreSubidentifiers, IsOid}
-use Rattle.primitives.proofs.IntegerLemmas.{IsInteger-last, IsInteger-more, at_most_sixteen_octets, one_integer_encoding}
-use Rattle.types.specs.Shape.{SimpleType, SimpleValue}
-use Rattle.types.proofs.ContentsExistenceLemmas.{simple_contents}
 
 -- what is left of a number after its last digits of base 128
 pub record IsLeftOf (number size rest : ℕ) : Type 0 where
@@ -70,39 +62,6 @@ pub left_end : (number rest : ℕ) (octets : List ℕ) → number < 2 ^ 128 → 
 left_end number rest octets fits h spelt =
     let room : 2 ^ 128 * 32 ≡ 128 ^ 19 = refl in
     left_size number 18 rest octets (h.some (omega arith)) h.low (omega arith) spelt
-
--- octets of what is left of a number, completed to those of the number
-pub record IsSignedLeftOf (negative : Bool) (distance size rest : ℕ) : Type 0 where
-  pub below : rest < 2 ^ 127
-  pub completes : (front : List ℕ) → IsInteger (number_at negative rest) front → (contents : List ℕ) × IsInteger (number_at negative distance) contents × (length contents + 1 ≡ length front + size)
-
-pub signed_first : (negative : Bool) (distance : ℕ) → distance < 2 ^ 127 → IsSignedLeftOf negative distance 1 distance
-signed_first negative distance fits = record { below = fits; completes = λ front h. (front, h, refl) }
-
-pub signed_more : (negative : Bool) (distance size rest : ℕ) → 128 ≤ rest → IsSignedLeftOf negative distance size rest → IsSignedLeftOf negative distance (size + 1) (rest / 256)
-signed_more negative distance size rest more h = record {
-  below = omega (arith, h.below);
-  completes = λ front k.
-      let last : List ℕ = last_octet_at negative rest ∷ [] in
-      let whole = h.completes (front ++ last) (IsInteger-more negative rest front more k) in
-      (whole.0, whole.1, omega (arith, whole.2, length-append front last));
-}
-
-pub signed_done : (negative : Bool) (distance size rest : ℕ) (contents : List ℕ) → rest < 128 → IsSignedLeftOf negative distance size rest → IsInteger (number_at negative distance) contents → length contents ≡ size
-signed_done negative distance size rest contents last h spelt =
-    let whole = h.completes (last_octet_at negative rest ∷ []) (IsInteger-last negative rest last) in
-    omega (arith, whole.2, ap length (one_integer_encoding (number_at negative distance) contents whole.0 spelt whole.1))
-
-signed_fits : (negative : Bool) (distance : ℕ) → distance < 2 ^ 127 → FitsSigned w128 (number_at negative distance)
-signed_fits false distance fits = omega (arith, ints, fits)
-signed_fits true distance fits = omega (arith, ints, fits)
-
-pub signed_end : (negative : Bool) (distance rest : ℕ) (contents : List ℕ) → distance < 2 ^ 127 → IsSignedLeftOf negative distance 16 rest → IsInteger (number_at negative distance) contents → length contents ≡ 16
-signed_end negative distance rest contents fits h spelt =
-    let front = simple_contents cer SimpleType.integer (SimpleValue.integer (number_at negative rest)) cer_is_canonical (signed_fits negative rest h.below) in
-    let whole = h.completes front.0 front.1 in
-    let most = at_most_sixteen_octets (number_at negative distance) contents (signed_fits negative distance fits) spelt in
-    omega (arith, most, whole.2, front.1.at_least_one, ap length (one_integer_encoding (number_at negative distance) contents whole.0 spelt whole.1))
 
 -- subidentifiers are counted one by one
 pub subidentifiers_none : (contents : List ℕ) → AreSubidentifiers [] contents → length contents ≡ 0

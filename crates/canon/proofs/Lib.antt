@@ -3,6 +3,7 @@ pub mod PrimitiveLemmas
 pub mod SegmentLemmas
 pub mod StringSizeLemmas
 pub mod ContentsSizeLemmas
+pub mod NumberLemmas
 pub mod LeafLemmas
 pub mod PartLemmas
 pub mod KeptLemmas

@@ -1,6 +1,5 @@
 -- Lemmas on primitive encodings with the shortest length.
-use Rattle.std.proofs.Common.{◌≡◌, ◌∙◌, ◌+◌, ◌-◌, ◌/◌, ◌%◌, ◌≤◌, ℕ, ℤ, ◌<◌, ◌^◌, List, [], ◌∷◌, ◌++◌, false, length, drop, set, refl, sym, ap, inl, inr, arith, subst, append_assoc, length-append}
-use Rattle.std.proofs.lemmas.List.{drop-set, length-set}
+use Rattle.std.proofs.Common.{◌≡◌, ◌∙◌, ◌+◌, ◌/◌, ◌%◌, ◌≤◌, ℕ, ℤ, ◌<◌, ◌^◌, List, [], ◌∷◌, ◌++◌, false, length, refl, sym, ap, inl, inr, arith, subst, append_assoc, length-append}
 use Rattle.std.proofs.lemmas.List.Elements.{All-nil, All-cons}
 use Rattle.octets.specs.declared.TheConstants.{MAX_TAG_NUMBER}
 use Rattle.octets.specs.declared.tag.Tag.{Tag}
@@ -81,12 +80,3 @@ number_made tag number n head contents h count spelt =
     let sized : IsShortestLength (length contents) h.size = subst (λ k. IsShortestLength k h.size) (sym count) h.sized in
     let joined : head ++ contents ≡ h.identifier ++ (h.size ++ contents) = ap (λ x. x ++ contents) h.joined ∙ append_assoc h.identifier h.size contents in
     record { contents = contents; spelt = spelt; primitive = record { identifier = h.identifier; size = h.size; tagged = h.tagged; sized = sized; joined = joined } }
-
--- two octets in front of what stands at the end of a room
-pub head_before : (room : List ℕ) (start n first : ℕ) → 2 ≤ start → start ≤ length room → drop (start - 2) (set (set room (start - 1) n) (start - 2) first) ≡ first ∷ n ∷ drop start room
-head_before room start n first some there =
-    let one : List ℕ = set room (start - 1) n in
-    let at : (start - 2) + 1 ≡ start - 1 = omega (arith, some) in
-    let next : (start - 1) + 1 ≡ start = omega (arith, some) in
-    drop-set one (start - 2) first (omega (arith, some, there, length-set room (start - 1) n)) ∙ ap (λ k. first ∷ drop k one) at
-    ∙ ap (λ t. first ∷ t) (drop-set room (start - 1) n (omega (arith, some, there)) ∙ ap (λ k. n ∷ drop k room) next)

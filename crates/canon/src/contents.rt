@@ -3,7 +3,7 @@
 ghost use Rattle.std.specs.Prelude.{◌≡◌, ◌≤◌, ◌<◌, ◌*◌, ◌^◌, ℕ, List, length, OnOk, OnErr};
 ghost use Rattle.octets.specs.Base128.{IsBase128};
 ghost use Rattle.octets.specs.Front.{Appends};
-ghost use Rattle.primitives.specs.Integer.{IsInteger, number_at};
+ghost use Rattle.primitives.specs.Integer.{IsInteger};
 ghost use Rattle.primitives.specs.Oid.{AreSubidentifiers, IsOid, IsOidValue};
 ghost use Rattle.types.specs.View.{value_view};
 ghost use Rattle.canon.specs.Rule.{rule_of};
@@ -70,32 +70,14 @@ pub(crate) fn size_of_contents(rule: CanonicalRule, value: &Value) -> usize
 }
 
 // How many contents octets a number of 128 bits has.
-fn size_of_integer(number: i128) -> usize
+pub(crate) fn size_of_integer(number: i128) -> usize
     ensures size { (contents : List ℕ) → IsInteger number contents → length contents ≡ result }
+    ensures at_least { 1 ≤ result }
     ensures at_most { result ≤ 16 }
 {
-    if number < 0 {
-        size_of_signed(true, (-1 - number) as u128)
-    } else {
-        size_of_signed(false, number as u128)
-    }
-}
-
-// How many the number has that stands `distance` above 0, or below -1.
-fn size_of_signed(negative: bool, distance: u128) -> usize
-    requires { distance < 2 ^ 127 }
-    ensures size { (contents : List ℕ) → IsInteger (number_at negative distance) contents → length contents ≡ result }
-    ensures at_most { result ≤ 16 }
-{
-    let _ = negative;
-    let mut rest = distance;
-    for size in 1..16usize {
-        if rest < 0x80 {
-            return size;
-        }
-        rest /= 256;
-    }
-    16
+    // A bit for the sign, and those of how far the number stands above 0, or below -1.
+    let distance = if number < 0 { -1 - number } else { number };
+    (128 - (distance as u128).leading_zeros() as usize) / 8 + 1
 }
 
 // How many contents octets an OBJECT IDENTIFIER has.

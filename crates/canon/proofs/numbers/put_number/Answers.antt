@@ -1,51 +1,19 @@
-use Rattle.std.specs.Int.{w128}
-use Rattle.std.proofs.Common.{◌≡◌, ◌∙◌, ◌-◌, ℕ, List, [], ◌∷◌, ◌++◌, length, take, drop, set, sym, ap, arith, subst, append_assoc, append-nil}
+use Rattle.std.proofs.Common.{◌≡◌, ◌∙◌, ◌*◌, ◌%◌, ◌^◌, ◌-◌, ℤ, List, ℕ, length, ap, subst}
+use Rattle.std.specs.Int.{w128, cast_unsigned}
 use Rattle.std.proofs.lemmas.Int.{to_z-of_z}
-use Rattle.std.proofs.lemmas.List.{take_all, length-drop, length-set}
 use Rattle.primitives.specs.Integer.{IsInteger}
-use Rattle.canon.proofs.PrimitiveLemmas.{short_head, number_made, head_before}
-use Rattle.canon.proofs.WritesLemmas.{refused}
+use Rattle.canon.proofs.NumberLemmas.{number_put}
 use Rattle.canon.proofs.numbers.put_number.Goals as goal
-
-pub returns-then-tag-ge31 : goal.returns-then-tag-ge31
-returns-then-tag-ge31 c =
-    let start = c.integer_at_end-start.result in
-    let room : List ℕ = c.integer_at_end-start.new.room in
-    let contents = drop start room in
-    let a = c.in_ok-put_primitive_head.ensures.appended in
-    let spelt = subst (λ m. IsInteger m contents) (to_z-of_z w128 c.args.number c.ranges.number) c.integer_at_end-start.ensures.spelt in
-    let size : length contents ≡ 18 - start = length-drop start room ∙ ap (λ n. n - start) c.integer_at_end-start.array_long in
-    let all : take (18 - start) contents ≡ contents = take_all (18 - start) contents (omega (arith, size)) in
-    let is = c.in_ok-extend_from_slice.ensures.items ∙ ap (λ s. c.put_primitive_head.new.out.items ++ s) all ∙ ap (λ s. s ++ contents) a.1 ∙ append_assoc c.args.out.now.items a.0 contents in
-    record {
-      appended = (a.0 ++ contents, is, number_made c.args.tag c.args.number (18 - start) a.0 contents a.2 size spelt);
-      kept = tt;
-    }
-
-pub returns-in_err-extend_from_slice-2 : goal.returns-in_err-extend_from_slice-2
-returns-in_err-extend_from_slice-2 c =
-    refused _ c.from_residual-in_err-extend_from_slice-2.ensures.1 ([], c.in_err-extend_from_slice-2.ensures.items ∙ sym (append-nil c.args.out.now.items), tt)
 
 pub returns : goal.returns
 returns c =
-    let start = c.integer_at_end-start.result in
-    let room : List ℕ = c.integer_at_end-start.new.room in
-    let contents = drop start room in
-    let first : ℕ = c.leading_octet.result in
-    let long : length room ≡ 18 = c.integer_at_end-start.array_long in
-    let spelt = subst (λ m. IsInteger m contents) (to_z-of_z w128 c.args.number c.ranges.number) c.integer_at_end-start.ensures.spelt in
-    let some = spelt.at_least_one in
-    let size : length contents ≡ 18 - start = length-drop start room ∙ ap (λ n. n - start) long in
-    let one : List ℕ = set room (start - 1) (18 - start) in
-    let two : List ℕ = set one (start - 2) first in
-    let same : length two ≡ 18 = length-set one (start - 2) first ∙ length-set room (start - 1) (18 - start) ∙ long in
-    let all : take (18 - (start - 2)) (drop (start - 2) two) ≡ drop (start - 2) two = take_all (18 - (start - 2)) (drop (start - 2) two) (omega (arith, length-drop (start - 2) two, same)) in
-    let laid = head_before room start (18 - start) first c.integer_at_end-start.ensures.few (omega (arith, size, some, long)) in
-    record {
-      appended = (
-        first ∷ (18 - start) ∷ contents,
-        c.in_ok-extend_from_slice-2.ensures.items ∙ ap (λ s. c.args.out.now.items ++ s) (all ∙ laid),
-        number_made c.args.tag c.args.number (18 - start) (first ∷ (18 - start) ∷ []) contents (short_head c.args.tag (18 - start) first c.if-tag-ge31.false (omega arith) c.leading_octet.ensures) size spelt,
-      );
-      kept = tt;
-    }
+    let tag = c.args.tag in
+    let number = c.args.number in
+    let count = c.size_of_integer-count.result in
+    let is = to_z-of_z w128 number c.ranges.number in
+    let sized = subst (λ (n : ℤ). (contents : List ℕ) → IsInteger n contents → length contents ≡ count) is c.size_of_integer-count.ensures.size in
+    let bits : c.cast_unsigned.result ≡ cast_unsigned w128 number = c.cast_unsigned.ensures ∙ ap (cast_unsigned w128) is in
+    let moved = ap (λ b. (b * 2 ^ (8 * (16 - count))) % 2 ^ 128) bits in
+    let old : List ℕ = c.args.out.now.items in
+    let mid : List ℕ = c.put_primitive_head.new.out.items in
+    number_put c.put_first.result tag number count _ old mid c.put_first.new.out.items c.ranges.number c.size_of_integer-count.ensures.at_most moved sized c.in_ok-put_primitive_head.ensures.appended c.put_first.ensures.appended c.put_first.ensures.kept
