@@ -1,5 +1,5 @@
 -- Lemmas on octets that are compared by the number of the first ones.
-use Rattle.std.proofs.Common.{◌≡◌, ◌∙◌, inl, inr, ◌+◌, ◌-◌, ◌*◌, ◌^◌, ◌%◌, ◌<◌, ◌≤◌, ℕ, zero, suc, List, [], ◌∷◌, length, min, drop, get_or, map, refl, sym, ap, subst, arith, All, drop-cons}
+use Rattle.std.proofs.Common.{◌≡◌, ◌∙◌, inl, inr, ◌+◌, ◌-◌, ◌*◌, ◌^◌, ◌%◌, ◌<◌, ◌≤◌, ℕ, zero, suc, List, [], ◌∷◌, length, min, take, drop, get_or, map, refl, sym, ap, subst, arith, All, drop-cons}
 use Rattle.std.specs.Ordering.{nat_cmp, ordering_then, MatchOrdering}
 use Rattle.std.specs.Cmp.{ranked}
 use Rattle.std.specs.Cmp.Lexicographic.{slice_cmp}
@@ -7,12 +7,14 @@ use Rattle.std.specs.declared.cmp.Ordering.{Ordering}
 use Rattle.std.specs.declared.cmp.Ordering.TheVariants.{Less, Equal, Greater}
 use Rattle.std.proofs.Math.Nat.{add-mul, mul_assoc, mod-eq_of_lt, one-le-pow, pow-zero, pow-suc}
 use Rattle.std.proofs.Math.Seq.{drop-nil}
-use Rattle.std.proofs.lemmas.List.{drop_all, length-take}
-use Rattle.std.proofs.lemmas.Nat.{mul-add-lt, pow-add}
-use Rattle.octets.proofs.DigitLemmas.{All-tail, mul-above}
+use Rattle.std.proofs.lemmas.List.{drop_all, drop-drop, take-take, take_min, length-take, length-drop}
+use Rattle.std.proofs.lemmas.Nat.{mul-add-lt, mod_low, pow-add}
+use Rattle.octets.specs.Digits.{number_of}
+use Rattle.octets.proofs.DigitLemmas.{All-tail, mul-above, number_of-append}
 use Rattle.types.specs.Order.{IsPaddedAtMost}
 use Rattle.canon.specs.Span.{part_of, key_of}
 use Rattle.canon.specs.Keyed.{HasKey, compared}
+use Rattle.canon.proofs.PartLemmas.{take_two}
 use Rattle.canon.specs.declared.spans.Span.{Span}
 use Rattle.canon.specs.declared.spans.Keyed.{Keyed}
 use Rattle.std.proofs.lemmas.List.Elements.{All-take, All-drop}
@@ -129,6 +131,75 @@ read_shifted xs i there number is end octets h =
     let same : number * 2 ^ (8 * (16 - there)) ≡ number * 256 ^ (16 - i) = ap (λ k. number * k) power in
     let whole : number * 2 ^ (8 * (16 - there)) ≡ key_of 16 xs = omega (arith, same, h, none) in
     ap (λ k. k % 2 ^ 128) whole ∙ mod-eq_of_lt (key_of-below 16 xs octets)
+
+-- what is behind the first octets does not count
+key_of-front : (k : ℕ) (xs : List ℕ) → key_of k (take k xs) ≡ key_of k xs
+key_of-front zero xs = refl
+key_of-front (suc k) [] = refl
+key_of-front (suc k) (x ∷ xs) = ap (λ n. x * 256 ^ k + n) (key_of-front k xs)
+
+-- zeros stand behind octets that are few
+key_of-whole : (k : ℕ) (xs : List ℕ) → length xs ≤ k → key_of k xs ≡ number_of 256 xs * 256 ^ (k - length xs)
+key_of-whole k [] h = omega (arith, key_of-nil k)
+key_of-whole zero (x ∷ xs) h = absurd (omega arith)
+key_of-whole (suc k) (x ∷ xs) h =
+    let L = length xs in
+    let left : suc k - length (x ∷ xs) ≡ k - L = omega arith in
+    let power : 256 ^ (L + (k - L)) ≡ 256 ^ L * 256 ^ (k - L) = pow-add 256 L (k - L) in
+    let whole : 256 ^ k ≡ 256 ^ L * 256 ^ (k - L) = ap (λ n. 256 ^ n) (omega arith) ∙ power in
+    let first : x * 256 ^ k ≡ x * (256 ^ L * 256 ^ (k - L)) = ap (λ n. x * n) whole in
+    let regroup : x * 256 ^ L * 256 ^ (k - L) ≡ x * (256 ^ L * 256 ^ (k - L)) = mul_assoc x (256 ^ L) (256 ^ (k - L)) in
+    let spread : (x * 256 ^ L + number_of 256 xs) * 256 ^ (k - L) ≡ x * 256 ^ L * 256 ^ (k - L) + number_of 256 xs * 256 ^ (k - L) = add-mul (x * 256 ^ L) (number_of 256 xs) (256 ^ (k - L)) in
+    let rest = key_of-whole k xs (omega (arith, h)) in
+    rw left (omega (arith, first, regroup, spread, rest))
+
+-- the number of octets, the first of which are apart
+number_of-two : (n m : ℕ) (xs : List ℕ) → n + m ≤ length xs → number_of 256 (take (n + m) xs) ≡ number_of 256 (take n xs) * 256 ^ m + number_of 256 (take m (drop n xs))
+number_of-two n m xs h =
+    let size : length (take m (drop n xs)) ≡ m = omega (arith, h, length-take m (drop n xs), length-drop n xs) in
+    ap (number_of 256) (take_two n m xs) ∙ number_of-append 256 (take n xs) (take m (drop n xs)) ∙ ap (λ k. number_of 256 (take n xs) * 256 ^ k + number_of 256 (take m (drop n xs))) size
+
+-- the first 16 octets of a part
+first_octets : (buffer : List ℕ) (span : Span) (there : ℕ) → there ≡ min (length (part_of buffer span)) 16 → take there (drop span.start buffer) ≡ take 16 (part_of buffer span)
+first_octets buffer span there is =
+    let xs = drop span.start buffer in
+    let m = span.end - span.start in
+    let within : there ≤ m = omega (arith, is, length-take m xs) in
+    let same : min 16 (length (take m xs)) ≡ there = omega (arith, is) in
+    sym (take-take there m xs within) ∙ ap (λ k. take k (take m xs)) (sym same) ∙ take_min 16 (take m xs)
+
+-- the octets in front of a part are shifted out of two words
+pub words_shifted : (buffer : List ℕ) (span : Span) (there stop high low : ℕ) → All (λ d. d < 256) buffer → there ≡ min (length (part_of buffer span)) 16 → stop ≡ span.start + there → 16 ≤ stop → stop ≤ length buffer
+    → high ≡ number_of 256 (take 8 (drop (stop - 16) buffer)) → low ≡ number_of 256 (take 8 (drop (stop - 8) buffer)) → ((high * 2 ^ 64 + low) * 2 ^ (8 * (16 - there))) % 2 ^ 128 ≡ key_of 16 (part_of buffer span)
+words_shifted buffer span there stop high low octets is at above within first second =
+    let xs = drop (stop - 16) buffer in
+    let ys = part_of buffer span in
+    let front = take 16 ys in
+    let left = 16 - there in
+    let A = number_of 256 (take left xs) in
+    let B = number_of 256 (take there (drop span.start buffer)) in
+    let P = 256 ^ left in
+    let room : 16 ≤ length xs = omega (arith, above, within, length-drop (stop - 16) buffer) in
+    let few : there ≤ 16 = omega (arith, is) in
+    let behind : drop 8 xs ≡ drop (stop - 8) buffer = drop-drop 8 (stop - 16) buffer ∙ ap (λ k. drop k buffer) (omega (arith, above)) in
+    let words : number_of 256 (take 16 xs) ≡ high * 2 ^ 64 + low =
+    number_of-two 8 8 xs room ∙ ap (λ zs. number_of 256 (take 8 xs) * 256 ^ 8 + number_of 256 (take 8 zs)) behind ∙ omega (arith, first, second) in
+    let part : drop left xs ≡ drop span.start buffer = drop-drop left (stop - 16) buffer ∙ ap (λ k. drop k buffer) (omega (arith, above, at, few)) in
+    let sixteen : 16 ≡ left + there = omega (arith, few) in
+    let split : number_of 256 (take 16 xs) ≡ A * 256 ^ there + B =
+    ap (λ k. number_of 256 (take k xs)) sixteen ∙ number_of-two left there xs (omega (arith, room, few)) ∙ ap (λ zs. A * 256 ^ there + number_of 256 (take there zs)) part in
+    let size : length front ≡ there = omega (arith, is, length-take 16 ys) in
+    let key : B * P ≡ key_of 16 ys =
+    ap (λ zs. number_of 256 zs * P) (first_octets buffer span there is) ∙ ap (λ k. number_of 256 front * 256 ^ (16 - k)) (sym size) ∙ sym (key_of-whole 16 front (omega (arith, size, few))) ∙ key_of-front 16 ys in
+    let spread : (A * 256 ^ there + B) * P ≡ A * 256 ^ there * P + B * P = add-mul (A * 256 ^ there) B P in
+    let turned : there + left ≡ 16 = omega (arith, few) in
+    let power : 256 ^ there * P ≡ 256 ^ 16 = sym (pow-add 256 there left) ∙ ap (λ k. 256 ^ k) turned in
+    let out : A * 256 ^ there * P ≡ A * 2 ^ 128 = mul_assoc A (256 ^ there) P ∙ ap (λ k. A * k) power in
+    let number : high * 2 ^ 64 + low ≡ A * 256 ^ there + B = sym words ∙ split in
+    let shifted : (high * 2 ^ 64 + low) * 2 ^ (8 * left) ≡ (A * 256 ^ there + B) * P = ap (λ k. k * 2 ^ (8 * left)) number ∙ ap (λ k. (A * 256 ^ there + B) * k) (sym (octets_as_bits left)) in
+    let whole : (high * 2 ^ 64 + low) * 2 ^ (8 * left) ≡ A * 2 ^ 128 + key_of 16 ys = omega (arith, shifted, spread, out, key) in
+    let small : key_of 16 ys < 2 ^ 128 = key_of-below 16 ys (All-take (λ d. d < 256) (span.end - span.start) (drop span.start buffer) (All-drop (λ d. d < 256) span.start buffer octets)) in
+    ap (λ k. k % 2 ^ 128) whole ∙ mod_low A 128 (key_of 16 ys) small
 
 -- what parts are compared by decides their order
 pub compared_decides : (buffer : List ℕ) → All (λ d. d < 256) buffer → (a b : Keyed ℕ) → HasKey buffer a → HasKey buffer b → IsPaddedAtMost (compared buffer b) (compared buffer a) → IsPaddedAtMost (part_of buffer b.span) (part_of buffer a.span)

@@ -10,16 +10,16 @@ loop-one-preserved g c =
     let i = c.loop-one.one-index in
     let p = c.one-item.result in
     let moved = c.loop-one.moved.items in
-    let read : c.part.result.now ≡ part_of buffer p.span = c.part.ensures ∙ ap (λ b. part_of b p.span) c.deref.ensures.value in
-    let more : c.extend_from_slice.new.self.items ≡ moved ++ part_of buffer p.span = c.in_ok-extend_from_slice.ensures.items ∙ ap (λ b. moved ++ b) read in
-    joined_more buffer c.args.parts.now i p moved c.extend_from_slice.new.self.items (omega arith) c.one-item.is more c.loop-one.invariant
+    let same : part_of c.deref.result.now p.span ≡ part_of buffer p.span = ap (λ b. part_of b p.span) c.deref.ensures.value in
+    let more : c.put_part.new.moved.items ≡ moved ++ part_of buffer p.span = c.in_ok-put_part.ensures.appended ∙ ap (λ b. moved ++ b) same in
+    joined_more buffer c.args.parts.now i p moved c.put_part.new.moved.items (omega arith) c.one-item.is more c.loop-one.invariant
 
 pub returns-in_err-reserve-clause-kept : goal.returns-in_err-reserve-clause-kept
 returns-in_err-reserve-clause-kept g c = always_kept c.from_residual.result _ (keeps_front c.args.from c.args.out.now.items)
 
-pub returns-in_err-extend_from_slice-clause-kept : goal.returns-in_err-extend_from_slice-clause-kept
-returns-in_err-extend_from_slice-clause-kept g c = always_kept c.from_residual-in_err-extend_from_slice.result _ (keeps_front c.args.from c.args.out.now.items)
+pub returns-in_err-put_part-clause-kept : goal.returns-in_err-put_part-clause-kept
+returns-in_err-put_part-clause-kept g c = always_kept c.from_residual-in_err-put_part.result _ (keeps_front c.args.from c.args.out.now.items)
 
-pub returns-in_err-extend_from_slice-2-clause-kept : goal.returns-in_err-extend_from_slice-2-clause-kept
-returns-in_err-extend_from_slice-2-clause-kept g c =
-    always_kept c.from_residual-in_err-extend_from_slice-2.result _ ([], c.in_err-extend_from_slice-2.ensures.items ∙ c.truncate.ensures.items ∙ sym (append-nil (take c.args.from c.args.out.now.items)), tt)
+pub returns-in_err-extend_from_slice-clause-kept : goal.returns-in_err-extend_from_slice-clause-kept
+returns-in_err-extend_from_slice-clause-kept g c =
+    always_kept c.from_residual-in_err-extend_from_slice.result _ ([], c.in_err-extend_from_slice.ensures.items ∙ c.truncate.ensures.items ∙ sym (append-nil (take c.args.from c.args.out.now.items)), tt)
