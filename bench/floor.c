@@ -39,6 +39,7 @@ typedef uint8_t octet;
 #define NARROW 16
 #define WIDE 1024
 #define NUMBERS 256
+#define DEPTH 8
 
 static void die(const char *why)
 {
@@ -462,6 +463,40 @@ static inline int is_next(octet tag, const octet *end)
     return at < end && *at == tag;
 }
 
+/* The contents octets of an OCTET STRING in segments. */
+
+static void segments(int nested, size_t length, const octet *end)
+{
+    if (nested == 64)
+        die("too many open encodings");
+    while (!ends(length, end)) {
+        if (is_next(0x24, end)) {
+            size_t inside;
+            at++;
+            const octet *last = take_opening(&inside, end);
+            segments(nested + 1, inside, last);
+        } else {
+            take_tag(0x04, end);
+            size_t count = take_definite(end);
+            put_octets(at, count);
+            at += count;
+        }
+    }
+}
+
+/* An OCTET STRING, also in segments. */
+static inline void segmented(const octet *end)
+{
+    if (!is_next(0x24, end)) {
+        string(0x04, OF_OCTETS, end);
+        return;
+    }
+    struct part part = open_part(0x24, 1, end);
+    *(part.contents - part.room - 1) = 0x04;
+    segments(1, part.length, part.end);
+    close_part(&part);
+}
+
 /* Records. */
 
 static const char records_module[] =
@@ -520,7 +555,7 @@ static void record(void)
     string(0x13, OF_PRINTABLE, end);
     generalized_time(end);
     object_identifier(end);
-    string(0x04, OF_OCTETS, end);
+    segmented(end);
     bit_string(0x03, end);
     called(end);
     marks(end);
@@ -537,25 +572,6 @@ static void record(void)
 }
 
 /* Strings in segments. */
-
-static void segments(int nested, size_t length, const octet *end)
-{
-    if (nested == 64)
-        die("too many open encodings");
-    while (!ends(length, end)) {
-        if (is_next(0x24, end)) {
-            size_t inside;
-            at++;
-            const octet *last = take_opening(&inside, end);
-            segments(nested + 1, inside, last);
-        } else {
-            take_tag(0x04, end);
-            size_t count = take_definite(end);
-            put_octets(at, count);
-            at += count;
-        }
-    }
-}
 
 static void octet_string(void)
 {
@@ -688,6 +704,74 @@ static void chain_module(void)
     for (int level = 0; level < LEVELS; level++)
         printf(" [%d]", level % 30);
     printf(" INTEGER\nEND\n");
+}
+
+/* A SEQUENCE OF INTEGER within all but the last of them: with itself as many levels as a type may have. */
+static void chain_around_list(void)
+{
+    struct part parts[LEVELS - 1];
+    size_t length;
+    begin();
+    take_tag(chain_tag(0), file_end);
+    const octet *last = take_opening(&length, file_end), *end = last;
+    for (size_t level = 1; level < LEVELS - 1; level++) {
+        parts[level] = open_part(chain_tag(level), 4, end);
+        end = parts[level].end;
+    }
+    struct part list = open_part(0x30, 4, end);
+    while (!ends(list.length, list.end))
+        integer(0x02, NARROW, list.end);
+    close_part(&list);
+    for (size_t level = LEVELS - 1; --level > 0;)
+        end_part(&parts[level]);
+    must_end(length, last);
+    send_value(chain_tag(0));
+}
+
+static void chain_around_list_module(void)
+{
+    printf("Chain DEFINITIONS EXPLICIT TAGS ::= BEGIN\n  Value ::=");
+    for (int level = 0; level < LEVELS - 1; level++)
+        printf(" [%d]", level % 30);
+    printf(" SEQUENCE OF INTEGER\nEND\n");
+}
+
+/* A SEQUENCE of two components under explicit tags, which are such SEQUENCEs again, so many deep; the innermost are of
+ * INTEGER. */
+
+static void pair(int depth, const octet *end)
+{
+    size_t usual = depth < 5 ? 3 : 1;
+    for (octet tag = 0xa0; tag <= 0xa1; tag++) {
+        struct part half = open_part(tag, usual, end);
+        if (depth == DEPTH) {
+            integer(0x02, NARROW, half.end);
+        } else {
+            struct part inner = open_part(0x30, usual, half.end);
+            pair(depth + 1, inner.end);
+            end_part(&inner);
+        }
+        end_part(&half);
+    }
+}
+
+static void branches(void)
+{
+    size_t length;
+    begin();
+    take_tag(0x30, file_end);
+    const octet *end = take_opening(&length, file_end);
+    pair(1, end);
+    must_end(length, end);
+    send_value(0x30);
+}
+
+static void branches_module(void)
+{
+    printf("Branches DEFINITIONS EXPLICIT TAGS ::= BEGIN\n  Value ::= Pair1\n");
+    for (int depth = 1; depth < DEPTH; depth++)
+        printf("  Pair%d ::= SEQUENCE { left [0] Pair%d, right [1] Pair%d }\n", depth, depth + 1, depth + 1);
+    printf("  Pair%d ::= SEQUENCE { left [0] INTEGER, right [1] INTEGER }\nEND\n", DEPTH);
 }
 
 /* A SEQUENCE OF CHOICE and a SET, of INTEGERs under the tags [0] to [255]. */
@@ -1054,6 +1138,17 @@ static void give(const void *octets, size_t count)
 
 #define GIVE(...) give((const octet[]){__VA_ARGS__}, sizeof((const octet[]){__VA_ARGS__}))
 
+/* Whether lengths have more octets than needed, and strings segments. */
+static int loose;
+
+static void give_head(octet tag, size_t length)
+{
+    if (loose)
+        GIVE(tag, 0x82, 0, (octet)length);
+    else
+        GIVE(tag, (octet)length);
+}
+
 /* An INTEGER under a tag, of about so many bits. */
 static void give_integer(octet tag, int bits)
 {
@@ -1067,7 +1162,7 @@ static void give_integer(octet tag, int bits)
         front++;
         length--;
     }
-    GIVE(tag, (octet)length);
+    give_head(tag, length);
     give(front, length);
 }
 
@@ -1077,7 +1172,7 @@ static void give_text(octet tag, const char *letters, size_t length)
     if (any() % 4 == 0)
         GIVE(tag, 0x81, (octet)length);
     else
-        GIVE(tag, (octet)length);
+        give_head(tag, length);
     while (length-- > 0)
         GIVE((octet)letters[any() % count]);
 }
@@ -1096,7 +1191,10 @@ static void give_record(void)
         (unsigned)(any() % 24), (unsigned)(any() % 60), (unsigned)(any() % 60));
     give(time, 17);
     GIVE(0x06, 0x04, 0x2a, 0x03, (octet)(0x81 + any() % 8), (octet)(any() % 128));
-    give_text(0x04, letters, 4);
+    if (loose)
+        GIVE(0x24, 0x80, 0x04, 0x02, (octet)any(), (octet)any(), 0x04, 0x81, 0x02, (octet)any(), (octet)any(), 0x00, 0x00);
+    else
+        give_text(0x04, letters, 4);
     GIVE(0x03, 0x02, 0x04, (octet)any());
     switch (any() % 3) {
     case 0:
@@ -1122,6 +1220,12 @@ static void give_record(void)
         give_integer(0x84, 8);
     }
     GIVE(0x00, 0x00);
+}
+
+static void give_loose_record(void)
+{
+    loose = 1;
+    give_record();
 }
 
 /* One string of as many segments of so many octets as a value can have. */
@@ -1256,6 +1360,36 @@ static void give_chain(void)
         GIVE(0x00, 0x00);
 }
 
+static void give_chain_around_list(void)
+{
+    for (size_t level = 0; level < LEVELS - 1; level++)
+        GIVE(chain_tag(level), 0x80);
+    GIVE(0x30, 0x80);
+    for (size_t end = made + MOST - 1000; made < end;)
+        give_integer(0x02, 24);
+    for (size_t level = 0; level < LEVELS; level++)
+        GIVE(0x00, 0x00);
+}
+
+static void give_pair(int depth)
+{
+    GIVE(0x30, 0x80);
+    for (octet tag = 0xa0; tag <= 0xa1; tag++) {
+        GIVE(tag, 0x80);
+        if (depth == DEPTH)
+            give_integer(0x02, 16);
+        else
+            give_pair(depth + 1);
+        GIVE(0x00, 0x00);
+    }
+    GIVE(0x00, 0x00);
+}
+
+static void give_branches(void)
+{
+    give_pair(1);
+}
+
 static void give_nulls(void)
 {
     GIVE(0x30, 0x80);
@@ -1359,6 +1493,7 @@ struct work {
 
 static const struct work works[] = {
     {"records", record, give_record, 200000, records_module},
+    {"loose_records", record, give_loose_record, 200000, records_module},
     {"segments_of_1000", octet_string, give_long_segments, 0,
         "Strings DEFINITIONS ::= BEGIN Value ::= OCTET STRING END\n"},
     {"segments_of_1", octet_string, give_short_segments, 0,
@@ -1375,6 +1510,8 @@ static const struct work works[] = {
     {"choices_of_two", list_of_choices, give_choices_of_two, 8, NULL, choices_of_two_module},
     {"members", set_of_numbers, give_members, 0, NULL, members_module},
     {"chains", chain, give_chain, 0, NULL, chain_module},
+    {"chains_around_lists", chain_around_list, give_chain_around_list, 8, NULL, chain_around_list_module},
+    {"branches", branches, give_branches, 0, NULL, branches_module},
     {"nulls", sequence_of_null, give_nulls, 1, "Nulls DEFINITIONS ::= BEGIN Value ::= SEQUENCE OF NULL END\n"},
     {"certificates", certificate, give_certificate, 0, ""},
     {"indefinite_certificates", certificate, give_indefinite_certificate, 0, ""},

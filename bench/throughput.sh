@@ -7,10 +7,11 @@
 # anew, about 16 MB each, and both must write the same octets. From BER to DER asn1x may take, of what
 # floor takes:
 #
-#     records           200,000 SEQUENCEs of a dozen components, indefinite lengths                    5
-#     segments_of_1000  OCTET STRINGs of about 1 MiB in segments of 1,000 octets                       3
-#     segments_of_1     the same in segments of one octet                                              3
-#     sets              SET OF INTEGER, a thousand items each in no order                              4
+#     records           200,000 SEQUENCEs of a dozen components, indefinite lengths                    2.5
+#     loose_records     the same with a string in segments, and lengths in more octets than needed     3
+#     segments_of_1000  OCTET STRINGs of about 1 MiB in segments of 1,000 octets                       1.5
+#     segments_of_1     the same in segments of one octet                                              1
+#     sets              SET OF INTEGER, a thousand items each in no order                              1.5
 #     random_sets, equal_sets, descending_sets
 #                       the same with as many items of four contents octets as a value can have        1.5, 1.5, 1.2
 #     sets_of_fronts    the same of sixteen contents octets, of which the last four differ             0.6
@@ -18,19 +19,22 @@
 #     disordered_choices
 #                       the same with alternatives in no order                                         2
 #     members           a SET of 256 INTEGERs in descending order                                      1.4
-#     chains            an INTEGER within sixty explicit tags                                          5
-#     certificates      those of examples/certificates.hex, over and over, in DER                      4.5
+#     chains            an INTEGER within sixty explicit tags                                          3
+#     chains_around_lists
+#                       a SEQUENCE OF INTEGER of about 1 MiB within fifty-nine                         3
+#     branches          SEQUENCEs of two, each within an explicit tag, eight deep                      3
+#     certificates      those of examples/certificates.hex, over and over, in DER                      2.5
 #     indefinite_certificates
-#                       the same with indefinite lengths                                               5.5
-#     booleans          2,000,000 BOOLEANs                                                             3
+#                       the same with indefinite lengths                                               3
+#     booleans          2,000,000 BOOLEANs                                                             1
 #
 # A list of a CHOICE of 256 may take 1.5 times what one of two takes.
 #
-# What is written is converted and checked again. From DER to DER, and from CER to CER, records may take 0.8 times the
-# time that the same octets take from BER, and `check` 1.1 times.
+# What is written is converted and checked again. From DER to DER, and from CER to CER, records may take 3 times what
+# floor takes and 0.8 times the time that the same octets take from BER, and `check` 1.1 times.
 #
 # Of each, CER may take 1.5 times the time that DER takes, `check` no more than it, and `show` 3 times it.
-# A run over one NULL may take 2 ms. At most 3 MiB may be resident over values of at most 4 KiB, and 30 MiB over
+# A run over one NULL may take 1.5 ms. At most 3 MiB may be resident over values of at most 4 KiB, and 30 MiB over
 # a string, a SEQUENCE OF NULL, a SET OF INTEGER or a SEQUENCE OF a CHOICE of 1 MiB; a list of values that have parts
 # takes more.
 #
@@ -102,14 +106,17 @@ row() {
     hold "  show over convert" 300 "$took" "$der"
 }
 
-# Measures the strict reader of a rule on what the last work becomes under it, beside the reader of BER.
+# Measures the strict reader of a rule on what the last work becomes under it, beside floor and the reader of BER.
 strict_row() {
-    local rule=$1 ber
+    local rule=$1 theirs ber
     "$program" convert "${input[@]}" --to "$rule" >"$work/strict"
     local -a again=("${input[@]:0:2}" "$work/strict")
+    measure $runs "$floor" convert "$work_now" "$work/strict"
+    theirs=$took
     measure $runs "$program" convert "${again[@]}" --to "$rule"
     ber=$took
     measure $runs "$program" convert "${again[@]}" --from "$rule" --to "$rule"
+    hold "  from $rule to it over floor" 300 "$took" "$theirs"
     hold "  from $rule to it over from BER" 80 "$took" "$ber"
     measure $runs "$program" check "${again[@]}"
     ber=$took
@@ -121,12 +128,13 @@ strict_row() {
 declare -a input=()
 declare -A residents=() times=()
 echo 'microseconds:'
-row records 500
+row records 250
 strict_row der
 strict_row cer
-row segments_of_1000 300
-row segments_of_1 300
-row sets 400
+row loose_records 300
+row segments_of_1000 150
+row segments_of_1 100
+row sets 150
 row random_sets 150
 row equal_sets 150
 row descending_sets 120
@@ -136,15 +144,17 @@ row choices 200
 hold '  a CHOICE of 256 over one of two' 150 "${times[choices]}" "${times[choices_of_two]}"
 row disordered_choices 200
 row members 140
-row chains 500
-row certificates 450
-row indefinite_certificates 550
-row booleans 300
+row chains 300
+row chains_around_lists 300
+row branches 300
+row certificates 250
+row indefinite_certificates 300
+row booleans 100
 
 work_now='start and memory'
 printf '\5\0' >"$work/null"
 measure 100 "$program" convert @builtin NULL "$work/null" --to der
-hold 'one NULL, over 1 ms' 200 "$took" 1000
+hold 'one NULL, over 1 ms' 150 "$took" 1000
 
 echo 'KiB resident:'
 echo "one NULL                         $resident"
