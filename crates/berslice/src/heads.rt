@@ -113,7 +113,7 @@ fn long_opened(tag: Tag, octets: &[u8]) -> Option<Inside<'_>>
 }
 
 // How many identifier octets the encoding at the front has, if they are those of the tag and the form.
-fn begun(tag: Tag, constructed: bool, octets: &[u8]) -> Option<usize>
+pub fn begun(tag: Tag, constructed: bool, octets: &[u8]) -> Option<usize>
     ensures { IfSome result (λ used. (used ≤ length octets.now) × IsIdentifier tag constructed (take used octets.now)) }
 {
     match read_identifier(octets) {

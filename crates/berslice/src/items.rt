@@ -51,7 +51,7 @@ pub fn read_list(
 
 /// Appends the items at the front of `octets` that are read at once, and returns how many octets they have. It goes as
 /// far as the contents octets do, which of the definite form are all of `octets`, or to an item that is cut or refused,
-/// or has a constructed string, of which it takes nothing.
+/// of which it takes nothing.
 ///
 /// Takes memory as the items do; where there is too little it ends.
 pub fn read_items(

@@ -1,35 +1,96 @@
-//! Primitive encodings of types without parts.
+//! Encodings of types without parts: primitive ones, and constructed strings (X.690 8.6.4, 8.7.3 and 8.23).
 
-ghost use Rattle.std.specs.Prelude.{◌≡◌, ℕ, IfSome};
+ghost use Rattle.std.specs.Prelude.{◌≡◌, ◌≤◌, ℕ, [], length, take, IfSome};
 ghost use Rattle.types.specs.Leaf.{tag_of, IsLeaf};
 ghost use Rattle.types.specs.View.{ty_view};
 ghost use Rattle.encoding_parts.specs.Parts.{IsGoodType};
+ghost use Rattle.encoding_parts.specs.Segments.{IsPassed, IsSound};
 ghost use Rattle.berslice.specs.Reading.{IsRead};
 
-use crate::heads::primitive;
-use encoding_parts::fill;
-use octets::Tag;
+use crate::heads::{begun, primitive};
+use encoding_parts::{Kind, Segments, begin_string, fill};
+use octets::{MAX_ENCODING, Tag};
 use std::alloc::Global;
 use types::{Ty, Value};
 
-// Reads the primitive encoding at the front, of a type without parts.
+// Reads the encoding at the front, of a type without parts, in which at most so many constructed ones nest.
 #[inline(never)]
 pub fn read_leaf(
     alloc: Global,
     ty: &Ty,
     tag: Tag,
+    levels: usize,
     octets: &[u8],
     slot: &mut Option<Value>,
 ) -> Option<usize>
     requires leaf { IsLeaf (ty_view ty.now) }
     requires tag { tag_of (ty_view ty.now) ≡ tag }
     requires good { IsGoodType (ty_view ty.now) }
-    ensures { IfSome result (λ used. (levels : ℕ) → IsRead levels (ty_view ty.now) octets.now slot.new used) }
+    ensures { IfSome result (λ used. IsRead levels (ty_view ty.now) octets.now slot.new used) }
 {
-    let (contents, used) = primitive(tag, octets)?;
+    let Some((contents, used)) = primitive(tag, octets) else {
+        return read_string(alloc, ty, tag, levels, octets, slot);
+    };
     if fill(alloc, ty, contents, slot) {
         Some(used)
     } else {
         None
     }
+}
+
+// Reads the constructed string at the front. Mostly another component stands there, or a primitive encoding that is
+// cut, as the first octet says.
+#[inline(never)]
+fn read_string(
+    alloc: Global,
+    ty: &Ty,
+    tag: Tag,
+    levels: usize,
+    octets: &[u8],
+    slot: &mut Option<Value>,
+) -> Option<usize>
+    requires leaf { IsLeaf (ty_view ty.now) }
+    requires tag { tag_of (ty_view ty.now) ≡ tag }
+    requires good { IsGoodType (ty_view ty.now) }
+    ensures { IfSome result (λ used. IsRead levels (ty_view ty.now) octets.now slot.new used) }
+{
+    if octets.is_empty() || octets[0] & 0x20 == 0 {
+        return None;
+    }
+    let front = &octets[..octets.len().min(MAX_ENCODING)];
+    let identifier = begun(tag, true, front)?;
+    let (kind, mut string, start) = begin_string(
+        alloc,
+        ty,
+        identifier,
+        front.len(),
+        0,
+        levels,
+        front,
+    ).ok()?;
+    let used = pass_segments(&mut string, kind, front, start)?;
+    *slot = Some(string.joined.into_value(ty).ok()?);
+    Some(used)
+}
+
+// Takes the segments of a constructed string of which the first `start` octets have been taken, up to its last end, and
+// returns how many octets it has.
+fn pass_segments(string: &mut Segments, kind: Kind, octets: &[u8], start: usize) -> Option<usize>
+    requires there { start ≤ length octets.now }
+    requires sound { IsSound kind string.old }
+    ensures there { IfSome result (λ used. used ≤ length octets.now) }
+    ensures passed { IfSome result (λ used. (levels end identifier : ℕ) →
+        IsPassed kind levels end 0 identifier string.old (take start octets.now) →
+        IsPassed kind levels end 0 identifier string.new (take used octets.now)) }
+    ensures sound { IfSome result (λ _. IsSound kind string.new) }
+    ensures closed { IfSome result (λ _. string.new.frames.items ≡ []) }
+{
+    let mut at = start;
+    while !string.is_closed() {
+        match string.pass(kind, &octets[at..]) {
+            Ok(used) => at += used,
+            Err(_) => return None,
+        }
+    }
+    Some(at)
 }

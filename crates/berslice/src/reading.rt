@@ -21,10 +21,11 @@ use types::{Alternative, Ty, Value};
 
 /// Reads the encoding at the front of `octets` into `whole`, where all of it is there and within the limits, and
 /// returns how many octets it has. None of anything else, of which that says nothing: whoever asks then reads part
-/// by part, and refuses what there is to refuse. So it is with a constructed string.
+/// by part, and refuses what there is to refuse.
 ///
 /// Takes memory as the value does, beside the room of the value that `whole` holds, into which goes what has room
-/// there; None where there is too little. A list that `whole` holds then goes to `room`, without its items.
+/// there, but no constructed string; None where there is too little. A list that `whole` holds then goes to `room`,
+/// without its items. More than eight open encodings of such a string take memory too.
 pub fn read_whole(
     alloc: Global,
     ty: &Ty,
@@ -65,7 +66,7 @@ pub fn read_one(
     ensures { IfSome result (λ used. IsRead levels (ty_view ty.now) octets.now slot.new used) }
 {
     if let Some(tag) = ty.leaf_tag() {
-        return read_leaf(alloc, ty, tag, octets, slot);
+        return read_leaf(alloc, ty, tag, levels, octets, slot);
     }
     match ty {
         Ty::SequenceOf(tag, inner) | Ty::SetOf(tag, inner) => {
