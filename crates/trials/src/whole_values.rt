@@ -55,6 +55,13 @@ RELATIVE-OID | 0D 02 08 01 00 00 | 4 relative:8.1
 BITS | 03 02 04 F0 00 00 | 4 bits:F0/4
 OCTETS | 04 02 41 42 00 00 | 4 octets:4142
 OCTETS | 04 81 00 00 00 | 3 octets:''
+OCTETS | 24 03 04 01 41 00 00 | 5 octets:41
+OCTETS | 24 80 04 01 41 24 03 04 01 42 00 00 00 00 | 12 octets:4142
+OCTETS | 24 00 00 00 | 2 octets:''
+[31]OCTETS | BF 1F 80 04 00 04 01 41 00 00 00 00 | 10 octets:41
+BITS | 23 80 03 02 00 41 03 02 04 F0 00 00 00 00 | 12 bits:41F0/4
+PrintableString | 33 80 04 01 41 04 01 62 00 00 00 00 | 10 text:'Ab'
+UTCTime | 37 11 04 06 32 36 30 31 30 31 04 07 30 30 30 30 30 30 5A 00 00 | 19 text:'260101000000Z'
 PrintableString | 13 02 41 62 00 00 | 4 text:'Ab'
 PrintableString | 13 00 00 00 | 2 text:''
 UTCTime | 17 0D 32 36 30 31 30 31 30 30 30 30 30 30 5A 00 00 | 15 text:'260101000000Z'";
@@ -79,6 +86,8 @@ SET{ INTEGER BOOLEAN? [0]INTEGER=5 } | 31 09 80 01 06 01 01 00 02 01 07 00 00 | 
 SEQUENCE-OF{ INTEGER } | 30 06 02 01 01 02 01 02 00 00 | 8 items( 1 2 )
 SEQUENCE-OF{ INTEGER } | 30 80 00 00 00 00 | 4 items( )
 SEQUENCE-OF{ INTEGER } | 30 00 00 00 | 2 items( )
+SEQUENCE{ OCTETS BOOLEAN? } | 30 80 24 80 04 01 41 00 00 01 01 FF 00 00 00 00 | 14 fields( octets:41 TRUE )
+SEQUENCE-OF{ OCTETS } | 30 80 24 03 04 01 41 04 01 42 00 00 00 00 | 12 items( octets:41 octets:42 )
 SET-OF{ INTEGER } | 31 80 02 01 02 02 01 01 00 00 00 00 | 10 items( 2 1 )
 CHOICE{ INTEGER CHOICE{ BOOLEAN SEQUENCE-OF{ INTEGER } } } | 02 01 03 00 00 | 3 0( 3 )
 CHOICE{ INTEGER CHOICE{ BOOLEAN SEQUENCE-OF{ INTEGER } } } | 01 01 FF 00 00 | 3 1( 0( TRUE ) )
@@ -97,7 +106,12 @@ BOOLEAN | 21 01 2A | none: another form
 [1]{ INTEGER } | 81 01 05 | none: another form
 [31]INTEGER | 9F 20 01 05 | none: another tag
 CHOICE{ INTEGER CHOICE{ BOOLEAN SEQUENCE-OF{ INTEGER } } } | 04 00 | none: another tag
-OCTETS | 24 03 04 01 41 | none: a constructed string
+OCTETS | 24 04 04 01 41 00 | none: octets that are no segment
+OCTETS | 24 80 04 01 41 00 01 | none: octets that are no end
+OCTETS | 24 80 24 80 04 01 41 00 00 00 | none: an end is missing
+INTEGER | 22 03 02 01 05 | none: a type that has no segments
+BITS | 23 08 03 02 04 F0 03 02 00 41 | none: bits unused in front of the last segment
+PrintableString | 33 03 04 01 2A | none: contents octets of no value
 INTEGER | 02 02 00 01 | none: contents octets of no value
 ENUMERATED(2,7) | 0A 01 03 | none: contents octets of no value
 PrintableString | 13 01 2A | none: contents octets of no value
