@@ -13,24 +13,21 @@ use octets::{MAX_ENCODING, Tag};
 use std::alloc::Global;
 use types::{Ty, Value};
 
-// Reads the encoding at the front, of a type without parts, in which at most so many constructed ones nest.
+// Reads the primitive encoding at the front, of a type without parts.
 #[inline(never)]
 pub fn read_leaf(
     alloc: Global,
     ty: &Ty,
     tag: Tag,
-    levels: usize,
     octets: &[u8],
     slot: &mut Option<Value>,
 ) -> Option<usize>
     requires leaf { IsLeaf (ty_view ty.now) }
     requires tag { tag_of (ty_view ty.now) ≡ tag }
     requires good { IsGoodType (ty_view ty.now) }
-    ensures { IfSome result (λ used. IsRead levels (ty_view ty.now) octets.now slot.new used) }
+    ensures { IfSome result (λ used. (levels : ℕ) → IsRead levels (ty_view ty.now) octets.now slot.new used) }
 {
-    let Some((contents, used)) = primitive(tag, octets) else {
-        return read_string(alloc, ty, tag, levels, octets, slot);
-    };
+    let (contents, used) = primitive(tag, octets)?;
     if fill(alloc, ty, contents, slot) {
         Some(used)
     } else {
@@ -41,7 +38,7 @@ pub fn read_leaf(
 // Reads the constructed string at the front. Mostly another component stands there, or a primitive encoding that is
 // cut, as the first octet says.
 #[inline(never)]
-fn read_string(
+pub fn read_string(
     alloc: Global,
     ty: &Ty,
     tag: Tag,

@@ -12,7 +12,7 @@ use crate::MAX_NESTED;
 use crate::components::read_components;
 use crate::heads::{Inside, opened};
 use crate::items::read_list;
-use crate::leaf::read_leaf;
+use crate::leaf::{read_leaf, read_string};
 use crate::members::read_members;
 use encoding_parts::{by_tag, clear, put_chosen, take_chosen, take_list};
 use octets::{Head, MAX_ENCODING, read_identifier};
@@ -55,6 +55,7 @@ pub fn read_whole(
 // Reads the encoding at the front into the slot, in which at most so many constructed ones nest. Where it is not
 // read, the slot may hold anything.
 #[cycle(reading)]
+#[inline(always)]
 pub fn read_one(
     alloc: Global,
     ty: &Ty,
@@ -66,7 +67,10 @@ pub fn read_one(
     ensures { IfSome result (λ used. IsRead levels (ty_view ty.now) octets.now slot.new used) }
 {
     if let Some(tag) = ty.leaf_tag() {
-        return read_leaf(alloc, ty, tag, levels, octets, slot);
+        return match read_leaf(alloc, ty, tag, octets, slot) {
+            Some(used) => Some(used),
+            None => read_string(alloc, ty, tag, levels, octets, slot),
+        };
     }
     match ty {
         Ty::SequenceOf(tag, inner) | Ty::SetOf(tag, inner) => {

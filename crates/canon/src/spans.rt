@@ -225,6 +225,7 @@ fn join_again<K>(
 
 // Appends a part. Mostly it has at most 16 octets, and 16 are copied, which is one step; what stands behind the
 // part is cut off again.
+#[inline(always)]
 fn put_part(buffer: &[u8], span: Span, moved: &mut Vec<u8>) -> Result<(), NoMemory>
     ensures appended { OnOk result (moved.new.items ≡ moved.old.items ++ part_of buffer.now span) }
     ensures unchanged { OnErr result (moved.new.items ≡ moved.old.items) }
