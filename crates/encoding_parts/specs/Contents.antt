@@ -1,5 +1,5 @@
 -- The contents octets that primitive encodings hold.
-use Rattle.std.specs.Prelude.{◌≡◌, ◌⊎◌, ℕ, ℤ, Bool, false, List, ◌++◌, replicate, ⊤, Option, MatchOption}
+use Rattle.std.specs.Prelude.{◌≡◌, ◌⊎◌, ℕ, ℤ, Bool, false, List, ◌++◌, replicate, ⊤}
 use Rattle.octets.specs.Rule.{Rule, IsCanonical}
 use Rattle.types.specs.declared.ty.Ty.{Ty}
 use Rattle.types.specs.declared.ty.Ty.TheVariants.{Enumerated as EnumeratedType, Text as TextType, Time as TimeType}
@@ -11,9 +11,7 @@ use Rattle.primitives.specs.Integer.{IsInteger}
 use Rattle.primitives.specs.Null.{IsNull}
 use Rattle.primitives.specs.Oid.{IsOid, IsRelativeOid}
 use Rattle.primitives.specs.Bits.{IsBits, IsTrimmed}
-use Rattle.types.specs.declared.value.Value.{Value}
 use Rattle.types.specs.Conforms.{Conforms}
-use Rattle.types.specs.View.{value_view}
 use Rattle.types.specs.Shape.{SimpleType, StringType, SimpleValue, StringValue, Shape, Val}
 
 pub record IsBooleanContents (rule : Rule) (value : SimpleValue) (contents : List ℕ) : Type 0 where
@@ -106,10 +104,6 @@ HoldsValue rule type v contents = Conforms type v × HoldsContents rule type v c
 -- they are those of no value of it
 abbrev pub HoldsNoValue : Rule → Shape → List ℕ → Type 0
 HoldsNoValue rule type contents = (v : Val) → Conforms type v → ¬ HoldsContents rule type v contents
-
--- they are those of the value in the slot
-abbrev pub IsFilled : Rule → Shape → List ℕ → Option Value → Type 0
-IsFilled rule type contents slot = MatchOption slot ⊥ (λ value. HoldsValue rule type (value_view value) contents)
 
 -- the type is an ENUMERATED
 abbrev pub IsEnumerated : Ty → Type 0

@@ -1,11 +1,11 @@
-//! Values of contents octets, put where they belong: a value is large to hand on.
+//! Values of contents octets, made where they stay: a value is large to hand on.
 
-ghost use Rattle.std.specs.Prelude.{◌≡◌, IsTrue, MatchOption};
+ghost use Rattle.std.specs.Prelude.{◌≡◌, IsTrue};
 ghost use Rattle.octets.specs.Rule.{ber};
 ghost use Rattle.types.specs.Leaf.{IsLeaf};
 ghost use Rattle.types.specs.Shape.{Shape, SimpleType, StringType};
 ghost use Rattle.types.specs.View.{ty_view, value_view};
-ghost use Rattle.encoding_parts.specs.Contents.{IsEnumerated, IsFilled, text_view};
+ghost use Rattle.encoding_parts.specs.Contents.{IsEnumerated, HoldsValue, octets_view, text_view};
 
 use crate::contents::read_contents;
 use crate::slots::take_bits;
@@ -17,87 +17,87 @@ use std::alloc::Global;
 use strings::{allowed, is_time};
 use types::{Ty, Value, conforms};
 
-/// Puts the value of a type without parts that the contents octets of a primitive encoding are into the slot, and says
-/// whether it has. Where they are those of none, or memory runs out, it says no more. The types that are met most have
-/// ways of their own. Octets go into the room of those that the slot holds.
+/// Makes the value that of a type without parts that the contents octets of a primitive encoding are, and says whether
+/// it has. Where they are those of none, or memory runs out, it says no more. The types that are met most have ways of
+/// their own. Octets go into the room of those that the value holds.
 #[inline(always)]
-pub fn fill(alloc: Global, ty: &Ty, contents: &[u8], slot: &mut Option<Value>) -> bool
+pub fn fill(alloc: Global, ty: &Ty, contents: &[u8], value: &mut Value) -> bool
     requires { IsLeaf (ty_view ty.now) }
-    ensures { IsTrue result → IsFilled ber (ty_view ty.now) contents.now slot.new }
+    ensures { IsTrue result → HoldsValue ber (ty_view ty.now) (value_view value.new) contents.now }
 {
     match ty {
         Ty::Boolean(_) => match read_boolean(contents) {
             Some(truth) => {
-                *slot = Some(Value::Boolean(truth));
+                *value = Value::Boolean(truth);
                 true
             }
             None => false,
         },
         Ty::Integer(tag) => match read_integer(contents) {
             Some(number) => {
-                *slot = Some(Value::Integer(number));
+                *value = Value::Integer(number);
                 true
             }
-            None => fill_wide_integer(alloc, *tag, contents, slot),
+            None => fill_wide_integer(alloc, *tag, contents, value),
         },
-        Ty::Octets(tag) => fill_octets(alloc, *tag, contents, slot),
-        Ty::Text(_, kind) => allowed(*kind, contents) && fill_text(alloc, contents, slot),
-        Ty::Time(_, kind) => is_time(*kind, contents) && fill_text(alloc, contents, slot),
-        Ty::Oid(tag) => fill_oid(alloc, *tag, contents, slot),
-        Ty::Bits(tag) => fill_bits(alloc, *tag, contents, slot),
-        Ty::Enumerated(_, _) => fill_item(ty, contents, slot),
-        _ => fill_any(alloc, ty, contents, slot),
+        Ty::Octets(_) => fill_octets(alloc, contents, value),
+        Ty::Text(_, kind) => allowed(*kind, contents) && fill_text(alloc, contents, value),
+        Ty::Time(_, kind) => is_time(*kind, contents) && fill_text(alloc, contents, value),
+        Ty::Oid(tag) => fill_oid(alloc, *tag, contents, value),
+        Ty::Bits(tag) => fill_bits(alloc, *tag, contents, value),
+        Ty::Enumerated(_, _) => fill_item(ty, contents, value),
+        _ => fill_any(alloc, ty, contents, value),
     }
 }
 
-// Fills the slot with an INTEGER past 128 bits.
+// Makes the value an INTEGER past 128 bits.
 #[inline(never)]
-fn fill_wide_integer(alloc: Global, tag: Tag, contents: &[u8], slot: &mut Option<Value>) -> bool
-    ensures { IsTrue result → IsFilled ber (Shape.simple tag SimpleType.integer) contents.now slot.new }
+fn fill_wide_integer(alloc: Global, tag: Tag, contents: &[u8], value: &mut Value) -> bool
+    ensures { IsTrue result → HoldsValue ber (Shape.simple tag SimpleType.integer) (value_view value.new) contents.now }
 {
     if !is_wide_integer(contents) {
         return false;
     }
-    if let Some(Value::WideInteger(octets)) = slot {
+    if let Value::WideInteger(octets) = value {
         return refill(octets, contents);
     }
     match Vec::from_slice(alloc, contents) {
         Ok(octets) => {
-            *slot = Some(Value::WideInteger(octets));
+            *value = Value::WideInteger(octets);
             true
         }
         Err(_) => false,
     }
 }
 
-// Fills the slot with an OCTET STRING.
+// Makes the value an OCTET STRING.
 #[inline(never)]
-fn fill_octets(alloc: Global, tag: Tag, contents: &[u8], slot: &mut Option<Value>) -> bool
-    ensures { IsTrue result → IsFilled ber (Shape.string tag StringType.octet_string) contents.now slot.new }
+fn fill_octets(alloc: Global, contents: &[u8], value: &mut Value) -> bool
+    ensures { IsTrue result → value_view value.new ≡ octets_view contents.now }
 {
-    if let Some(Value::Octets(octets)) = slot {
+    if let Value::Octets(octets) = value {
         return refill(octets, contents);
     }
     match Vec::from_slice(alloc, contents) {
         Ok(octets) => {
-            *slot = Some(Value::Octets(octets));
+            *value = Value::Octets(octets);
             true
         }
         Err(_) => false,
     }
 }
 
-// Fills the slot with the text of a character string or a time.
+// Makes the value the text of a character string or a time.
 #[inline(never)]
-fn fill_text(alloc: Global, contents: &[u8], slot: &mut Option<Value>) -> bool
-    ensures { IsTrue result → MatchOption slot.new ⊥ (λ value. value_view value ≡ text_view contents.now) }
+fn fill_text(alloc: Global, contents: &[u8], value: &mut Value) -> bool
+    ensures { IsTrue result → value_view value.new ≡ text_view contents.now }
 {
-    if let Some(Value::Text(octets)) = slot {
+    if let Value::Text(octets) = value {
         return refill(octets, contents);
     }
     match Vec::from_slice(alloc, contents) {
         Ok(octets) => {
-            *slot = Some(Value::Text(octets));
+            *value = Value::Text(octets);
             true
         }
         Err(_) => false,
@@ -112,63 +112,59 @@ fn refill(octets: &mut Vec<u8>, contents: &[u8]) -> bool
     octets.extend_from_slice(contents).is_ok()
 }
 
-// Fills the slot with an OBJECT IDENTIFIER.
+// Makes the value an OBJECT IDENTIFIER.
 #[inline(never)]
-fn fill_oid(alloc: Global, tag: Tag, contents: &[u8], slot: &mut Option<Value>) -> bool
-    ensures { IsTrue result → IsFilled ber (Shape.simple tag SimpleType.oid) contents.now slot.new }
+fn fill_oid(alloc: Global, tag: Tag, contents: &[u8], value: &mut Value) -> bool
+    ensures { IsTrue result → HoldsValue ber (Shape.simple tag SimpleType.oid) (value_view value.new) contents.now }
 {
-    if let Some(Value::Oid(arcs)) = slot {
+    if let Value::Oid(arcs) = value {
         return read_oid_into(contents, arcs).is_ok();
     }
     match read_oid(alloc, contents) {
         Ok(arcs) => {
-            *slot = Some(Value::Oid(arcs));
+            *value = Value::Oid(arcs);
             true
         }
         Err(_) => false,
     }
 }
 
-// Fills the slot with a BIT STRING.
+// Makes the value a BIT STRING.
 #[inline(never)]
-fn fill_bits(alloc: Global, tag: Tag, contents: &[u8], slot: &mut Option<Value>) -> bool
-    ensures { IsTrue result → IsFilled ber (Shape.string tag StringType.bit_string) contents.now slot.new }
+fn fill_bits(alloc: Global, tag: Tag, contents: &[u8], value: &mut Value) -> bool
+    ensures { IsTrue result → HoldsValue ber (Shape.string tag StringType.bit_string) (value_view value.new) contents.now }
 {
-    match read_bits_in(take_bits(alloc, slot), contents) {
+    match read_bits_in(take_bits(alloc, value), contents) {
         Ok(bits) => {
-            *slot = Some(Value::Bits(bits));
+            *value = Value::Bits(bits);
             true
         }
         Err(_) => false,
     }
 }
 
-// Fills the slot with an ENUMERATED.
+// Makes the value an ENUMERATED.
 #[inline(never)]
-fn fill_item(ty: &Ty, contents: &[u8], slot: &mut Option<Value>) -> bool
+fn fill_item(ty: &Ty, contents: &[u8], value: &mut Value) -> bool
     requires { IsEnumerated ty.now }
-    ensures { IsTrue result → IsFilled ber (ty_view ty.now) contents.now slot.new }
+    ensures { IsTrue result → HoldsValue ber (ty_view ty.now) (value_view value.new) contents.now }
 {
     let Some(number) = read_integer(contents) else {
         return false;
     };
-    let value = Value::Enumerated(number);
-    if !conforms(ty, &value) {
-        return false;
-    }
-    *slot = Some(value);
-    true
+    *value = Value::Enumerated(number);
+    conforms(ty, value)
 }
 
-// Fills the slot with a value of any type without parts.
+// Makes the value one of any type without parts.
 #[inline(never)]
-fn fill_any(alloc: Global, ty: &Ty, contents: &[u8], slot: &mut Option<Value>) -> bool
+fn fill_any(alloc: Global, ty: &Ty, contents: &[u8], value: &mut Value) -> bool
     requires { IsLeaf (ty_view ty.now) }
-    ensures { IsTrue result → IsFilled ber (ty_view ty.now) contents.now slot.new }
+    ensures { IsTrue result → HoldsValue ber (ty_view ty.now) (value_view value.new) contents.now }
 {
     match read_contents(alloc, ty, contents) {
-        Ok(value) => {
-            *slot = Some(value);
+        Ok(read) => {
+            *value = read;
             true
         }
         Err(_) => false,

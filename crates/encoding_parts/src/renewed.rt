@@ -1,6 +1,6 @@
 //! Lists that are made in the room of old ones.
 
-ghost use Rattle.std.specs.Prelude.{◌≡◌, ◌++◌, ◌∷◌, [], false, IsTrue, ◌<◌, vec_len, vec_capacity};
+ghost use Rattle.std.specs.Prelude.{◌≡◌, ◌↔◌, ◌++◌, ◌∷◌, ◌+◌, ◌<◌, ◌≤◌, [], false, take, IsTrue, vec_len, vec_capacity};
 ghost use Rattle.encoding_parts.specs.Renewed.{new_items};
 
 use crate::slots::take_list;
@@ -10,7 +10,7 @@ use types::{Ty, Value};
 /// A list of so many items is a long one.
 const LONG: usize = 4096;
 
-/// A list of which so many items are new. Old ones stand behind them, and the next ones go into their room.
+/// A list of which so many items are new. Old ones stand behind them, in whose places the next ones are read.
 #[derive(Drop)]
 pub struct Renewed {
     /// The new items, and behind them the old ones.
@@ -20,12 +20,12 @@ pub struct Renewed {
 }
 
 impl Renewed {
-    /// A list without new items, in the room of the list that the slot holds. Its old items are of the type, and are
+    /// A list without new items, in the room of the list that the value holds. Its old items are of the type, and are
     /// dropped where values of it have no room to give. Takes no memory.
-    pub fn over(alloc: Global, ty: &Ty, slot: &mut Option<Value>) -> Renewed
+    pub fn over(alloc: Global, ty: &Ty, value: &mut Value) -> Renewed
         ensures { new_items result ≡ [] }
     {
-        let mut items = take_list(alloc, slot);
+        let mut items = take_list(alloc, value);
         if let Ty::Boolean(_) | Ty::Integer(_) | Ty::Enumerated(_, _) | Ty::Null(_) = ty {
             items.clear();
         }
@@ -41,33 +41,40 @@ impl Renewed {
         Renewed { items, count }
     }
 
-    /// Takes out the old item in whose place the next one goes, if there is one. Takes no memory.
+    /// Whether the next item has its place already: that of an old one, or one in the list's room, where NULL is put
+    /// for now. Takes no memory.
     #[inline(always)]
-    pub fn take_old(&mut self) -> Option<Value>
-        ensures { new_items self.new ≡ new_items self.old }
+    pub fn has_next(&mut self) -> bool
+        ensures next { IsTrue result ↔ self.new.count < vec_len self.new.items }
+        ensures count { self.new.count ≡ self.old.count }
+        ensures kept { new_items self.new ≡ new_items self.old }
     {
         let place = self.count;
-        if place >= self.items.len() {
-            return None;
+        if place == self.items.len() && place < self.items.capacity() {
+            self.items.push_reserved(Value::Null);
+            return true;
         }
-        Some(std::mem::replace(&mut self.items[place], Value::Null))
+        place < self.items.len()
     }
 
-    /// Puts an item behind the new ones, and says whether it has; not where memory runs out. It is one of `used` octets,
-    /// with which so many are `left` of those at hand, and so many items had come `before` these. By that the list makes
-    /// room where it has none: for as many items as there are, but for no more than can come.
+    /// Counts what stands in the next place as an item from now on.
     #[inline(always)]
+    pub fn keep(&mut self)
+        requires { self.old.count < vec_len self.old.items }
+        ensures { new_items self.new ≡ take (self.old.count + 1) self.old.items.items }
+    {
+        self.count += 1;
+    }
+
+    /// Puts an item behind the new ones where it has no place yet, and says whether it has; not where memory runs out.
+    /// It is one of `used` octets, with which so many are `left` of those at hand, and so many items had come `before`
+    /// these. By that the list makes room: for as many items as there are, but for no more than can come.
     pub fn put(&mut self, item: Value, before: usize, used: usize, left: usize) -> bool
+        requires { vec_len self.old.items ≤ self.old.count }
         ensures put { IsTrue result → new_items self.new ≡ new_items self.old ++ (item ∷ []) }
         ensures kept { result ≡ false → new_items self.new ≡ new_items self.old }
     {
-        let place = self.count;
-        if place < self.items.len() {
-            self.items[place] = item;
-            self.count = place + 1;
-            return true;
-        }
-        if place >= self.items.capacity() && !reserve(&mut self.items, before, used, left) {
+        if !reserve(&mut self.items, before, used, left) {
             return false;
         }
         self.items.push_reserved(item);
@@ -75,7 +82,7 @@ impl Renewed {
         true
     }
 
-    /// The new items. The others are dropped.
+    /// The new items. What stands behind them is dropped: old ones, or one that was begun and refused.
     pub fn into_items(self) -> Vec<Value>
         ensures { result.items ≡ new_items self }
     {
