@@ -24,3 +24,4 @@ pub mod PartsOpenLemmas
 pub mod CutLemmas
 pub mod OthersLemmas
 pub mod ShortLemmas
+pub mod RunLemmas

@@ -41,7 +41,7 @@ from_stack kind s levels frames taken string octets total rest deep same place i
     (subst (λ x. CompletesBy kind x (stack s.frames.items) s.taken (string_of kind s.joined) octets total rest) deep h)))
 
 -- where it stands, by what is open
-stands_by : (kind : Kind) (s : Segments) (levels : ℕ) (first : Frame) (place : ℕ) (frames : List Frame) (string : List (Element kind)) (passed : List ℕ) → stack s.frames.items ≡ frames → string_of kind s.joined ≡ string
+pub stands_by : (kind : Kind) (s : Segments) (levels : ℕ) (first : Frame) (place : ℕ) (frames : List Frame) (string : List (Element kind)) (passed : List ℕ) → stack s.frames.items ≡ frames → string_of kind s.joined ≡ string
     → StandsIn kind levels first place frames string passed → StandsBehind kind levels first place s passed
 stands_by kind s levels first place frames string passed same is h =
     subst (λ x. StandsIn kind levels first place x (string_of kind s.joined) passed) (sym same) (subst (λ x. StandsIn kind levels first place frames x passed) (sym is) h)

@@ -1,5 +1,5 @@
 -- Lemmas on primitive encodings that two octets stand before.
-use Rattle.std.proofs.Common.{◌≡◌, ℕ, ◌+◌, ◌-◌, List, [], ◌∷◌, false, take, drop, get_or, sym, ap, ◌∙◌, subst, arith}
+use Rattle.std.proofs.Common.{◌≡◌, ℕ, ◌+◌, ◌-◌, Option, Some, None, IfSome, List, [], ◌∷◌, false, take, drop, get_or, sym, ap, ◌∙◌, subst, arith}
 use Rattle.std.specs.Prelude.{slice_range}
 use Rattle.std.proofs.Math.Seq.{take-suc, drop-cons}
 use Rattle.octets.specs.declared.tag.Tag.{Tag}
@@ -8,6 +8,11 @@ use Rattle.octets.specs.Length.{IsLength, IsShortestLength}
 use Rattle.octets.specs.Rule.{ber}
 use Rattle.octets.proofs.LengthLemmas.{IsShortestLength-short}
 use Rattle.types.specs.Form.{IsPrimitive}
+use Rattle.encoding_parts.specs.declared.frame.Frame.{Frame}
+use Rattle.encoding_parts.specs.declared.joined.Kind.{Kind}
+use Rattle.encoding_parts.specs.declared.segments.Segments.{Segments}
+use Rattle.encoding_parts.specs.Joined.{segment_of}
+use Rattle.encoding_parts.specs.Segments.{IsShortSegment}
 use Rattle.encoding_parts.specs.Head.{IsPrimitiveAt, IsReadTag, IsShortPrimitive}
 use Rattle.encoding_parts.proofs.HeadLemmas.{IsPrimitive-from_parts}
 
@@ -39,3 +44,13 @@ short_at tag end taken room count octets same h =
       fits = omega (arith, same, h.fits, h.counted);
       primitive = subst (λ n. IsPrimitive ber tag (slice_range octets 2 n) (take n octets)) is all;
     }
+
+-- a segment that was found stands there, where no bits are unused
+pub short_segment : (kind : Kind) (s : Segments) (f : Frame) (tag : Tag) (room : ℕ) (octets : List ℕ) (found : Option ℕ) → tag ≡ segment_of kind → room ≡ f.end - s.taken → s.joined.unused ≡ 0 → IfSome found (IsShortPrimitive tag room octets) → IfSome found (IsShortSegment kind s f octets)
+short_segment kind s f tag room octets None is same whole h = tt
+short_segment kind s f tag room octets (Some used) is same whole h = record {
+  some = omega (arith, h.counted);
+  whole = whole;
+  tagged = subst (λ t. IsReadTag t f.end s.taken octets false 1) is (short_tag tag f.end s.taken room used octets same h);
+  place = subst (λ t. IsPrimitiveAt t f.end s.taken octets (slice_range octets 2 used) used) is (short_at tag f.end s.taken room used octets same h);
+}

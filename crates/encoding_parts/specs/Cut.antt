@@ -1,5 +1,5 @@
 -- Octets that end inside a part of an encoding: `taken` octets stand before them, and what holds the part ends at `end`.
-use Rattle.std.specs.Prelude.{◌≡◌, ◌⊎◌, ℕ, ◌+◌, ◌-◌, ◌<◌, ◌≤◌, Bool, true, false, List, [], ◌∷◌, ◌++◌, length, Result, Err, IfOk, IfErr}
+use Rattle.std.specs.Prelude.{◌≡◌, ◌⊎◌, ℕ, ◌+◌, ◌-◌, ◌<◌, ◌≤◌, Bool, true, false, List, [], ◌∷◌, ◌++◌, length, Result, Err, IfOk, IfErr, OnOk}
 use Rattle.octets.specs.declared.tag.Tag.{Tag}
 use Rattle.octets.specs.Front.{HasFront, Begins}
 use Rattle.octets.specs.Identifier.{IsIdentifier, IsSomeIdentifier}
@@ -88,3 +88,4 @@ pub record Advances (kind : Kind) (old new : Segments) (frame : Frame) (octets :
   pub passed : IfOk result (Passes kind old new octets)
   pub refused : IfErr result (Refuses (CanComplete kind old) (IsCutInside kind old frame) octets)
   pub unchanged : result ≡ Err Truncated → new ≡ old
+  pub frames : OnOk result (new.frames.items ≡ old.frames.items)

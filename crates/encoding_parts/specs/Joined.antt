@@ -57,6 +57,11 @@ AreHeld Octets octets unused = AreOctetsHeld octets unused
 abbrev pub IsHeld : Kind → Joined → Type 0
 IsHeld kind joined = AreHeld kind joined.octets.items joined.unused
 
+-- nothing of the string has changed
+pub record HoldsSame (old new : Joined) : Type 0 where
+  pub octets : new.octets.items ≡ old.octets.items
+  pub unused : new.unused ≡ old.unused
+
 -- a piece has come
 pub record IsJoined (kind : Kind) (old new : Joined) (contents : List ℕ) : Type 0 where
   pub piece : List (Element kind)

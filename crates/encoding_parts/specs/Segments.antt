@@ -1,12 +1,12 @@
 -- What is known of a constructed string whose parts are being read.
-use Rattle.std.specs.Prelude.{◌≡◌, ℕ, ◌+◌, ◌<◌, ◌≤◌, Bool, false, List, [], ◌∷◌, ◌++◌, length, take, drop, reverse, All}
+use Rattle.std.specs.Prelude.{◌≡◌, ℕ, ◌+◌, ◌<◌, ◌≤◌, Bool, false, List, [], ◌∷◌, ◌++◌, length, take, drop, reverse, All, slice_range}
 use Rattle.octets.specs.declared.TheConstants.{MAX_ENCODING}
 use Rattle.types.specs.Shape.{Shape}
 use Rattle.encoding_parts.specs.declared.frame.Frame.{Frame}
 use Rattle.encoding_parts.specs.declared.joined.Kind.{Kind}
 use Rattle.encoding_parts.specs.declared.segments.Segments.{Segments}
 use Rattle.encoding_parts.specs.Completing.{Completes, IsEndOf, Opens}
-use Rattle.encoding_parts.specs.Head.{IsReadTag}
+use Rattle.encoding_parts.specs.Head.{IsPrimitiveAt, IsReadTag}
 use Rattle.encoding_parts.specs.Joined.{Element, segment_of, HoldsPiece, IsWholePiece, string_of, IsHeld, IsStringOf}
 use Rattle.encoding_parts.specs.Passed.{StandsIn}
 
@@ -86,6 +86,19 @@ pub record IsSegmentDue (kind : Kind) (segments : Segments) (frame : Frame) (oct
   pub no_end : (more : List ℕ) → ¬ EndsAt frame segments.taken (octets ++ more)
   pub whole : segments.joined.unused ≡ 0
   pub tagged : IsReadTag (segment_of kind) frame.end segments.taken octets constructed identifier
+
+-- a primitive segment stands there that two octets stand before, where one may in the innermost open encoding
+pub record IsShortSegment (kind : Kind) (segments : Segments) (frame : Frame) (octets : List ℕ) (used : ℕ) : Type 0 where
+  pub some : 2 ≤ used
+  pub whole : segments.joined.unused ≡ 0
+  pub tagged : IsReadTag (segment_of kind) frame.end segments.taken octets false 1
+  pub place : IsPrimitiveAt (segment_of kind) frame.end segments.taken octets (slice_range octets 2 used) used
+
+-- so many of the octets, which are primitive segments, were taken
+pub record IsRun (kind : Kind) (old new : Segments) (octets : List ℕ) (used : ℕ) : Type 0 where
+  pub taken : IsTaken kind old new octets used
+  pub sound : IsSound kind new
+  pub frames : new.frames.items ≡ old.frames.items
 
 -- one encoding is open of at most so many, and nothing of the string has come
 pub record IsOpened (levels : ℕ) (frame : Frame) (taken : ℕ) (segments : Segments) : Type 0 where

@@ -1,12 +1,12 @@
 //! The string that segments make (X.690 8.6.4 and 8.7.3).
 
-ghost use Rattle.std.specs.Prelude.{◌≡◌, ◌⊎◌, ◌↔◌, ◌+◌, ◌≤◌, IsTrue, [], List, length, MatchOption, OnOk, IfOk, IfErr};
+ghost use Rattle.std.specs.Prelude.{◌≡◌, ◌⊎◌, ◌↔◌, ◌+◌, ◌≤◌, IsTrue, [], List, length, MatchOption, OnErr, OnOk, IfOk, IfErr};
 ghost use Rattle.primitives.specs.Bits.{CanBeUnused};
 ghost use Rattle.types.specs.Conforms.{Conforms};
 ghost use Rattle.types.specs.Refusal.{IsFinal};
 ghost use Rattle.types.specs.View.{ty_view, value_view};
 ghost use Rattle.encoding_parts.specs.Contents.{IsOfContents};
-ghost use Rattle.encoding_parts.specs.Joined.{Element, HoldsPiece, IsHeld, IsJoined, segment_of, string_of, value_of, IsHeldFor, IsNoString, IsStringOf};
+ghost use Rattle.encoding_parts.specs.Joined.{Element, HoldsPiece, HoldsSame, IsHeld, IsJoined, segment_of, string_of, value_of, IsHeldFor, IsNoString, IsStringOf};
 
 use crate::contents::text_of;
 use octets::{Class, Tag};
@@ -92,6 +92,7 @@ impl Joined {
         ensures light { OnOk result (length self.new.octets.items ≤ length self.old.octets.items + length contents.now) }
         ensures none { result ≡ Err Refusal.Contents →
             (piece : List (Element kind)) → ¬ HoldsPiece kind piece contents.now }
+        ensures unchanged { OnErr result (HoldsSame self.old self.new) }
         ensures numbers { IfErr result (λ refusal.
             (refusal ≡ Refusal.Contents) ⊎ (refusal ≡ Refusal.NoMemory)) }
     {
@@ -105,8 +106,16 @@ impl Joined {
         requires held { IsHeld Kind.Octets self.old }
         ensures joined { OnOk result (IsJoined Kind.Octets self.old self.new contents.now) }
         ensures light { OnOk result (length self.new.octets.items ≤ length self.old.octets.items + length contents.now) }
+        ensures unchanged { OnErr result (HoldsSame self.old self.new) }
         ensures numbers { IfErr result (λ refusal. refusal ≡ Refusal.NoMemory) }
     {
+        // The copying of octets is a call, and a single one needs none.
+        if let [octet] = contents {
+            return match self.octets.push(*octet) {
+                Ok(()) => Ok(()),
+                Err(_) => Err(Refusal::NoMemory),
+            };
+        }
         match self.octets.extend_from_slice(contents) {
             Ok(()) => Ok(()),
             Err(_) => Err(Refusal::NoMemory),
@@ -120,6 +129,7 @@ impl Joined {
         ensures light { OnOk result (length self.new.octets.items ≤ length self.old.octets.items + length contents.now) }
         ensures none { result ≡ Err Refusal.Contents →
             (piece : List (Element Kind.Bits)) → ¬ HoldsPiece Kind.Bits piece contents.now }
+        ensures unchanged { OnErr result (HoldsSame self.old self.new) }
         ensures numbers { IfErr result (λ refusal.
             (refusal ≡ Refusal.Contents) ⊎ (refusal ≡ Refusal.NoMemory)) }
     {

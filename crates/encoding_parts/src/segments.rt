@@ -1,6 +1,6 @@
 //! A constructed string, read part by part.
 
-ghost use Rattle.std.specs.Prelude.{◌≡◌, ◌≢◌, ◌↔◌, IsTrue, ◌+◌, ◌<◌, ◌≤◌, ◌++◌, ℕ, List, [], true, false, take, length, slice_range, IfOk, IfErr, OnOk, MatchOption, ◌⊎◌};
+ghost use Rattle.std.specs.Prelude.{◌≡◌, ◌≢◌, ◌↔◌, IsTrue, ◌+◌, ◌<◌, ◌≤◌, ◌++◌, ℕ, List, [], true, false, take, length, slice_range, IfOk, IfErr, IfSome, OnOk, MatchOption, ◌⊎◌};
 ghost use Rattle.octets.specs.declared.TheConstants.{MAX_ENCODING};
 ghost use Rattle.octets.specs.declared.tag.Tag.{Tag};
 ghost use Rattle.octets.specs.Identifier.{IsIdentifier};
@@ -12,7 +12,7 @@ ghost use Rattle.encoding_parts.specs.Cut.{Advances, IsCutInside, IsEndCut, IsSt
 ghost use Rattle.encoding_parts.specs.Head.{IsPrimitiveAt};
 ghost use Rattle.encoding_parts.specs.Joined.{segment_of};
 ghost use Rattle.encoding_parts.specs.Refuses.{Refuses};
-ghost use Rattle.encoding_parts.specs.Segments.{BeginsAboveZero, CanComplete, EndsAt, IsOpened, IsSegmentDue, IsSound, IsTaken, IsTop, Passes};
+ghost use Rattle.encoding_parts.specs.Segments.{BeginsAboveZero, CanComplete, EndsAt, IsOpened, IsRun, IsSegmentDue, IsShortSegment, IsSound, IsTaken, IsTop, Passes};
 
 use crate::frame::{Frame, INLINE_FRAMES, close, open, top};
 use crate::head::{END_OF_CONTENTS, read_tag, refusal_inside};
@@ -67,8 +67,8 @@ impl Segments {
     }
 
     /// Takes what stands next at the front of `octets`, and answers how many octets it has: the end of the
-    /// innermost open encoding, a primitive segment, or the identifier octets and length octets of a constructed
-    /// one (X.690 8.6.4 and 8.7.3). After `Truncated` nothing has been taken.
+    /// innermost open encoding, a primitive segment or several that two octets each stand before, or the identifier
+    /// octets and length octets of a constructed one (X.690 8.6.4 and 8.7.3). After `Truncated` nothing has been taken.
     ///
     /// Refused with `Truncated` where octets are missing, with another of the refusals 2 to 11 where no octets
     /// after these complete the string, and with `NoMemory`: what is joined takes memory, and so do more than
@@ -133,11 +133,9 @@ impl Segments {
         ensures refused { IfErr result (Refuses (CanComplete kind self.old) (IsCutInside kind self.old frame) octets.now) }
         ensures unchanged { result ≡ Err Refusal.Truncated → self.new ≡ self.old }
     {
-        if self.joined.unused == 0 {
-            let room = frame.end.saturating_sub(self.taken);
-            if let Some(end) = short_primitive(segment_tag(kind), room, octets) {
-                return self.join(kind, frame, octets, &octets[2..end], end);
-            }
+        if let Some(end) = self.short(kind, frame, octets) {
+            let used = self.join(kind, frame, octets, &octets[2..end], end)?;
+            return Ok(used + self.join_run(kind, frame, &octets[used..]));
         }
         let (constructed, identifier) = read_tag(segment_tag(kind), frame.end, self.taken, octets)?;
         if self.joined.unused != 0 {
@@ -148,6 +146,38 @@ impl Segments {
         }
         let (start, end) = read_contents_place(frame.end, self.taken, identifier, octets)?;
         self.join(kind, frame, octets, &octets[start..end], end)
+    }
+
+    // How many octets the primitive segment at the front has, if two octets stand before its contents octets.
+    #[inline(always)]
+    fn short(&self, kind: Kind, frame: Frame, octets: &[u8]) -> Option<usize>
+        ensures { IfSome result (IsShortSegment kind self.now frame octets.now) }
+    {
+        if self.joined.unused > 0 {
+            return None;
+        }
+        let room = frame.end.saturating_sub(self.taken);
+        short_primitive(segment_tag(kind), room, octets)
+    }
+
+    // Takes the short primitive segments that follow one another at the front, and answers how many octets they have.
+    // One that is refused, or for which there is no memory, is left to the call that finds it first, which says why.
+    fn join_run(&mut self, kind: Kind, frame: Frame, octets: &[u8]) -> usize
+        requires top { IsTop frame self.old.frames.items }
+        requires sound { IsSound kind self.old }
+        ensures run { IsRun kind self.old self.new octets.now result }
+    {
+        let mut at = 0;
+        while let Some(end) = self.short(kind, frame, &octets[at..]) {
+            match self.joined.join(kind, &octets[at + 2..at + end]) {
+                Ok(()) => {
+                    self.taken += end;
+                    at += end;
+                }
+                Err(_) => break,
+            }
+        }
+        at
     }
 
     // Takes the primitive segment of these contents octets, which ends behind so many octets.

@@ -21,7 +21,7 @@ returns-in_err-join c =
           said.none (ap Err contents) found.0 found.1))
       | inr memory ↦ subst (Refuses (CanComplete c.args.kind c.args.self.now) (IsCutInside c.args.kind c.args.self.now c.args.frame) octets) (sym memory) (refused_for_memory _ _ _)
     ]) in
-    record { passed = search rules; refused = refused; unchanged = search rules }
+    record { passed = search rules; refused = refused; unchanged = search rules; frames = search rules }
 
 pub returns : goal.returns
 returns c =
@@ -37,4 +37,4 @@ returns c =
       sound = search rules;
       smaller = search rules;
     } in
-    record { passed = passed; refused = tt; unchanged = search rules }
+    record { passed = passed; refused = tt; unchanged = search rules; frames = refl }

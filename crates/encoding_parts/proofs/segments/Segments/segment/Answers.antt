@@ -1,12 +1,11 @@
 use Rattle.std.proofs.Common.{rules, ◌≡◌, ℕ, List, inl, [], ◌++◌, false, Err, sym, ap, subst, append-nil}
-use Rattle.std.specs.Prelude.{slice_range}
-use Rattle.encoding_parts.specs.Head.{IsPrimitiveAt, IsReadTag, IsTagWithin, IsPrimitiveWithin}
+use Rattle.encoding_parts.specs.Head.{IsTagWithin, IsPrimitiveWithin}
 use Rattle.encoding_parts.specs.Joined.{segment_of}
 use Rattle.encoding_parts.specs.Segments.{CanComplete, IsSegmentDue}
 use Rattle.encoding_parts.proofs.CutLemmas.{segment_primitive}
 use Rattle.encoding_parts.proofs.RefusesLemmas.{passed_on, refused_for_good}
 use Rattle.encoding_parts.proofs.SegmentsLemmas.{tag_of_next, tag_of_next_whole, whole_of_next, primitive_next}
-use Rattle.encoding_parts.proofs.ShortLemmas.{short_at, short_tag}
+use Rattle.encoding_parts.proofs.RunLemmas.{run_passes}
 use Rattle.encoding_parts.proofs.segments.Segments.segment.Goals as goal
 
 pub returns-in_err-constructed-clause-refused : goal.returns-in_err-constructed-clause-refused
@@ -14,9 +13,9 @@ returns-in_err-constructed-clause-refused c =
     let s = c.args.self.now in
     let octets = c.args.octets.now in
     let said = c.in_err-constructed.ensures in
-    let due : (x : List ℕ) → IsTagWithin (segment_of c.args.kind) c.args.frame.end s.taken x → IsTagWithin c.segment_tag-2.result c.args.frame.end s.taken x =
-    λ x. subst (λ t. IsTagWithin t c.args.frame.end s.taken x) (sym c.segment_tag-2.ensures) in
-    passed_on c.from_residual.result _ _ _ _ c.from_residual.ensures.1 (record {
+    let due : (x : List ℕ) → IsTagWithin (segment_of c.args.kind) c.args.frame.end s.taken x → IsTagWithin c.segment_tag.result c.args.frame.end s.taken x =
+    λ x. subst (λ t. IsTagWithin t c.args.frame.end s.taken x) (sym c.segment_tag.ensures) in
+    passed_on c.from_residual-in_err-constructed.result _ _ _ _ c.from_residual-in_err-constructed.ensures.1 (record {
       truncated = λ is h. said.truncated (ap Err is) (due octets (tag_of_next_whole c.args.kind s c.args.frame octets c.requires.top c.requires.no_end h));
       cut = λ is. inl (said.cut (ap Err is));
       never = λ final more h. said.never final more (due (octets ++ more) (tag_of_next c.args.kind s c.args.frame (octets ++ more) c.requires.top (c.requires.no_end more) h));
@@ -48,23 +47,14 @@ returns-in_err-start-clause-refused c =
     })
 
 pub join-requires-clause-due : goal.join-requires-clause-due
-join-requires-clause-due c =
-    let s = c.args.self.now in
-    let tagged = short_tag c.segment_tag.result c.args.frame.end s.taken c.saturating_sub-room.result c.in-Some.end c.args.octets.now c.saturating_sub-room.ensures c.in-Some.ensures in (
-      1,
-      record {
-        top = c.requires.top;
-        sound = c.requires.sound;
-        no_end = c.requires.no_end;
-        whole = c.if-self-eq0.true;
-        tagged = subst (λ t. IsReadTag t c.args.frame.end s.taken c.args.octets.now false 1) c.segment_tag.ensures tagged;
-      },
-    )
+join-requires-clause-due c = (
+  1,
+  record { top = c.requires.top; sound = c.requires.sound; no_end = c.requires.no_end; whole = c.in-Some.ensures.whole; tagged = c.in-Some.ensures.tagged },
+)
 
 pub join-requires-clause-place : goal.join-requires-clause-place
-join-requires-clause-place c =
-    let s = c.args.self.now in
-    let octets = c.args.octets.now in
-    let end = c.in-Some.end in
-    let at = short_at c.segment_tag.result c.args.frame.end s.taken c.saturating_sub-room.result end octets c.saturating_sub-room.ensures c.in-Some.ensures in
-    subst (λ t. IsPrimitiveAt t c.args.frame.end s.taken octets (slice_range octets 2 end) end) c.segment_tag.ensures at
+join-requires-clause-place c = c.in-Some.ensures.place
+
+pub returns-in-Some-clause-passed : goal.returns-in-Some-clause-passed
+returns-in-Some-clause-passed c =
+    run_passes c.args.kind c.args.self.now c.join.new.self c.join_run.new.self c.args.octets.now c.in_ok-used.used c.join_run.result c.in_ok-used.ensures.passed c.join_run.ensures.run
