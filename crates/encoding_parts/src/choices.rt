@@ -25,6 +25,17 @@ pub fn begins(ty: &Ty, tag: Tag) -> bool
     by_tag(alternatives, tag).is_some()
 }
 
+// Whether an encoding of the type can begin with the tag, without a call but of a CHOICE: any other type has one tag.
+#[inline(always)]
+pub(crate) fn can_begin(ty: &Ty, tag: Tag) -> bool
+    ensures { IsTrue result ↔ Contains (first_tags (ty_view ty.now)) tag }
+{
+    match ty.tag() {
+        Some(own) => own == tag,
+        None => begins(ty, tag),
+    }
+}
+
 /// The alternative whose encodings can begin with the tag, and its place. None where there is no such alternative.
 /// Those whose numbers follow one another are not searched. Takes no memory.
 #[cycle(choices)]

@@ -10,7 +10,7 @@ ghost use Rattle.types.specs.View.{ty_view, value_view, requirement_view};
 ghost use Rattle.encoding_parts.specs.HeldParts.{come_view, members_view, IsOfDue, IsOfParts};
 ghost use Rattle.encoding_parts.specs.Parts.{IsVacant, IsSlotOf, IsSettled, IsSetComponentTaken, IsValueOf, Parts};
 
-use crate::choices::begins;
+use crate::choices::{begins, can_begin};
 use crate::slots::clear;
 use octets::{Class, Tag};
 use types::{Field, Presence, Refusal, Ty, Value, are_equal, may_be_absent};
@@ -32,7 +32,25 @@ impl<'a> SetComponents<'a> {
     ///
     /// Refused with `Repeated` where it has come, with `Identifier` where all have, and else as `not_due` says. Takes no
     /// memory.
+    #[inline(always)]
     pub fn due(&self, tag: Tag) -> Result<(usize, &'a Ty), Refusal>
+        ensures value { IfOk result (λ p. IsVacant (come_view self.now) p.0 (ty_view p.1.now)
+            × Contains (first_tags (ty_view p.1.now)) tag) }
+        ensures never { IfErr result (λ refusal. (which : ℕ) (type : Shape) →
+            IsVacant (come_view self.now) which type → ¬ Contains (first_tags type) tag) }
+        ensures numbers { IfErr result IsOfDue }
+    {
+        let before = self.behind.saturating_sub(2);
+        match due_at(self.fields, self.slots.as_slice(), before, tag) {
+            Some(found) => Ok(found),
+            None => self.due_anywhere(tag),
+        }
+    }
+
+    // Which component at any place begins with the tag and has not come: those behind the one that came last are tried
+    // first. A call of its own, out of the way of components that come in reverse.
+    #[inline(never)]
+    fn due_anywhere(&self, tag: Tag) -> Result<(usize, &'a Ty), Refusal>
         ensures value { IfOk result (λ p. IsVacant (come_view self.now) p.0 (ty_view p.1.now)
             × Contains (first_tags (ty_view p.1.now)) tag) }
         ensures never { IfErr result (λ refusal. (which : ℕ) (type : Shape) →
@@ -41,9 +59,6 @@ impl<'a> SetComponents<'a> {
     {
         let fields = self.fields;
         let slots = self.slots.as_slice();
-        if let Some(found) = due_at(fields, slots, self.behind.saturating_sub(2), tag) {
-            return Ok(found);
-        }
         let start = self.behind.min(fields.len()).min(slots.len());
         if let Some((place, ty)) = vacant(&fields[start..], &slots[start..], tag) {
             return Ok((start + place, ty));
@@ -99,6 +114,7 @@ impl<'a> SetComponents<'a> {
 }
 
 // The component at the place, if it begins with the tag and has not come.
+#[inline(always)]
 fn due_at<'a>(
     fields: &'a [Field],
     slots: &[Option<Value>],
@@ -137,10 +153,11 @@ fn vacant<'a>(fields: &'a [Field], slots: &[Option<Value>], tag: Tag) -> Option<
 }
 
 // Whether the component begins with the tag and has not come.
+#[inline(always)]
 fn is_due(field: &Field, slot: &Option<Value>, tag: Tag) -> bool
     ensures { IsTrue result ↔ ((slot.now ≡ None) × Contains (first_tags (ty_view field.now.ty)) tag) }
 {
-    slot.is_none() && begins(&field.ty, tag)
+    slot.is_none() && can_begin(&field.ty, tag)
 }
 
 // Why no component that has not come begins with the tag.
