@@ -13,6 +13,7 @@ pub mod SimpleLemmas
 pub mod NodeLemmas
 pub mod NodeSizeLemmas
 pub mod StepLemmas
+pub mod WordLemmas
 pub mod WritableLemmas
 pub mod TagOrderLemmas
 pub mod TyLemmas

@@ -62,13 +62,13 @@ size_by_bits negative distance bits contents fits some h =
           absurd (omega (arith, least, eight_bits (length contents), even, some, (IsComplement-from negative distance contents h).half))
     ]
 
-pub few_bits : (distance bits : ℕ) → distance < 2 ^ 127 → 2 ^ bits ≤ 2 * distance + 1 → bits ≤ 127
-few_bits distance bits fits some =
-    elim (cases_lt bits 128) [
+pub few_bits : (most distance bits : ℕ) → distance < 2 ^ most → 2 ^ bits ≤ 2 * distance + 1 → bits ≤ most
+few_bits most distance bits fits some =
+    elim (cases_lt bits (suc most)) [
       | inl few ↦ omega (arith, few)
       | inr many ↦
-          let least : 2 ^ 128 ≤ 2 ^ bits = pow-le-pow_right {n = 2} (omega arith) {i = 128} {j = bits} many in
-          absurd (omega (arith, least, some, fits))
+          let least : 2 ^ suc most ≤ 2 ^ bits = pow-le-pow_right {n = 2} (omega arith) {i = suc most} {j = bits} many in
+          absurd (omega (arith, least, pow-suc 2 most, some, fits))
     ]
 
 -- so many octets, and those that are missing of sixteen
@@ -108,7 +108,7 @@ moved_bits (negsuc n) rest contents h fits some whole =
     moved_below (number_of 256 contents) n (256 ^ length contents) rest value some whole
 
 -- the bits of a number, of which the contents octets have moved to the front of sixteen
-contents_first : (number : ℤ) (count : ℕ) (contents : List ℕ) → FitsSigned w128 number → count ≤ 16 → IsInteger number contents → length contents ≡ count → (cast_unsigned w128 number * 2 ^ (8 * (16 - count))) % 2 ^ 128 ≡ number_of 256 contents * 256 ^ (16 - count)
+pub contents_first : (number : ℤ) (count : ℕ) (contents : List ℕ) → FitsSigned w128 number → count ≤ 16 → IsInteger number contents → length contents ≡ count → (cast_unsigned w128 number * 2 ^ (8 * (16 - count))) % 2 ^ 128 ≡ number_of 256 contents * 256 ^ (16 - count)
 contents_first number count contents fits few h size =
     let rest = 256 ^ (16 - count) in
     let bits : 2 ^ (8 * (16 - count)) ≡ rest = eight_bits (16 - count) in
@@ -127,7 +127,7 @@ octet_at octets below i =
       | inr past ↦ let none : get_or octets i 0 ≡ 0 = get_or_past octets i 0 past in omega (arith, none)
     ]
 
-word_of : (octets : List ℕ) (word : ℕ) → length octets ≡ 8 → All (λ octet. octet < 256) octets → word ≡ number_of 256 octets → to_be_bytes w64 word ≡ octets
+pub word_of : (octets : List ℕ) (word : ℕ) → length octets ≡ 8 → All (λ octet. octet < 256) octets → word ≡ number_of 256 octets → to_be_bytes w64 word ≡ octets
 word_of octets word size below is = be_bytes_8 octets word size (octet_at octets below) (is ∙ from_eight octets size)
 
 -- sixteen octets that begin with these, and the two words that they are

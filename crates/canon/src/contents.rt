@@ -1,9 +1,9 @@
 //! Contents octets of the values whose encodings are primitive.
 
-ghost use Rattle.std.specs.Prelude.{◌≡◌, ◌≤◌, ◌<◌, ◌*◌, ◌^◌, ℕ, List, length, OnOk, OnErr};
+ghost use Rattle.std.specs.Prelude.{Bool, ◌≡◌, ◌≤◌, ◌<◌, ◌*◌, ◌^◌, ℕ, List, length, OnOk, OnErr};
 ghost use Rattle.octets.specs.Base128.{IsBase128};
 ghost use Rattle.octets.specs.Front.{Appends};
-ghost use Rattle.primitives.specs.Integer.{IsInteger};
+ghost use Rattle.primitives.specs.Integer.{IsInteger, number_at};
 ghost use Rattle.primitives.specs.Oid.{AreSubidentifiers, IsOid, IsOidValue};
 ghost use Rattle.types.specs.View.{value_view};
 ghost use Rattle.canon.specs.Rule.{rule_of};
@@ -75,9 +75,17 @@ pub(crate) fn size_of_integer(number: i128) -> usize
     ensures at_least { 1 ≤ result }
     ensures at_most { result ≤ 16 }
 {
-    // A bit for the sign, and those of how far the number stands above 0, or below -1.
+    // A bit for the sign, and those of the distance.
+    (128 - distance_of(number).leading_zeros() as usize) / 8 + 1
+}
+
+// How far a number stands above 0, or below -1.
+pub(crate) fn distance_of(number: i128) -> u128
+    ensures distance { (negative : Bool) × (number ≡ number_at negative result) }
+    ensures near { result < 2 ^ 127 }
+{
     let distance = if number < 0 { -1 - number } else { number };
-    (128 - (distance as u128).leading_zeros() as usize) / 8 + 1
+    distance as u128
 }
 
 // How many contents octets an OBJECT IDENTIFIER has.

@@ -1,18 +1,78 @@
 //! Encodings of an INTEGER and of an ENUMERATED number (X.690 8.3 and 8.4): contents octets by words of eight.
 
-ghost use Rattle.std.specs.Prelude.{◌≡◌, ◌≤◌, ◌<◌, ◌*◌, ◌^◌, ◌-◌, ◌++◌, ℕ, List, All, length, OnOk, OnErr};
+ghost use Rattle.std.specs.Prelude.{Bool, ◌≡◌, ◌≤◌, ◌<◌, ◌*◌, ◌^◌, ◌-◌, ◌++◌, ℕ, List, All, length, OnOk, OnErr};
 ghost use Rattle.std.specs.Int.{w64, to_be_bytes};
 ghost use Rattle.octets.specs.Digits.{number_of};
+ghost use Rattle.primitives.specs.Integer.{IsInteger, number_at};
 ghost use Rattle.canon.specs.Leaf.{IsNumberEncoding};
 ghost use Rattle.canon.specs.Part.{Keeps};
 ghost use Rattle.canon.specs.Writes.{Writes};
 
-use crate::contents::size_of_integer;
-use crate::heads::put_primitive_head;
+use crate::contents::{distance_of, size_of_integer};
+use crate::heads::{leading_octet, put_primitive_head};
 use octets::{NoMemory, Tag};
 
-// Appends the encoding of a number under `tag`.
+// Appends the encoding of a number under `tag`: mostly a word of eight octets has all of it.
 pub(crate) fn put_number(tag: Tag, number: i128, out: &mut Vec<u8>) -> Result<(), NoMemory>
+    ensures { Writes (IsNumberEncoding tag number) result out.old.items out.new.items }
+{
+    let distance = distance_of(number);
+    if tag.number >= 31 || distance >= 1 << 47 {
+        return put_any_number(tag, number, out);
+    }
+    let count = size_of_few(distance as u64);
+    // Identifier octet, length octet, at most six contents octets, and then zeros.
+    let low = (number.cast_unsigned() % (1 << 64)) as u64;
+    let contents = (low << (64 - 8 * count)) >> 16;
+    let word = (u64::from(leading_octet(tag)) << 56) + ((count as u64) << 48) + contents;
+    put_few(2 + count, word, out)
+}
+
+// How many contents octets a number has that stands so far above 0, or below -1.
+fn size_of_few(distance: u64) -> usize
+    requires { distance < 2 ^ 47 }
+    ensures size { (negative : Bool) (contents : List ℕ) → IsInteger (number_at negative distance) contents →
+        length contents ≡ result }
+    ensures at_least { 1 ≤ result }
+    ensures at_most { result ≤ 6 }
+{
+    (63 - (2 * distance + 1).leading_zeros() as usize) / 8 + 1
+}
+
+// Appends the first `count` of eight octets: mostly there is room for all eight.
+#[inline(always)]
+fn put_few(count: usize, word: u64, out: &mut Vec<u8>) -> Result<(), NoMemory>
+    requires few { count ≤ 8 }
+    ensures appended { OnOk result ((octets : List ℕ) → All (λ octet. octet < 256) octets → length octets ≡ count →
+        word ≡ number_of 256 octets * 256 ^ (8 - count) → out.new.items ≡ out.old.items ++ octets) }
+    ensures kept { OnErr result (Keeps out.old.items out.new.items) }
+{
+    if out.capacity() - out.len() < 8 {
+        return grow_by_few(count, word, out);
+    }
+    let end = out.len() + count;
+    put_word(word, out)?;
+    out.truncate(end);
+    Ok(())
+}
+
+// Appends them, and makes room for them.
+#[inline(never)]
+fn grow_by_few(count: usize, word: u64, out: &mut Vec<u8>) -> Result<(), NoMemory>
+    requires few { count ≤ 8 }
+    ensures appended { OnOk result ((octets : List ℕ) → All (λ octet. octet < 256) octets → length octets ≡ count →
+        word ≡ number_of 256 octets * 256 ^ (8 - count) → out.new.items ≡ out.old.items ++ octets) }
+    ensures kept { OnErr result (Keeps out.old.items out.new.items) }
+{
+    let end = out.len() + count;
+    put_word(word, out)?;
+    out.truncate(end);
+    Ok(())
+}
+
+// Appends the encoding of a number of any size, under any tag.
+#[inline(never)]
+fn put_any_number(tag: Tag, number: i128, out: &mut Vec<u8>) -> Result<(), NoMemory>
     ensures { Writes (IsNumberEncoding tag number) result out.old.items out.new.items }
 {
     let count = size_of_integer(number);

@@ -1,19 +1,22 @@
-use Rattle.std.proofs.Common.{◌≡◌, ◌∙◌, ◌*◌, ◌%◌, ◌^◌, ◌-◌, ℤ, List, ℕ, length, ap, subst}
+use Rattle.std.proofs.Common.{◌≡◌, ◌∙◌, ◌*◌, ◌/◌, ◌%◌, ◌^◌, ◌-◌, ℕ, List, length, sym, ap, subst, arith}
 use Rattle.std.specs.Int.{w128, cast_unsigned}
 use Rattle.std.proofs.lemmas.Int.{to_z-of_z}
 use Rattle.primitives.specs.Integer.{IsInteger}
-use Rattle.canon.proofs.NumberLemmas.{number_put}
+use Rattle.canon.proofs.WordLemmas.{number_put_as_word}
 use Rattle.canon.proofs.numbers.put_number.Goals as goal
 
 pub returns : goal.returns
 returns c =
     let tag = c.args.tag in
     let number = c.args.number in
-    let count = c.size_of_integer-count.result in
+    let count = c.size_of_few-count.result in
+    let first = c.leading_octet.result in
+    let at = c.distance_of-distance.ensures.distance in
     let is = to_z-of_z w128 number c.ranges.number in
-    let sized = subst (λ (n : ℤ). (contents : List ℕ) → IsInteger n contents → length contents ≡ count) is c.size_of_integer-count.ensures.size in
+    let sized : (contents : List ℕ) → IsInteger number contents → length contents ≡ count = λ contents h. c.size_of_few-count.ensures.size at.0 contents (subst (λ n. IsInteger n contents) at.1 (subst (λ n. IsInteger n contents) (sym is) h)) in
     let bits : c.cast_unsigned.result ≡ cast_unsigned w128 number = c.cast_unsigned.ensures ∙ ap (cast_unsigned w128) is in
-    let moved = ap (λ b. (b * 2 ^ (8 * (16 - count))) % 2 ^ 128) bits in
-    let old : List ℕ = c.args.out.now.items in
-    let mid : List ℕ = c.put_primitive_head.new.out.items in
-    number_put c.put_first.result tag number count _ old mid c.put_first.new.out.items c.ranges.number c.size_of_integer-count.ensures.at_most moved sized c.in_ok-put_primitive_head.ensures.appended c.put_first.ensures.appended c.put_first.ensures.kept
+    let lead : (c.from.result * 2 ^ 56) % 2 ^ 64 ≡ first * 2 ^ 56 = omega (arith, c.from.ensures, c.leading_octet.type_inv) in
+    let size : (count * 2 ^ 48) % 2 ^ 64 ≡ count * 2 ^ 48 = omega (arith, c.size_of_few-count.ensures.at_most) in
+    let rest = ap (λ b. ((b % 2 ^ 64 * 2 ^ (64 - 8 * count)) % 2 ^ 64) / 2 ^ 16) bits in
+    number_put_as_word c.put_few.result tag number first count _ c.args.out.now.items c.put_few.new.out.items (omega (arith, c.if-tag-ge31.false)) c.leading_octet.ensures c.leading_octet.type_inv c.ranges.number c.size_of_few-count.ensures.at_most
+    (omega (arith, lead, size, rest)) sized c.put_few.ensures.appended c.put_few.ensures.kept
