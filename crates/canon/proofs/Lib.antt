@@ -16,6 +16,7 @@ pub mod StepLemmas
 pub mod WordLemmas
 pub mod WritableLemmas
 pub mod TagOrderLemmas
+pub mod TurnedLemmas
 pub mod TyLemmas
 pub mod PutLemmas
 pub mod OpeningLemmas

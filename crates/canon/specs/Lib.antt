@@ -10,3 +10,4 @@ pub mod Part
 pub mod Writes
 pub mod Ordered
 pub mod Laws
+pub mod Turned

@@ -64,11 +64,11 @@ fn put_high_head(tag: Tag, contents: u8, out: &mut Vec<u8>) -> Result<(), NoMemo
 
 // Appends two octets: mostly there is room for them.
 #[inline(always)]
-fn put_pair(first: u8, second: u8, out: &mut Vec<u8>) -> Result<(), NoMemory>
+pub(crate) fn put_pair(first: u8, second: u8, out: &mut Vec<u8>) -> Result<(), NoMemory>
     ensures appended { OnOk result (out.new.items ≡ out.old.items ++ first ∷ second ∷ []) }
     ensures unchanged { OnErr result (out.new.items ≡ out.old.items) }
 {
-    if out.capacity().saturating_sub(out.len()) < 2 {
+    if out.capacity() - out.len() < 2 {
         return grow_by_pair(first, second, out);
     }
     out.push_reserved(first);
@@ -187,8 +187,8 @@ fn put_long_length(place: usize, contents: usize, out: &mut Vec<u8>) -> Result<(
     Ok(())
 }
 
-// Moves what stands behind the `count` octets at `place` before them: a few octets.
-fn bring_forward(place: usize, count: usize, out: &mut Vec<u8>)
+// Moves what stands behind the `count` octets at `place` before them.
+pub(crate) fn bring_forward(place: usize, count: usize, out: &mut Vec<u8>)
     requires { place + count ≤ length out.old.items }
     ensures { IsBroughtForward place count out.old.items out.new.items }
 {
@@ -196,12 +196,16 @@ fn bring_forward(place: usize, count: usize, out: &mut Vec<u8>)
     last_to_front(few, &mut out[place..]);
 }
 
-// Moves the last octets before the others, as `rotate_right` does. One octet at a time costs less here: for more
-// than one std clears room on the stack.
+// Moves the last octets before the others, as `rotate_right` does. Of a few, one octet at a time costs less: for more
+// than one std clears room on the stack, and it moves the others quickly only by 16 octets and more.
 fn last_to_front(few: usize, octets: &mut [u8])
     requires { few ≤ length octets.old }
     ensures { octets.new ≡ drop (length octets.old - few) octets.old ++ take (length octets.old - few) octets.old }
 {
+    if few >= 16 {
+        octets.rotate_right(few);
+        return;
+    }
     for done in 0..few {
         octets.rotate_right(1);
     }

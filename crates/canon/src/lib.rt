@@ -1,8 +1,9 @@
 //! Writers of the canonical encodings: CER and DER (X.690 clauses 9 to 11).
 //!
 //! Each gives a value one encoding, written from the first octet to the last: DER's length of a
-//! constructed encoding is put in its place once the contents octets stand, and the parts of a SET or SET
-//! OF are put in order once they stand. Where an encoding is too long or memory runs out its octets are
+//! constructed encoding is put in its place once the contents octets stand, the heads of many explicit tags
+//! around long contents octets before these at once, and the parts of a SET or SET OF are put in order once
+//! they stand. Where an encoding is too long or memory runs out its octets are
 //! counted, without memory, so that the latter never hides the former.
 #![tactic(auto)]
 
@@ -26,6 +27,7 @@ mod size_of;
 mod sizes;
 mod spans;
 mod tags;
+mod turned;
 mod writing;
 
 pub use canon::Canon;

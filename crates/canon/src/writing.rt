@@ -1,14 +1,17 @@
 //! Whole values, written from the first octet to the last. The parts of a SET or SET OF are put in order once
 //! they stand.
 
-ghost use Rattle.std.specs.Prelude.{map, IfOk, OnErr};
+ghost use Rattle.std.specs.Prelude.{◌≡◌, map, IsTrue, IfOk, OnErr};
+ghost use Rattle.octets.specs.Rule.{der};
 ghost use Rattle.types.specs.Encoding.{IsEncoding};
 ghost use Rattle.types.specs.FirstTags.{tags_of_components, AreDistinct};
 ghost use Rattle.types.specs.Leaf.{IsLeaf};
+ghost use Rattle.types.specs.Shape.{Shape};
 ghost use Rattle.types.specs.View.{ty_view, value_view, components_view, slots_view};
 ghost use Rattle.canon.specs.Node.{ArePartsOf, AreItems, AreItemsInOrder, AreComponents, AreComponentsByTag};
 ghost use Rattle.canon.specs.Part.{IsPut, Keeps};
 ghost use Rattle.canon.specs.Rule.{rule_of};
+ghost use Rattle.canon.specs.Turned.{IsTurned};
 ghost use Rattle.canon.specs.Writes.{IsWritable, AreWritable, AreWritableSlots, Writes};
 
 use crate::heads::{put_closing, put_opening};
@@ -18,7 +21,8 @@ use crate::parts::{chosen_in, items_in, slots_in};
 use crate::rule::CanonicalRule;
 use crate::spans::{Keyed, Span, arrange, arrange_by_tag, part, with_key_of};
 use crate::tags::order_tag;
-use octets::NoMemory;
+use crate::turned::{has_tags, is_long, put_turned_head, turn_forward};
+use octets::{NoMemory, Tag};
 use std::alloc::Global;
 use types::{Field, Ty, Value};
 
@@ -57,6 +61,29 @@ fn put_constructed(
         result out.old.items out.new.items }
 {
     match ty {
+        Ty::Explicit(tag, inner) if moves_often(rule, inner, value) => {
+            put_under_tags(alloc, *tag, inner, value, out)
+        }
+        _ => put_in_place(alloc, rule, ty, value, out),
+    }
+}
+
+// Appends the same, of which each head stands where it is to be before its contents octets.
+#[cycle(writing)]
+#[inline(always)]
+fn put_in_place(
+    alloc: Global,
+    rule: CanonicalRule,
+    ty: &Ty,
+    value: &Value,
+    out: &mut Vec<u8>,
+) -> Result<(), NoMemory>
+    requires parts { ¬ IsLeaf (ty_view ty.now) }
+    requires writable { IsWritable (ty_view ty.now) (value_view value.now) }
+    ensures { Writes (IsEncoding (rule_of rule) (ty_view ty.now) (value_view value.now))
+        result out.old.items out.new.items }
+{
+    match ty {
         Ty::Choice(alternatives) => {
             let Some((which, chosen)) = chosen_in(value) else {
                 unreachable!()
@@ -73,6 +100,74 @@ fn put_constructed(
             put_closing(rule, place, out)
         }
         _ => unreachable!(),
+    }
+}
+
+// Whether long contents octets would move for each of four explicit tags or more. Under CER none move.
+fn moves_often(rule: CanonicalRule, ty: &Ty, value: &Value) -> bool
+    ensures { IsTrue result → rule_of rule ≡ der }
+{
+    match rule {
+        CanonicalRule::Cer => false,
+        CanonicalRule::Der => is_long(value) && has_tags(ty, 3),
+    }
+}
+
+// Appends the encoding under DER of a value under an explicit tag, with the heads from the inside out.
+#[cycle(writing)]
+#[inline(never)]
+fn put_under_tags(
+    alloc: Global,
+    tag: Tag,
+    ty: &Ty,
+    value: &Value,
+    out: &mut Vec<u8>,
+) -> Result<(), NoMemory>
+    requires { IsWritable (ty_view ty.now) (value_view value.now) }
+    ensures { Writes (IsEncoding der (Shape.explicit tag (ty_view ty.now)) (value_view value.now))
+        result out.old.items out.new.items }
+{
+    let start = out.len();
+    let from = put_turned_around(alloc, tag, ty, value, out)?;
+    turn_forward(start, from, out);
+    Ok(())
+}
+
+// Appends the contents octets of a value under an explicit tag and behind them, turned round, what stands before
+// them. Returns where the latter begins.
+#[cycle(writing)]
+fn put_turned_around(
+    alloc: Global,
+    tag: Tag,
+    ty: &Ty,
+    value: &Value,
+    out: &mut Vec<u8>,
+) -> Result<usize, NoMemory>
+    requires { IsWritable (ty_view ty.now) (value_view value.now) }
+    ensures put { IfOk result (IsTurned
+        (IsEncoding der (Shape.explicit tag (ty_view ty.now)) (value_view value.now)) out.old.items out.new.items) }
+    ensures kept { OnErr result (Keeps out.old.items out.new.items) }
+{
+    let start = out.len();
+    let from = put_turned(alloc, ty, value, out)?;
+    put_turned_head(tag, out.len() - start, out)?;
+    Ok(from)
+}
+
+// Appends the same of a value under no explicit tag, or some.
+#[cycle(writing)]
+fn put_turned(alloc: Global, ty: &Ty, value: &Value, out: &mut Vec<u8>) -> Result<usize, NoMemory>
+    requires { IsWritable (ty_view ty.now) (value_view value.now) }
+    ensures put { IfOk result (IsTurned
+        (IsEncoding der (ty_view ty.now) (value_view value.now)) out.old.items out.new.items) }
+    ensures kept { OnErr result (Keeps out.old.items out.new.items) }
+{
+    match ty {
+        Ty::Explicit(tag, inner) => put_turned_around(alloc, *tag, inner, value, out),
+        _ => {
+            put_value(alloc, CanonicalRule::Der, ty, value, out)?;
+            Ok(out.len())
+        }
     }
 }
 

@@ -17,4 +17,4 @@ one_more xs now new left rest next there is moved =
 pub loop-done-preserved : goal.loop-done-preserved
 loop-done-preserved c =
     let xs = c.args.octets.now in
-    one_more xs c.loop-done.octets c.rotate_right.new.self (length xs - c.loop-done.done) (length xs - (c.loop-done.done + 1)) (omega arith) (omega arith) c.loop-done.invariant c.rotate_right.ensures.after
+    one_more xs c.loop-done.octets c.rotate_right-in-loop-done.new.self (length xs - c.loop-done.done) (length xs - (c.loop-done.done + 1)) (omega arith) (omega arith) c.loop-done.invariant c.rotate_right-in-loop-done.ensures.after

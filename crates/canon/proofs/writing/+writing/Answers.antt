@@ -1,7 +1,8 @@
-use Rattle.std.proofs.Common.{true, ◌≡◌, ◌∙◌, ◌+◌, ◌<◌, ℕ, suc, List, [], ◌∷◌, ◌++◌, Option, Some, None, length, take, get_or, map, inl, inr, refl, sym, ap, subst, subst₂, arith, rules}
+use Rattle.std.proofs.Common.{true, ◌≡◌, ◌∙◌, ◌+◌, ◌-◌, ◌<◌, ℕ, suc, List, [], ◌∷◌, ◌++◌, Option, Some, None, length, take, get_or, map, inl, inr, refl, sym, ap, subst, subst₂, arith, rules}
 use Rattle.std.proofs.lemmas.List.{length-map, take_all}
 use Rattle.octets.specs.declared.tag.Tag.{Tag}
 use Rattle.octets.specs.Front.{Appends}
+use Rattle.octets.specs.Rule.{Rule, der}
 use Rattle.octets.proofs.ResultLemmas.{OnOk-map}
 use Rattle.types.specs.declared.ty.Ty.{Ty}
 use Rattle.types.specs.declared.ty.Ty as node
@@ -34,6 +35,7 @@ use Rattle.canon.proofs.SimpleLemmas.{rule_is_canonical}
 use Rattle.canon.proofs.StepLemmas.{as_many_slots, present_at}
 use Rattle.canon.proofs.ForwardLemmas.{chosen_in_choice}
 use Rattle.canon.proofs.TagPutLemmas.{LaidTo, none_laid_by_tag, present_laid, absent_laid, all_laid, tagged_cut, by_tag_made, distinct_drop}
+use Rattle.canon.proofs.TurnedLemmas.{none_turned, turned_more}
 use Rattle.canon.proofs.TyLemmas.{framed_view, leaf_of}
 use Rattle.canon.proofs.WritableLemmas.{stands_at, item_writable, part_writable}
 use Rattle.canon.proofs.WritesLemmas.{few_in_order, written_by, refused, written_around, put_as}
@@ -52,16 +54,16 @@ put_value-returns-in-Some t c =
     let alike = leaf_alike (rule_of c.args.rule) (rule_is_canonical c.args.rule) c.in-Some.tag (ty_view c.args.ty.now) (value_view c.args.value.now) (leaf_of c.in-Some.tag (ty_view c.args.ty.now) c.in-Some.ensures.leaf c.in-Some.ensures.tag) c.requires.conforms in
     written_by c.put_leaf.ensures alike.to
 
-pub put_constructed-index-requires : goal.put_constructed-index-requires
-put_constructed-index-requires t c =
+pub put_in_place-index-requires : goal.put_in_place-index-requires
+put_in_place-index-requires t c =
     let alternatives = c.in-Choice.alternatives in
     let is = ap ty_view c.in-Choice.is ∙ ty-Choice alternatives in
     let parts = choice_parts alternatives.items (value_view c.args.value.now) (subst (λ (s : Shape). Conforms s (value_view c.args.value.now)) is c.requires.writable.conforms) (subst HasGoodNodes is c.requires.writable.nodes) in
     let told = c.in-Some.ensures parts.which parts.value parts.is in
     omega (arith, told.0, parts.alternative.there, alternatives.ok.0)
 
-pub put_constructed-put_value-requires : goal.put_constructed-put_value-requires
-put_constructed-put_value-requires t c =
+pub put_in_place-put_value-requires : goal.put_in_place-put_value-requires
+put_in_place-put_value-requires t c =
     let rule = rule_of c.args.rule in
     let v = value_view c.args.value.now in
     let alternatives = c.in-Choice.alternatives in
@@ -70,8 +72,8 @@ put_constructed-put_value-requires t c =
     let here = chosen_in_choice rule alternatives.items (ty_view c.args.ty.now) v c.in-Some.which (value_view c.in-Some.chosen.now) c.index.result.now is parts (c.in-Some.ensures parts.which parts.value parts.is) c.index.ensures in
     (search (rules, node.the_lemmas, alternative.the_lemmas), here.writable)
 
-pub put_constructed-returns-in-Some : goal.put_constructed-returns-in-Some
-put_constructed-returns-in-Some t c =
+pub put_in_place-returns-in-Some : goal.put_in_place-returns-in-Some
+put_in_place-returns-in-Some t c =
     let rule = rule_of c.args.rule in
     let v = value_view c.args.value.now in
     let alternatives = c.in-Choice.alternatives in
@@ -81,8 +83,8 @@ put_constructed-returns-in-Some t c =
     let here = chosen_in_choice rule alternatives.items (ty_view c.args.ty.now) v c.in-Some.which (value_view c.in-Some.chosen.now) a is parts (c.in-Some.ensures parts.which parts.value parts.is) c.index.ensures in
     written_by c.put_value.ensures here.alike.to
 
-pub put_constructed-returns-in_ok-put_parts-in-Sequence : goal.put_constructed-returns-in_ok-put_parts-in-Sequence
-put_constructed-returns-in_ok-put_parts-in-Sequence t c =
+pub put_in_place-returns-in_ok-put_parts-in-Sequence : goal.put_in_place-returns-in_ok-put_parts-in-Sequence
+put_in_place-returns-in_ok-put_parts-in-Sequence t c =
     let rule = rule_of c.args.rule in
     let shape = ty_view c.args.ty.now in
     let v = value_view c.args.value.now in
@@ -90,8 +92,8 @@ put_constructed-returns-in_ok-put_parts-in-Sequence t c =
     written_around c.put_closing.result rule tag (ArePartsOf rule shape v) (IsEncoding rule shape v) c.in_ok-place-in-Sequence.place c.args.out.now.items c.put_opening.new.out.items c.put_parts.new.out.items c.put_closing.new.out.items c.in_ok-place-in-Sequence.ensures.opened
     c.in_ok-put_parts-in-Sequence.ensures.appended (parts_around rule tag shape v (rule_is_canonical c.args.rule) (framed_view c.args.ty.now tag c.in-Sequence.is) c.requires.writable.conforms) c.put_closing.ensures.closed c.put_closing.ensures.kept
 
-pub put_constructed-returns-in_err-put_parts-in-Sequence : goal.put_constructed-returns-in_err-put_parts-in-Sequence
-put_constructed-returns-in_err-put_parts-in-Sequence t c =
+pub put_in_place-returns-in_err-put_parts-in-Sequence : goal.put_in_place-returns-in_err-put_parts-in-Sequence
+put_in_place-returns-in_err-put_parts-in-Sequence t c =
     let old = c.args.out.now.items in
     let one = c.put_opening.new.out.items in
     refused _ c.from_residual-in_err-put_parts-in-Sequence.ensures.1
@@ -372,3 +374,24 @@ pub put_span-returns-clause-put : goal.put_span-returns-clause-put
 put_span-returns-clause-put t c =
     let put = c.in_ok-put_value.ensures.appended in
     record { octets = put.0; is = put.1; holds = put.2; start = search rules; end = search rules }
+
+pub put_constructed-returns-in-Explicit : goal.put_constructed-returns-in-Explicit
+put_constructed-returns-in-Explicit t c =
+    let v = value_view c.args.value.now in
+    let tag = c.in-Explicit.tag in
+    let inner = c.in-Explicit.inner in
+    let old = c.args.out.now.items in
+    let new = c.put_under_tags.new.out.items in
+    let is : ty_view c.args.ty.now ≡ Shape.explicit tag (ty_view inner.value) = ap ty_view c.in-Explicit.is ∙ ty-Explicit tag inner in
+    let put : Writes (IsEncoding der (Shape.explicit tag (ty_view inner.value)) v) c.put_under_tags.result old new =
+    subst (λ (e : Ty). Writes (IsEncoding der (Shape.explicit tag (ty_view e)) v) c.put_under_tags.result old new) c.deref-in-Explicit.ensures c.put_under_tags.ensures in
+    subst₂ (λ (r : Rule) (s : Shape). Writes (IsEncoding r s v) c.put_under_tags.result old new) (sym (c.moves_often.ensures c.if-moves_often.true)) (sym is) put
+
+pub put_turned-returns-in_ok-put_value-in_default : goal.put_turned-returns-in_ok-put_value-in_default
+put_turned-returns-in_ok-put_value-in_default t c =
+    record { put = none_turned _ c.args.out.now.items c.put_value.new.out.items c.len.result c.in_ok-put_value-in_default.ensures.appended (omega (arith, c.len.ensures, c.put_value.new.out.ok)); kept = tt }
+
+pub put_turned_around-returns-clause-put : goal.put_turned_around-returns-clause-put
+put_turned_around-returns-clause-put t c =
+    turned_more c.args.tag (ty_view c.args.ty.now) (value_view c.args.value.now) (c.len.result - c.len-start.result) c.in_ok-from.from c.args.out.now.items c.put_turned.new.out.items c.put_turned_head.new.out.items c.in_ok-from.ensures.put c.in_ok-put_turned_head.ensures.appended
+    (omega (arith, c.len.ensures, c.len-start.ensures, c.put_turned.new.out.ok, c.args.out.now.ok))
