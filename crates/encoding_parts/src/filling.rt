@@ -11,7 +11,7 @@ use crate::contents::read_contents;
 use crate::slots::take_bits;
 use octets::Tag;
 use primitives::{
-    is_wide_integer, read_bits_in, read_boolean, read_integer, read_oid, read_oid_into,
+    MAX_SUBIDENTIFIERS, is_wide_integer, read_bits_in, read_boolean, read_integer, read_oid_into,
 };
 use std::alloc::Global;
 use strings::{allowed, is_time};
@@ -120,13 +120,14 @@ fn fill_oid(alloc: Global, tag: Tag, contents: &[u8], value: &mut Value) -> bool
     if let Value::Oid(arcs) = value {
         return read_oid_into(contents, arcs).is_ok();
     }
-    match read_oid(alloc, contents) {
-        Ok(arcs) => {
-            *value = Value::Oid(arcs);
-            true
-        }
-        Err(_) => false,
+    // So many arcs at most, so that the vector grows once.
+    let most = contents.len().min(MAX_SUBIDENTIFIERS) + 1;
+    let mut arcs = Vec::new(alloc);
+    if arcs.reserve_exact(most).is_err() || read_oid_into(contents, &mut arcs).is_err() {
+        return false;
     }
+    *value = Value::Oid(arcs);
+    true
 }
 
 // Makes the value a BIT STRING.

@@ -48,7 +48,7 @@ pub fn emptied_slots(
 {
     let mut slots = take_slots(alloc, fields, value)?;
     for place in 0..slots.len() {
-        clear(&mut slots[place]);
+        slots[place] = None;
     }
     Ok(slots)
 }

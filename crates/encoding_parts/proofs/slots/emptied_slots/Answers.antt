@@ -9,10 +9,9 @@ loop-place-preserved c =
     let fields = c.args.fields.now in
     let slots = c.loop-place.slots.items in
     let i = c.loop-place.place in
-    let y = c.clear.new.slot in
     let so_far = c.loop-place.invariant in
     let all : c.len-place-end.result ≡ length fields = c.len-place-end.ensures ∙ c.in_ok-slots.slots.ok.0 ∙ c.in_ok-slots.ensures in
     let below : i < length fields = omega (arith, all) in (
-      take_more_set slots i y (omega (arith, below, so_far.1)) ∙ ap (λ (s : Option Value). take i slots ++ (s ∷ [])) c.clear.ensures ∙ ap (λ (l : List (Option Value)). l ++ (none_of ∷ [])) so_far.0 ∙ sym (empty_more fields i below),
-      length-set slots i y ∙ so_far.1,
+      take_more_set slots i none_of (omega (arith, below, so_far.1)) ∙ ap (λ (l : List (Option Value)). l ++ (none_of ∷ [])) so_far.0 ∙ sym (empty_more fields i below),
+      length-set slots i none_of ∙ so_far.1,
     )
