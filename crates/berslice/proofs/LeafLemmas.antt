@@ -1,5 +1,5 @@
--- Lemmas on encodings of types without parts, of values in a slot.
-use Rattle.std.proofs.Common.{◌≡◌, ◌+◌, ◌-◌, ◌<◌, ◌≤◌, ℕ, true, List, [], Option, Some, None, Result, Ok, Err, IfOk, MatchOption, length, take, drop, sym, ap, ◌∙◌, subst, arith}
+-- Lemmas on encodings of types without parts.
+use Rattle.std.proofs.Common.{◌≡◌, ◌+◌, ◌-◌, ◌<◌, ◌≤◌, ℕ, true, List, [], Some, Result, Ok, Err, IfOk, length, take, drop, sym, ap, ◌∙◌, subst, arith}
 use Rattle.std.specs.Result.{result_ok}
 use Rattle.std.proofs.Math.Seq.{take-add}
 use Rattle.std.proofs.lemmas.List.{length-drop, length-take-le, take-append-le, take-take, take_rest}
@@ -15,7 +15,7 @@ use Rattle.types.specs.Shape.{Shape, Val}
 use Rattle.types.specs.View.{value_view}
 use Rattle.encoding_parts.specs.declared.joined.Kind.{Kind}
 use Rattle.encoding_parts.specs.declared.segments.Segments.{Segments}
-use Rattle.encoding_parts.specs.Contents.{IsFilled}
+use Rattle.encoding_parts.specs.Contents.{HoldsValue}
 use Rattle.encoding_parts.specs.Joined.{value_of}
 use Rattle.encoding_parts.specs.Parts.{IsGoodType, IsPartOf}
 use Rattle.encoding_parts.specs.Segments.{stack, IsBegun, IsPassed, IsSound, IsTaken}
@@ -25,10 +25,8 @@ use Rattle.encoding_parts.proofs.WithinLemmas.{part_of_contents, usable_tag}
 use Rattle.berslice.specs.Reading.{IsRead}
 
 -- what the contents octets hold is what they encode
-pub part_held : (levels : ℕ) (type : Shape) (contents octets : List ℕ) (slot : Option Value) → IsUsable (tag_of type) → IsFilled ber type contents slot → IsPrimitive ber (tag_of type) contents octets
-    → MatchOption slot ⊥ (λ value. IsPartOf levels type (value_view value) octets)
-part_held levels type contents octets None usable held primitive = held
-part_held levels type contents octets (Some value) usable held primitive = part_of_contents levels type (value_view value) contents octets usable held.0 held.1 primitive
+pub part_held : (levels : ℕ) (type : Shape) (contents octets : List ℕ) (v : Val) → IsUsable (tag_of type) → HoldsValue ber type v contents → IsPrimitive ber (tag_of type) contents octets → IsPartOf levels type v octets
+part_held levels type contents octets v usable held primitive = part_of_contents levels type v contents octets usable held.0 held.1 primitive
 
 -- so many octets of a constructed string have been taken, of which so many had been at first
 pub record IsTakenSoFar (kind : Kind) (old new : Segments) (octets : List ℕ) (start at : ℕ) : Type 0 where
@@ -72,10 +70,10 @@ string_read levels type kind end i start used octets first last v leaf good id b
     part_of_joined levels kind type last.joined v front begun.of is conforms read.part
 
 -- what was read at the front of a front
-pub front_read : (levels : ℕ) (type : Shape) (octets : List ℕ) (slot : Option Value) (n used : ℕ) → n ≤ length octets → IsRead levels type (take n octets) slot used → IsRead levels type octets slot used
-front_read levels type octets slot n used there h =
+pub front_read : (levels : ℕ) (type : Shape) (octets : List ℕ) (value : Value) (n used : ℕ) → n ≤ length octets → IsRead levels type (take n octets) value used → IsRead levels type octets value used
+front_read levels type octets value n used there h =
     let size = length-take-le n octets there in
-    (omega (arith, h.0, size, there), subst (λ o. MatchOption slot ⊥ (λ value. IsPartOf levels type (value_view value) o)) (take-take used n octets (omega (arith, h.0, size))) h.1)
+    (omega (arith, h.0, size, there), subst (λ o. IsPartOf levels type (value_view value) o) (take-take used n octets (omega (arith, h.0, size))) h.1)
 
 -- what `ok` returns is what was answered
 pub ok_held : {A E : Type 0} (r : Result A E) (P : A → Type 0) (x : A) → IfOk r P → result_ok r ≡ Some x → P x

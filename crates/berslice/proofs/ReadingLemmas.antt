@@ -1,6 +1,6 @@
 -- Lemmas on values that are read at once.
 use Rattle.std.specs.List.{AllByRecursion, concat}
-use Rattle.std.proofs.Common.{◌≡◌, ◌≢◌, ◌+◌, ◌-◌, ◌<◌, ◌≤◌, ℕ, zero, suc, List, [], ◌∷◌, ◌++◌, Option, Some, None, Vec, Global, IfSome, MatchOption, refl, sym, ap, ◌∙◌, subst, subst₂, arith, set, take, drop, map, option_map, length, get_or, append-nil, append_assoc}
+use Rattle.std.proofs.Common.{◌≡◌, ◌≢◌, ◌+◌, ◌-◌, ◌<◌, ◌≤◌, ℕ, zero, suc, List, [], ◌∷◌, ◌++◌, Option, Some, None, Box, Vec, Global, IfSome, refl, sym, ap, ◌∙◌, subst, subst₂, arith, set, take, drop, map, option_map, length, get_or, append-nil, append_assoc}
 use Rattle.std.proofs.Math.Seq.{take-add}
 use Rattle.std.proofs.lemmas.List.{map_push, map_more, length-drop, take_all, take_rest}
 use Rattle.octets.specs.declared.tag.Tag.{Tag}
@@ -15,7 +15,7 @@ use Rattle.types.specs.FirstTags.{IsUsable, first_tags}
 use Rattle.types.specs.Form.{IsConstructed}
 use Rattle.types.specs.Encoding.{IsEncoding, standing}
 use Rattle.types.proofs.NestingLemmas.{nested_above}
-use Rattle.types.proofs.ViewLemmas.{value-Fields, value-Items, field_is}
+use Rattle.types.proofs.ViewLemmas.{value-Chosen, value-Fields, value-Items, field_is}
 use Rattle.encoding_parts.specs.HeldParts.{members_view}
 use Rattle.encoding_parts.specs.Parts.{Parts, SetComponent, IsVacant, IsValueOf, IsPartOf, IsCome, IsSlotOf, Holds, IsGoodType, IsGoodComponent}
 use Rattle.encoding_parts.proofs.ChoiceLemmas.{alternative_encodes, alternative_nodes}
@@ -39,25 +39,22 @@ one_more zero some = absurd (some refl)
 one_more (suc n) some = omega arith
 
 -- an encoding is not empty
-pub read_some : (levels : ℕ) (type : Shape) (octets : List ℕ) (slot : Option Value) (used : ℕ) → IsRead levels type octets slot used → 0 < used
-read_some levels type octets None used h = absurd h.1
-read_some levels type octets (Some v) zero h = let above = nested_above levels [] h.1.depth in let none : above.first ∷ above.others ≡ [] = sym above.is in cc
-read_some levels type octets (Some v) (suc used) h = omega arith
+pub read_some : (levels : ℕ) (type : Shape) (octets : List ℕ) (v : Value) (used : ℕ) → IsRead levels type octets v used → 0 < used
+read_some levels type octets v zero h = let above = nested_above levels [] h.1.depth in let none : above.first ∷ above.others ≡ [] = sym above.is in cc
+read_some levels type octets v (suc used) h = omega arith
 
 -- around contents octets, an encoding
-pub constructed_read : (levels : ℕ) (tag : Tag) (type : Shape) (octets inside : List ℕ) (slot : Option Value) (used whole : ℕ) → IsGoodType type → levels ≢ 0 → first_tags type ≡ tag ∷ [] → AreContentsRead (levels - 1) type inside slot used
-    → whole ≤ length octets → IsConstructed ber tag (take used inside) (take whole octets) → IsRead levels type octets slot whole
-constructed_read levels tag type octets inside None used whole good some own h there c = absurd h.value
-constructed_read levels tag type octets inside (Some v) used whole good some own h there c =
+pub constructed_read : (levels : ℕ) (tag : Tag) (type : Shape) (octets inside : List ℕ) (v : Value) (used whole : ℕ) → IsGoodType type → levels ≢ 0 → first_tags type ≡ tag ∷ [] → AreContentsRead (levels - 1) type inside v used
+    → whole ≤ length octets → IsConstructed ber tag (take used inside) (take whole octets) → IsRead levels type octets v whole
+constructed_read levels tag type octets inside v used whole good some own h there c =
     (there, subst (λ n. IsPartOf n type (value_view v) (take whole octets)) (one_more levels some) (value_encodes (levels - 1) type h.parts tag (value_view v) (take used inside) (take whole octets) h.of h.come h.value good own c))
 
 -- an encoding is the contents octets under an explicit tag
-pub explicit_contents : (levels : ℕ) (tag : Tag) (type : Shape) (inside : List ℕ) (slot : Option Value) (used : ℕ) → IsRead levels type inside slot used → AreContentsRead levels (Shape.explicit tag type) inside slot used
-explicit_contents levels tag type inside None used h = absurd h.1
-explicit_contents levels tag type inside (Some v) used h = record { there = h.0; parts = Parts.explicit type (Some (value_view v)); of = refl; come = h.1; value = refl }
+pub explicit_contents : (levels : ℕ) (tag : Tag) (type : Shape) (inside : List ℕ) (v : Value) (used : ℕ) → IsRead levels type inside v used → AreContentsRead levels (Shape.explicit tag type) inside v used
+explicit_contents levels tag type inside v used h = record { there = h.0; parts = Parts.explicit type (Some (value_view v)); of = refl; come = h.1; value = refl }
 
 -- components are those of a SEQUENCE
-pub sequence_contents : (levels : ℕ) (tag : Tag) (fields : List Field) (inside : List ℕ) (slots : Vec (Option Value) Global) (used : ℕ) → AreComponentsRead levels (map field_view fields) inside slots.items used → AreContentsRead levels (Shape.sequence tag (components_view fields)) inside (Some (value.Fields slots)) used
+pub sequence_contents : (levels : ℕ) (tag : Tag) (fields : List Field) (inside : List ℕ) (slots : Vec (Option Value) Global) (used : ℕ) → AreComponentsRead levels (map field_view fields) inside slots.items used → AreContentsRead levels (Shape.sequence tag (components_view fields)) inside (value.Fields slots) used
 sequence_contents levels tag fields inside slots used h =
     let cs = map field_view fields in
     let views = map (option_map value_view) slots.items in
@@ -71,7 +68,7 @@ sequence_contents levels tag fields inside slots used h =
 
 -- around items, a SEQUENCE OF
 pub sequence_of_read : (levels : ℕ) (tag : Tag) (type : Shape) (octets inside : List ℕ) (items : Vec Value Global) (used whole : ℕ) → IsUsable tag → levels ≢ 0
-    → AreItemsRead (levels - 1) type inside items.items used → whole ≤ length octets → IsConstructed ber tag (take used inside) (take whole octets) → IsRead levels (Shape.sequence_of tag type) octets (Some (value.Items items)) whole
+    → AreItemsRead (levels - 1) type inside items.items used → whole ≤ length octets → IsConstructed ber tag (take used inside) (take whole octets) → IsRead levels (Shape.sequence_of tag type) octets (value.Items items) whole
 sequence_of_read levels tag type octets inside items used whole usable some h there c =
     let part = sequence_of_encodes (levels - 1) tag type (map value_view items.items) (take used inside) (take whole octets) usable h.come c in
     let viewed = subst (λ v. IsPartOf (suc (levels - 1)) (Shape.sequence_of tag type) v (take whole octets)) (sym (value-Items items)) part in
@@ -79,7 +76,7 @@ sequence_of_read levels tag type octets inside items used whole usable some h th
 
 -- and a SET OF
 pub set_of_read : (levels : ℕ) (tag : Tag) (type : Shape) (octets inside : List ℕ) (items : Vec Value Global) (used whole : ℕ) → IsUsable tag → levels ≢ 0
-    → AreItemsRead (levels - 1) type inside items.items used → whole ≤ length octets → IsConstructed ber tag (take used inside) (take whole octets) → IsRead levels (Shape.set_of tag type) octets (Some (value.Items items)) whole
+    → AreItemsRead (levels - 1) type inside items.items used → whole ≤ length octets → IsConstructed ber tag (take used inside) (take whole octets) → IsRead levels (Shape.set_of tag type) octets (value.Items items) whole
 set_of_read levels tag type octets inside items used whole usable some h there c =
     let part = set_of_encodes (levels - 1) tag type (map value_view items.items) (take used inside) (take whole octets) usable h.come c in
     let viewed = subst (λ v. IsPartOf (suc (levels - 1)) (Shape.set_of tag type) v (take whole octets)) (sym (value-Items items)) part in
@@ -90,7 +87,7 @@ no_items : (levels : ℕ) (type : Shape) (octets : List ℕ) (items : List Value
 no_items levels type octets items none = rw none record { there = omega arith; come = record { encodings = []; each = tt; joined = refl } }
 
 -- one item more
-item_read : (levels : ℕ) (type : Shape) (octets : List ℕ) (items : List Value) (v : Value) (at used : ℕ) → AreItemsRead levels type octets items at → IsRead levels type (drop at octets) (Some v) used → AreItemsRead levels type octets (items ++ (v ∷ [])) (at + used)
+item_read : (levels : ℕ) (type : Shape) (octets : List ℕ) (items : List Value) (v : Value) (at used : ℕ) → AreItemsRead levels type octets items at → IsRead levels type (drop at octets) v used → AreItemsRead levels type octets (items ++ (v ∷ [])) (at + used)
 item_read levels type octets items v at used h is =
     let part = take used (drop at octets) in
     let all = items_more levels type (map value_view items) h.come.encodings (value_view v) part h.come.each is.1 in
@@ -143,10 +140,9 @@ component_read levels fields i f octets slots slot at used below is h one =
     concat_two (x ∷ xs) ys = ap (λ z. x ++ z) (concat_two xs ys) ∙ sym (append_assoc x (concat xs) (concat ys))
 
 -- a component that stands there
-pub component_stands : (levels : ℕ) (f : Field) (octets : List ℕ) (found slot : Option Value) (used : ℕ) → IsRead levels (ty_view f.ty) octets found used
-    → MatchOption found (slot ≡ None) (λ v. IsSlotOf (requirement_view f.presence) (value_view v) (option_map value_view slot)) → IsComponentRead levels (field_view f) octets slot used
-component_stands levels f octets None slot used h is = absurd h.1
-component_stands levels f octets (Some v) slot used h is =
+pub component_stands : (levels : ℕ) (f : Field) (octets : List ℕ) (v : Value) (slot : Option Value) (used : ℕ) → IsRead levels (ty_view f.ty) octets v used
+    → IsSlotOf (requirement_view f.presence) (value_view v) (option_map value_view slot) → IsComponentRead levels (field_view f) octets slot used
+component_stands levels f octets v slot used h is =
     let part = take used octets in
     let c = field_view f in
     let same = field_is f in
@@ -174,12 +170,16 @@ good_alternative xs which a below is good =
     let nodes = alternative_nodes xs which a below is (good.tags.1, good.defaults.1, good.within.1) in
     record { within = nodes.2; tags = nodes.0; defaults = nodes.1 }
 
+-- the place of the alternative that was chosen
+pub place_chosen : (which place : ℕ) (inner : Box Value Global) (v : Value) → (chosen : Val) × (value_view v ≡ Val.chosen which chosen) → v ≡ value.Chosen place inner → place ≡ which
+place_chosen which place inner v chosen is =
+    let same : Val.chosen place (value_view inner.value) ≡ Val.chosen which chosen.0 = sym (value-Chosen place inner) ∙ (sym (ap value_view is) ∙ chosen.1) in
+    cc same
+
 -- an alternative is a value of the CHOICE
-pub chosen_read : (levels : ℕ) (xs : List Alternative) (which : ℕ) (a : Alternative) (octets : List ℕ) (v : Value) (slot : Option Value) (used : ℕ) → which < length xs → a ≡ get_or xs which a
-    → option_map value_view slot ≡ Some (Val.chosen which (value_view v)) → IsRead levels (ty_view a.ty) octets (Some v) used → IsRead levels (Shape.choice (alternatives_view xs)) octets slot used
-chosen_read levels xs which a octets v None used below is put h = absurd (cc put)
-chosen_read levels xs which a octets v (Some w) used below is put h =
-    let viewed : value_view w ≡ Val.chosen which (value_view v) = cc put in
+pub chosen_read : (levels : ℕ) (xs : List Alternative) (which : ℕ) (a : Alternative) (octets : List ℕ) (v w : Value) (used : ℕ) → which < length xs → a ≡ get_or xs which a
+    → value_view w ≡ Val.chosen which (value_view v) → IsRead levels (ty_view a.ty) octets v used → IsRead levels (Shape.choice (alternatives_view xs)) octets w used
+chosen_read levels xs which a octets v w used below is viewed h =
     let encodes : IsEncoding ber (Shape.choice (alternatives_view xs)) (Val.chosen which (value_view v)) (take used octets) = record { which = which; value = value_view v; is = refl; chosen = alternative_encodes xs which a (value_view v) (take used octets) below is h.1.encoding } in
     (h.0, record { encoding = subst (λ x. IsEncoding ber (Shape.choice (alternatives_view xs)) x (take used octets)) (sym viewed) encodes; depth = h.1.depth })
 
@@ -199,10 +199,9 @@ no_members levels fields octets slots empty =
     record { there = omega arith; set_components = λ other. ap components_of (sym (none_of fields)); come = none_holds levels (Parts.set (members_view fields none)) (none_come fields) }
 
 -- a component that is read into its slot
-pub member_come : (levels : ℕ) (fields : List Field) (octets : List ℕ) (slots : List (Option Value)) (slot : Option Value) (which : ℕ) (type : Shape) (used : ℕ) → IsVacant (members_view fields slots) which type → IsRead levels type octets slot used
-    → IsMemberRead levels octets (Parts.set (members_view fields slots)) (Parts.set (members_view fields (set slots which slot))) used
-member_come levels fields octets slots None which type used vacant h = absurd h.1
-member_come levels fields octets slots (Some v) which type used vacant h =
+pub member_come : (levels : ℕ) (fields : List Field) (octets : List ℕ) (slots : List (Option Value)) (v : Value) (which : ℕ) (type : Shape) (used : ℕ) → IsVacant (members_view fields slots) which type → IsRead levels type octets v used
+    → IsMemberRead levels octets (Parts.set (members_view fields slots)) (Parts.set (members_view fields (set slots which (Some v)))) used
+member_come levels fields octets slots v which type used vacant h =
     record { there = h.0; which = which; type = type; value = value_view v; due = vacant; part = h.1; put = set_component_taken fields slots which type v vacant }
 
 -- one component more
@@ -248,7 +247,7 @@ pub due_field : (tag : Tag) (fields : List Field) (set_components : List SetComp
 due_field tag fields set_components which type of vacant = set_component_field fields set_components which type (of tag) vacant
 
 -- components in any order are the contents octets of a SET
-pub set_contents : (levels : ℕ) (tag : Tag) (components : List ComponentView) (inside : List ℕ) (parts : Parts) (v : Value) (used : ℕ) → AreMembersRead levels components inside parts used → IsValueOf parts (value_view v) → AreContentsRead levels (Shape.set tag (components_of components)) inside (Some v) used
+pub set_contents : (levels : ℕ) (tag : Tag) (components : List ComponentView) (inside : List ℕ) (parts : Parts) (v : Value) (used : ℕ) → AreMembersRead levels components inside parts used → IsValueOf parts (value_view v) → AreContentsRead levels (Shape.set tag (components_of components)) inside v used
 set_contents levels tag components inside parts v used h is = record { there = h.there; parts = parts; of = h.set_components tag; come = h.come; value = is }
 
 -- the components of a good SET

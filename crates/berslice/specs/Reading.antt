@@ -1,5 +1,5 @@
 -- Values that have been read at the front of some octets.
-use Rattle.std.specs.Prelude.{◌≡◌, ◌≤◌, ℕ, List, [], ◌∷◌, ◌++◌, Option, Some, length, take, map, option_map, MatchOption}
+use Rattle.std.specs.Prelude.{◌≡◌, ◌≤◌, ℕ, List, [], ◌∷◌, ◌++◌, Option, length, take, map, option_map}
 use Rattle.std.specs.List.{concat}
 use Rattle.octets.specs.declared.tag.Tag.{Tag}
 use Rattle.types.specs.declared.value.Value.{Value}
@@ -8,17 +8,17 @@ use Rattle.types.specs.View.{ComponentView, value_view, components_of}
 use Rattle.types.specs.Encoding.{standing}
 use Rattle.encoding_parts.specs.Parts.{Parts, IsPartOf, IsCome, Holds, ArePartsOf, IsValueOf, IsDue, IsPut}
 
--- so many octets are an encoding of the value in the slot, in which at most so many constructed ones nest
-abbrev pub IsRead : ℕ → Shape → List ℕ → Option Value → ℕ → Type 0
-IsRead levels type octets slot used = (used ≤ length octets) × MatchOption slot ⊥ (λ value. IsPartOf levels type (value_view value) (take used octets))
+-- so many octets are an encoding of the value, in which at most so many constructed ones nest
+abbrev pub IsRead : ℕ → Shape → List ℕ → Value → ℕ → Type 0
+IsRead levels type octets value used = (used ≤ length octets) × IsPartOf levels type (value_view value) (take used octets)
 
--- so many are the contents octets of an encoding of the value in the slot, which has parts
-pub record AreContentsRead (levels : ℕ) (type : Shape) (octets : List ℕ) (slot : Option Value) (used : ℕ) : Type 0 where
+-- so many are the contents octets of an encoding of the value, which has parts
+pub record AreContentsRead (levels : ℕ) (type : Shape) (octets : List ℕ) (v : Value) (used : ℕ) : Type 0 where
   pub there : used ≤ length octets
   pub parts : Parts
   pub of : ArePartsOf type parts
   pub come : Holds levels parts (take used octets)
-  pub value : MatchOption slot ⊥ (λ v. IsValueOf parts (value_view v))
+  pub value : IsValueOf parts (value_view v)
 
 -- so many are what stands for a component: an encoding of the value in its slot, or of its default, or nothing
 pub record IsComponentRead (levels : ℕ) (component : ComponentView) (octets : List ℕ) (slot : Option Value) (used : ℕ) : Type 0 where
@@ -47,7 +47,7 @@ pub record AreMoreItemsRead (levels : ℕ) (type : Shape) (octets : List ℕ) (o
 pub record IsItemRead (levels : ℕ) (type : Shape) (octets : List ℕ) (old new : List Value) (used : ℕ) : Type 0 where
   pub value : Value
   pub joined : new ≡ old ++ (value ∷ [])
-  pub read : IsRead levels type octets (Some value) used
+  pub read : IsRead levels type octets value used
 
 -- the parts of a SET with these components
 abbrev pub AreSetComponentsOf : List ComponentView → Parts → Type 0

@@ -8,25 +8,25 @@ ghost use Rattle.types.specs.View.{field_view, components_view};
 ghost use Rattle.encoding_parts.specs.Parts.{IsGoodComponent};
 ghost use Rattle.berslice.specs.Reading.{AreContentsRead, IsComponentRead};
 
-use crate::reading::{fill, read_one};
+use crate::reading::read_one;
 use encoding_parts::{clear, drop_default, take_slots};
 use std::alloc::Global;
 use types::{Field, Value, may_be_absent};
 
-// Reads the encodings of components at the front, in order of declaration, into the slot, and returns how many octets
-// they have.
+// Reads the encodings of components at the front, in order of declaration, into the value, and returns how many
+// octets they have.
 #[cycle(reading)]
 pub fn read_components(
     alloc: Global,
     fields: &[Field],
     levels: usize,
     octets: &[u8],
-    slot: &mut Option<Value>,
+    value: &mut Value,
 ) -> Option<usize>
     requires { AllByRecursion IsGoodComponent (map field_view fields.now) }
-    ensures { IfSome result (λ used. (tag : Tag) → AreContentsRead levels (Shape.sequence tag (components_view fields.now)) octets.now slot.new used) }
+    ensures { IfSome result (λ used. (tag : Tag) → AreContentsRead levels (Shape.sequence tag (components_view fields.now)) octets.now value.new used) }
 {
-    let Ok(taken) = take_slots(alloc, fields, slot) else {
+    let Ok(taken) = take_slots(alloc, fields, value) else {
         return None;
     };
     let mut slots = taken;
@@ -34,7 +34,7 @@ pub fn read_components(
     for (place, field) in fields.iter().enumerate() {
         at += read_component(alloc, field, levels, &octets[at..], &mut slots[place])?;
     }
-    fill(slot, Value::Fields(slots));
+    *value = Value::Fields(slots);
     Some(at)
 }
 
@@ -51,7 +51,8 @@ fn read_component(
     requires { IsGoodComponent (field_view field.now) }
     ensures { IfSome result (λ used. IsComponentRead levels (field_view field.now) octets.now slot.new used) }
 {
-    match read_one(alloc, &field.ty, levels, octets, slot) {
+    let value = slot.get_or_insert_with(|| Value::Null);
+    match read_one(alloc, &field.ty, levels, octets, value) {
         Some(used) => {
             drop_default(&field.presence, slot);
             Some(used)

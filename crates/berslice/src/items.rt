@@ -1,6 +1,6 @@
 //! Items of a SEQUENCE OF or SET OF, in the order in which they stand (X.690 8.10 and 8.12).
 
-ghost use Rattle.std.specs.Prelude.{◌≡◌, None, IfSome};
+ghost use Rattle.std.specs.Prelude.{◌≡◌, ◌≤◌, None, IfSome, vec_len};
 ghost use Rattle.types.specs.FirstTags.{IsUsable};
 ghost use Rattle.types.specs.Shape.{Shape};
 ghost use Rattle.types.specs.View.{ty_view};
@@ -10,13 +10,13 @@ ghost use Rattle.berslice.specs.Reading.{IsRead, IsItemRead, AreMoreItemsRead};
 
 use crate::heads::{ends_at, opened};
 use crate::places::Places;
-use crate::reading::{fill, read_alternative, read_one};
+use crate::reading::{read_alternative, read_one};
 use encoding_parts::Renewed;
 use octets::Tag;
 use std::alloc::Global;
 use types::{Ty, Value};
 
-// Reads a SEQUENCE OF or SET OF at the front into the slot.
+// Reads a SEQUENCE OF or SET OF at the front into the value.
 #[cycle(reading)]
 #[inline(never)]
 pub fn read_list(
@@ -25,18 +25,18 @@ pub fn read_list(
     inner: &Ty,
     levels: usize,
     octets: &[u8],
-    slot: &mut Option<Value>,
+    value: &mut Value,
 ) -> Option<usize>
     requires usable { IsUsable tag }
     requires good { IsGoodType (ty_view inner.now) }
-    ensures sequence { IfSome result (λ used. IsRead levels (Shape.sequence_of tag (ty_view inner.now)) octets.now slot.new used) }
-    ensures set { IfSome result (λ used. IsRead levels (Shape.set_of tag (ty_view inner.now)) octets.now slot.new used) }
+    ensures sequence { IfSome result (λ used. IsRead levels (Shape.sequence_of tag (ty_view inner.now)) octets.now value.new used) }
+    ensures set { IfSome result (λ used. IsRead levels (Shape.set_of tag (ty_view inner.now)) octets.now value.new used) }
 {
     let inside = opened(tag, octets)?;
     if levels == 0 {
         return None;
     }
-    let mut list = Renewed::over(alloc, inner, slot);
+    let mut list = Renewed::over(alloc, inner, value);
     let used = fill_list(
         alloc,
         inner,
@@ -45,7 +45,7 @@ pub fn read_list(
         inside.definite,
         &mut list,
     );
-    fill(slot, Value::Items(list.into_items()));
+    *value = Value::Items(list.into_items());
     inside.close(octets, used)
 }
 
@@ -113,17 +113,42 @@ fn read_item(
     ensures some { IfSome result (λ used. IsItemRead levels (ty_view inner.now) octets.now (new_items list.old) (new_items list.new) used) }
     ensures none { result ≡ None → new_items list.new ≡ new_items list.old }
 {
-    let mut item = list.take_old();
-    let used = read_among(alloc, inner, levels, octets, places, &mut item)?;
-    let value = item?;
-    if list.put(value, before, used, octets.len()) {
+    if !list.has_next() {
+        return read_growing(alloc, inner, levels, octets, before, list);
+    }
+    let next = list.count;
+    let used = read_among(alloc, inner, levels, octets, places, &mut list.items[next])?;
+    list.keep();
+    Some(used)
+}
+
+// Reads the item at the front, for which the list has no place yet, and puts it behind the others. A call of its own,
+// since a list grows seldom.
+#[cycle(reading)]
+#[inline(never)]
+fn read_growing(
+    alloc: Global,
+    inner: &Ty,
+    levels: usize,
+    octets: &[u8],
+    before: usize,
+    list: &mut Renewed,
+) -> Option<usize>
+    requires room { vec_len list.old.items ≤ list.old.count }
+    requires good { IsGoodType (ty_view inner.now) }
+    ensures some { IfSome result (λ used. IsItemRead levels (ty_view inner.now) octets.now (new_items list.old) (new_items list.new) used) }
+    ensures none { result ≡ None → new_items list.new ≡ new_items list.old }
+{
+    let mut item = Value::Null;
+    let used = read_one(alloc, inner, levels, octets, &mut item)?;
+    if list.put(item, before, used, octets.len()) {
         Some(used)
     } else {
         None
     }
 }
 
-// Reads the encoding at the front into the slot, of a type of which others may have come.
+// Reads the encoding at the front into the value, of a type of which others may have come.
 #[cycle(reading)]
 #[inline(always)]
 fn read_among(
@@ -132,16 +157,16 @@ fn read_among(
     levels: usize,
     octets: &[u8],
     places: &mut Option<Places>,
-    slot: &mut Option<Value>,
+    value: &mut Value,
 ) -> Option<usize>
     requires { IsGoodType (ty_view ty.now) }
-    ensures { IfSome result (λ used. IsRead levels (ty_view ty.now) octets.now slot.new used) }
+    ensures { IfSome result (λ used. IsRead levels (ty_view ty.now) octets.now value.new used) }
 {
     if let Some(places) = places {
         if let Ty::Choice(alternatives) = ty {
             let which = places.place_of(alternatives, octets)?;
-            return read_alternative(alloc, alternatives, which, levels, octets, slot);
+            return read_alternative(alloc, alternatives, which, levels, octets, value);
         }
     }
-    read_one(alloc, ty, levels, octets, slot)
+    read_one(alloc, ty, levels, octets, value)
 }

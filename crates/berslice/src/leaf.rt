@@ -20,15 +20,15 @@ pub fn read_leaf(
     ty: &Ty,
     tag: Tag,
     octets: &[u8],
-    slot: &mut Option<Value>,
+    value: &mut Value,
 ) -> Option<usize>
     requires leaf { IsLeaf (ty_view ty.now) }
     requires tag { tag_of (ty_view ty.now) ≡ tag }
     requires good { IsGoodType (ty_view ty.now) }
-    ensures { IfSome result (λ used. (levels : ℕ) → IsRead levels (ty_view ty.now) octets.now slot.new used) }
+    ensures { IfSome result (λ used. (levels : ℕ) → IsRead levels (ty_view ty.now) octets.now value.new used) }
 {
     let (contents, used) = primitive(tag, octets)?;
-    if fill(alloc, ty, contents, slot) {
+    if fill(alloc, ty, contents, value) {
         Some(used)
     } else {
         None
@@ -44,12 +44,12 @@ pub fn read_string(
     tag: Tag,
     levels: usize,
     octets: &[u8],
-    slot: &mut Option<Value>,
+    value: &mut Value,
 ) -> Option<usize>
     requires leaf { IsLeaf (ty_view ty.now) }
     requires tag { tag_of (ty_view ty.now) ≡ tag }
     requires good { IsGoodType (ty_view ty.now) }
-    ensures { IfSome result (λ used. IsRead levels (ty_view ty.now) octets.now slot.new used) }
+    ensures { IfSome result (λ used. IsRead levels (ty_view ty.now) octets.now value.new used) }
 {
     if octets.is_empty() || octets[0] & 0x20 == 0 {
         return None;
@@ -66,7 +66,7 @@ pub fn read_string(
         front,
     ).ok()?;
     let used = pass_segments(&mut string, kind, front, start)?;
-    *slot = Some(string.joined.into_value(ty).ok()?);
+    *value = string.joined.into_value(ty).ok()?;
     Some(used)
 }
 

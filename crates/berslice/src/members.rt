@@ -10,25 +10,26 @@ ghost use Rattle.encoding_parts.specs.Parts.{IsGoodComponent, Parts};
 ghost use Rattle.berslice.specs.Reading.{AreContentsRead, AreSetComponentsOf, IsMemberRead};
 
 use crate::heads::Inside;
-use crate::reading::{fill, read_one};
+use crate::reading::read_one;
 use encoding_parts::{SetComponents, emptied_slots};
 use octets::{Head, read_identifier};
 use std::alloc::Global;
 use types::{Field, Value};
 
-// Reads the encodings of components up to the end, in any order, into the slot, and returns how many octets they have.
+// Reads the encodings of components up to the end, in any order, into the value, and returns how many octets they
+// have.
 #[cycle(reading)]
 pub fn read_members(
     alloc: Global,
     fields: &[Field],
     levels: usize,
     inside: &Inside<'_>,
-    slot: &mut Option<Value>,
+    value: &mut Value,
 ) -> Option<usize>
     requires { AllByRecursion IsGoodComponent (map field_view fields.now) }
-    ensures { IfSome result (λ used. (tag : Tag) → AreContentsRead levels (Shape.set tag (components_view fields.now)) inside.now.octets.now slot.new used) }
+    ensures { IfSome result (λ used. (tag : Tag) → AreContentsRead levels (Shape.set tag (components_view fields.now)) inside.now.octets.now value.new used) }
 {
-    let Ok(slots) = emptied_slots(alloc, fields, slot) else {
+    let Ok(slots) = emptied_slots(alloc, fields, value) else {
         return None;
     };
     let behind = 0;
@@ -47,10 +48,10 @@ pub fn read_members(
             &mut set_components,
         )?;
     }
-    let Ok(value) = set_components.into_value() else {
+    let Ok(read) = set_components.into_value() else {
         return None;
     };
-    fill(slot, value);
+    *value = read;
     Some(at)
 }
 
@@ -74,13 +75,9 @@ fn read_member(
         return None;
     };
     let field = &fields[place];
-    let used = read_one(
-        alloc,
-        &field.ty,
-        levels,
-        octets,
-        &mut set_components.slots[place],
-    )?;
+    let slot = &mut set_components.slots[place];
+    let value = slot.get_or_insert_with(|| Value::Null);
+    let used = read_one(alloc, &field.ty, levels, octets, value)?;
     set_components.behind = place + 1;
     Some(used)
 }

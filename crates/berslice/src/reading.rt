@@ -14,7 +14,7 @@ use crate::heads::{Inside, opened};
 use crate::items::read_list;
 use crate::leaf::{read_leaf, read_string};
 use crate::members::read_members;
-use encoding_parts::{by_tag, clear, put_chosen, take_chosen, take_list};
+use encoding_parts::{by_tag, choose, clear, take_list};
 use octets::{Head, MAX_ENCODING, read_identifier};
 use std::alloc::Global;
 use types::{Alternative, Ty, Value};
@@ -41,10 +41,11 @@ pub fn read_whole(
     ensures room { MatchOption result (room.new.items ≡ []) (λ _. room.new ≡ room.old) }
 {
     let front = &octets[..octets.len().min(MAX_ENCODING)];
-    match read_one(alloc, ty, MAX_NESTED, front, whole) {
+    let value = whole.get_or_insert_with(|| Value::Null);
+    match read_one(alloc, ty, MAX_NESTED, front, value) {
         Some(used) => Some(used),
         None => {
-            *room = take_list(alloc, whole);
+            *room = take_list(alloc, value);
             room.clear();
             clear(whole);
             None
@@ -52,8 +53,8 @@ pub fn read_whole(
     }
 }
 
-// Reads the encoding at the front into the slot, in which at most so many constructed ones nest. Where it is not
-// read, the slot may hold anything.
+// Reads the encoding at the front into the value, in which at most so many constructed ones nest. Where it is not
+// read, the value may be any.
 #[cycle(reading)]
 #[inline(always)]
 pub fn read_one(
@@ -61,27 +62,27 @@ pub fn read_one(
     ty: &Ty,
     levels: usize,
     octets: &[u8],
-    slot: &mut Option<Value>,
+    value: &mut Value,
 ) -> Option<usize>
     requires { IsGoodType (ty_view ty.now) }
-    ensures { IfSome result (λ used. IsRead levels (ty_view ty.now) octets.now slot.new used) }
+    ensures { IfSome result (λ used. IsRead levels (ty_view ty.now) octets.now value.new used) }
 {
     if let Some(tag) = ty.leaf_tag() {
-        return match read_leaf(alloc, ty, tag, octets, slot) {
+        return match read_leaf(alloc, ty, tag, octets, value) {
             Some(used) => Some(used),
-            None => read_string(alloc, ty, tag, levels, octets, slot),
+            None => read_string(alloc, ty, tag, levels, octets, value),
         };
     }
     match ty {
         Ty::SequenceOf(tag, inner) | Ty::SetOf(tag, inner) => {
-            read_list(alloc, *tag, inner, levels, octets, slot)
+            read_list(alloc, *tag, inner, levels, octets, value)
         }
-        Ty::Choice(alternatives) => read_chosen(alloc, alternatives, levels, octets, slot),
-        _ => read_constructed(alloc, ty, levels, octets, slot),
+        Ty::Choice(alternatives) => read_chosen(alloc, alternatives, levels, octets, value),
+        _ => read_constructed(alloc, ty, levels, octets, value),
     }
 }
 
-// Reads a SEQUENCE or SET at the front, or an encoding under an explicit tag, into the slot.
+// Reads a SEQUENCE or SET at the front, or an encoding under an explicit tag, into the value.
 #[cycle(reading)]
 #[inline(never)]
 fn read_constructed(
@@ -89,20 +90,20 @@ fn read_constructed(
     ty: &Ty,
     levels: usize,
     octets: &[u8],
-    slot: &mut Option<Value>,
+    value: &mut Value,
 ) -> Option<usize>
     requires { IsGoodType (ty_view ty.now) }
-    ensures { IfSome result (λ used. IsRead levels (ty_view ty.now) octets.now slot.new used) }
+    ensures { IfSome result (λ used. IsRead levels (ty_view ty.now) octets.now value.new used) }
 {
     let inside = opened(ty.tag()?, octets)?;
     if levels == 0 {
         return None;
     }
-    let used = read_inside(alloc, ty, levels - 1, &inside, slot)?;
+    let used = read_inside(alloc, ty, levels - 1, &inside, value)?;
     inside.close(octets, used)
 }
 
-// Reads the contents octets of one into the slot, and returns how many they are.
+// Reads the contents octets of one into the value, and returns how many they are.
 #[cycle(reading)]
 #[inline(always)]
 fn read_inside(
@@ -110,20 +111,20 @@ fn read_inside(
     ty: &Ty,
     levels: usize,
     inside: &Inside<'_>,
-    slot: &mut Option<Value>,
+    value: &mut Value,
 ) -> Option<usize>
     requires { IsGoodType (ty_view ty.now) }
-    ensures { IfSome result (λ used. AreContentsRead levels (ty_view ty.now) inside.now.octets.now slot.new used) }
+    ensures { IfSome result (λ used. AreContentsRead levels (ty_view ty.now) inside.now.octets.now value.new used) }
 {
     match ty {
-        Ty::Sequence(_, fields) => read_components(alloc, fields, levels, inside.octets, slot),
-        Ty::Set(_, fields) => read_members(alloc, fields, levels, inside, slot),
-        Ty::Explicit(_, inner) => read_one(alloc, inner, levels, inside.octets, slot),
+        Ty::Sequence(_, fields) => read_components(alloc, fields, levels, inside.octets, value),
+        Ty::Set(_, fields) => read_members(alloc, fields, levels, inside, value),
+        Ty::Explicit(_, inner) => read_one(alloc, inner, levels, inside.octets, value),
         _ => None,
     }
 }
 
-// Reads an encoding of one of the alternatives at the front into the slot: tags tell them apart.
+// Reads an encoding of one of the alternatives at the front into the value: tags tell them apart.
 #[cycle(reading)]
 #[inline(never)]
 fn read_chosen(
@@ -131,19 +132,19 @@ fn read_chosen(
     alternatives: &[Alternative],
     levels: usize,
     octets: &[u8],
-    slot: &mut Option<Value>,
+    value: &mut Value,
 ) -> Option<usize>
     requires { IsGoodType (Shape.choice (alternatives_view alternatives.now)) }
-    ensures { IfSome result (λ used. IsRead levels (Shape.choice (alternatives_view alternatives.now)) octets.now slot.new used) }
+    ensures { IfSome result (λ used. IsRead levels (Shape.choice (alternatives_view alternatives.now)) octets.now value.new used) }
 {
     let Head::Done { tag, .. } = read_identifier(octets) else {
         return None;
     };
     let (which, _) = by_tag(alternatives, tag)?;
-    read_alternative(alloc, alternatives, which, levels, octets, slot)
+    read_alternative(alloc, alternatives, which, levels, octets, value)
 }
 
-// Reads an encoding of the alternative at this place at the front into the slot.
+// Reads an encoding of the alternative at this place at the front into the value.
 #[cycle(reading)]
 #[inline(always)]
 pub fn read_alternative(
@@ -152,26 +153,18 @@ pub fn read_alternative(
     which: usize,
     levels: usize,
     octets: &[u8],
-    slot: &mut Option<Value>,
+    value: &mut Value,
 ) -> Option<usize>
     requires there { which < length alternatives.now }
     requires good { IsGoodType (Shape.choice (alternatives_view alternatives.now)) }
-    ensures { IfSome result (λ used. IsRead levels (Shape.choice (alternatives_view alternatives.now)) octets.now slot.new used) }
+    ensures { IfSome result (λ used. IsRead levels (Shape.choice (alternatives_view alternatives.now)) octets.now value.new used) }
 {
     let alternative = &alternatives[which];
-    let mut chosen = take_chosen(slot);
-    let used = read_one(alloc, &alternative.ty, levels, octets, &mut chosen)?;
-    if put_chosen(alloc, which, chosen?, slot) {
-        Some(used)
-    } else {
-        None
+    if !choose(alloc, which, value) {
+        return None;
     }
-}
-
-// Puts the value into the slot.
-#[inline(always)]
-pub fn fill(slot: &mut Option<Value>, value: Value)
-    ensures { slot.new ≡ Some value }
-{
-    *slot = Some(value);
+    let Value::Chosen(_, boxed) = value else {
+        return None;
+    };
+    read_one(alloc, &alternative.ty, levels, octets, boxed)
 }

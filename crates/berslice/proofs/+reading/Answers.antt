@@ -1,13 +1,14 @@
-use Rattle.std.proofs.Common.{rules, ◌≡◌, ◌+◌, ◌-◌, ◌<◌, ◌≤◌, [], ◌∷◌, ◌++◌, Some, set, refl, sym, ap, ◌∙◌, subst, arith, take, drop, map, length}
+use Rattle.std.proofs.Common.{rules, ◌≡◌, ◌+◌, ◌-◌, ◌<◌, ◌≤◌, [], ◌∷◌, ◌++◌, set, refl, sym, ap, ◌∙◌, subst, arith, take, drop, map, length}
 use Rattle.std.proofs.lemmas.List.{take_rest, take_more_set, length-set, length-drop}
 use Rattle.octets.specs.declared.tag.Tag.{Tag}
 use Rattle.octets.specs.Rule.{ber}
 use Rattle.types.specs.declared.ty.Ty as node
+use Rattle.types.specs.declared.value.Value as value
 use Rattle.types.specs.declared.ty.Alternative as alternative
 use Rattle.types.specs.declared.ty.Field as field
 use Rattle.types.specs.Form.{IsConstructed}
-use Rattle.types.specs.Shape.{Shape}
-use Rattle.types.specs.View.{ty_view, field_view, components_view}
+use Rattle.types.specs.Shape.{Shape, Val}
+use Rattle.types.specs.View.{ty_view, field_view, components_view, alternatives_view, value_view}
 use Rattle.types.proofs.ViewLemmas.{ty-Sequence, ty-Set, ty-Explicit}
 use Rattle.encoding_parts.specs.Parts.{Parts, IsVacant, IsGoodType}
 use Rattle.encoding_parts.specs.HeldParts.{come_view}
@@ -15,7 +16,7 @@ use Rattle.encoding_parts.proofs.SetComponentLemmas.{members_in_slots, vacant_be
 use Rattle.berslice.specs.Heads.{IsOpened}
 use Rattle.berslice.specs.Reading.{IsRead, AreContentsRead, IsComponentRead, AreComponentsRead, AreMoreItemsRead}
 use Rattle.encoding_parts.specs.Renewed.{new_items}
-use Rattle.berslice.proofs.ReadingLemmas.{both_of, IfSome-map, read_some, explicit_contents, sequence_contents, constructed_read, sequence_of_read, set_of_read, no_more_items, one_item_more, item_behind, all_items, no_components, component_read, all_components, component_stands, good_components, good_component, good_alternative, chosen_read, no_members, member_behind, member_come, member_read, member_some, field_type, due_field, set_contents, good_members}
+use Rattle.berslice.proofs.ReadingLemmas.{both_of, IfSome-map, read_some, explicit_contents, sequence_contents, constructed_read, sequence_of_read, set_of_read, no_more_items, one_item_more, item_behind, all_items, no_components, component_read, all_components, component_stands, good_components, good_component, good_alternative, place_chosen, chosen_read, no_members, member_behind, member_come, member_read, member_some, field_type, due_field, set_contents, good_members}
 use Rattle.berslice.proofs.+reading.Goals as goal
 
 pub reading::read_alternative-read_one-requires : goal.reading::read_alternative-read_one-requires
@@ -26,18 +27,22 @@ reading::read_alternative-read_one-requires t c =
     let at = c.index-alternatives-which.is in
     (search (rules, node.the_lemmas, alternative.the_lemmas, bound, at), good_alternative xs c.args.which a bound at c.requires.good)
 
-pub reading::read_alternative-returns-then-put_chosen : goal.reading::read_alternative-returns-then-put_chosen
-reading::read_alternative-returns-then-put_chosen t c =
+pub reading::read_alternative-returns : goal.reading::read_alternative-returns
+unfolding value.out-Value denote.Hole.Carrier.out
+reading::read_alternative-returns t c =
+    let levels = c.args.levels in
+    let octets = c.args.octets.now in
     let xs = c.args.alternatives.now in
+    let which = c.args.which in
     let a = c.index-alternatives-which.result in
-    let v = c.in_ok-chosen.field-0 in
-    let used = c.in_ok-used.used in
-    let read : IsRead c.args.levels (ty_view a.ty) c.args.octets.now (Some v) used = subst (λ slot. IsRead c.args.levels (ty_view a.ty) c.args.octets.now slot used) c.in_ok-chosen.was c.in_ok-used.ensures in
-    chosen_read c.args.levels xs c.args.which a c.args.octets.now v c.put_chosen.new.slot used c.requires.there c.index-alternatives-which.is (c.put_chosen.ensures c.if-put_chosen.true) read
+    let v = c.read_one.new.value in
+    let place : c.in-Chosen.field-0 ≡ which = place_chosen which c.in-Chosen.field-0 c.in-Chosen.boxed c.choose.new.value (c.choose.ensures c.if-not-choose.false) c.in-Chosen.is in
+    IfSome-map c.read_one.result _ (λ used. IsRead levels (Shape.choice (alternatives_view xs)) octets _ used)
+    (λ used h. chosen_read levels xs which a octets v _ used c.requires.there c.index-alternatives-which.is (search (rules, value.the_lemmas) ∙ ap (λ p. Val.chosen p (value_view v)) place) h) c.read_one.ensures
 
 pub components::read_component-returns-in-Some : goal.components::read_component-returns-in-Some
 components::read_component-returns-in-Some t c =
-    component_stands c.args.levels c.args.field.now c.args.octets.now c.read_one.new.slot c.drop_default.new.slot c.in-Some.used c.in-Some.ensures c.drop_default.ensures
+    component_stands c.args.levels c.args.field.now c.args.octets.now c.read_one.new.value c.drop_default.new.slot c.in-Some.used c.in-Some.ensures c.drop_default.ensures
 
 pub components::read_components-loop-place-init : goal.components::read_components-loop-place-init
 components::read_components-loop-place-init t c = (no_components c.args.levels c.args.octets.now [] refl, c.in-Ok.ensures)
@@ -81,7 +86,7 @@ components::read_components-returns t c = λ tag.
     let slots = c.loop-place.slots in
     let at = c.loop-place.at in
     let read = all_components levels fields c.loop-place.place octets slots.items at c.loop-place-test.false c.loop-place.invariant.1 c.loop-place.invariant.0 in
-    subst (λ slot. AreContentsRead levels (Shape.sequence tag (components_view fields)) octets slot at) (sym c.fill.ensures) (sequence_contents levels tag fields octets slots at read)
+    sequence_contents levels tag fields octets slots at read
 
 pub reading::read_constructed-returns : goal.reading::read_constructed-returns
 reading::read_constructed-returns t c =
@@ -89,23 +94,11 @@ reading::read_constructed-returns t c =
     let type = ty_view c.args.ty.now in
     let inside = c.in_ok-inside.inside in
     let used = c.in_ok-used.used in
-    let slot = c.read_inside.new.slot in
+    let v = c.read_inside.new.value in
     let tag = c.in_ok-tag.field-0 in
-    both_of (λ n. n ≤ length octets) (λ n. (tag : Tag) → IsOpened tag octets inside → IsConstructed ber tag (take used inside.octets.now) (take n octets)) (λ n. IsRead c.args.levels type octets slot n)
+    both_of (λ n. n ≤ length octets) (λ n. (tag : Tag) → IsOpened tag octets inside → IsConstructed ber tag (take used inside.octets.now) (take n octets)) (λ n. IsRead c.args.levels type octets v n)
     c.close.result c.close.ensures.there c.close.ensures.value
-    (λ n there whole. constructed_read c.args.levels tag type octets inside.octets.now slot used n c.requires (search rules) c.in_ok-tag.ensures.value c.in_ok-used.ensures there (whole tag c.in_ok-inside.ensures))
-
-pub items::read_item-returns-then-put-clause-some : goal.items::read_item-returns-then-put-clause-some
-items::read_item-returns-then-put-clause-some t c =
-    let type = ty_view c.args.inner.now in
-    let octets = c.args.octets.now in
-    let used = c.in_ok-used.used in
-    let v = c.in_ok-value.value in
-    record {
-      value = v;
-      joined = c.put.ensures.put c.if-put.true ∙ ap (λ l. l ++ (v ∷ [])) c.take_old-item.ensures;
-      read = subst (λ slot. IsRead c.args.levels type octets slot used) c.in_ok-value.was c.in_ok-used.ensures;
-    }
+    (λ n there whole. constructed_read c.args.levels tag type octets inside.octets.now v used n c.requires (search rules) c.in_ok-tag.ensures.value c.in_ok-used.ensures there (whole tag c.in_ok-inside.ensures))
 
 pub items::fill_list-loop-alloc-init : goal.items::fill_list-loop-alloc-init
 items::fill_list-loop-alloc-init t c = no_more_items c.args.levels (ty_view c.args.inner.now) c.args.octets.now (new_items c.args.list.now)
@@ -122,7 +115,7 @@ items::fill_list-loop-alloc-smaller t c =
     let at = c.loop-alloc.at in
     let type = ty_view c.args.inner.now in
     let one = item_behind c.args.levels type octets at c.in-Some.used (new_items c.loop-alloc.list) (new_items c.read_item.new.list) c.in-Some.ensures.some in
-    let some = read_some c.args.levels type (drop at octets) (Some one.value) c.in-Some.used one.read in
+    let some = read_some c.args.levels type (drop at octets) one.value c.in-Some.used one.read in
     let rest = length-drop at octets in
     omega (arith, some, one.read.0, rest, c.loop-alloc.invariant.read.there)
 
@@ -153,10 +146,9 @@ items::read_list-returns-clause-sequence t c =
     let items = c.into_items.result in
     let used = c.fill_list-used.result in
     let read = all_items (c.args.levels - 1) type inside.octets.now (new_items c.over-list.result) items.items used c.over-list.ensures (subst (λ l. AreMoreItemsRead (c.args.levels - 1) type inside.octets.now (new_items c.over-list.result) l used) (sym c.into_items.ensures) c.fill_list-used.ensures) in
-    both_of (λ n. n ≤ length octets) (λ n. (tag : Tag) → IsOpened tag octets inside → IsConstructed ber tag (take used inside.octets.now) (take n octets)) (λ n. IsRead c.args.levels (Shape.sequence_of c.args.tag type) octets c.fill.new.slot n)
+    both_of (λ n. n ≤ length octets) (λ n. (tag : Tag) → IsOpened tag octets inside → IsConstructed ber tag (take used inside.octets.now) (take n octets)) (λ n. IsRead c.args.levels (Shape.sequence_of c.args.tag type) octets (value.Items items) n)
     c.close.result c.close.ensures.there c.close.ensures.value
-    (λ n there whole. subst (λ slot. IsRead c.args.levels (Shape.sequence_of c.args.tag type) octets slot n) (sym c.fill.ensures)
-    (sequence_of_read c.args.levels c.args.tag type octets inside.octets.now items used n c.requires.usable (search rules) read there (whole c.args.tag c.in_ok-inside.ensures)))
+    (λ n there whole. sequence_of_read c.args.levels c.args.tag type octets inside.octets.now items used n c.requires.usable (search rules) read there (whole c.args.tag c.in_ok-inside.ensures))
 
 pub items::read_list-returns-clause-set : goal.items::read_list-returns-clause-set
 items::read_list-returns-clause-set t c =
@@ -166,10 +158,9 @@ items::read_list-returns-clause-set t c =
     let items = c.into_items.result in
     let used = c.fill_list-used.result in
     let read = all_items (c.args.levels - 1) type inside.octets.now (new_items c.over-list.result) items.items used c.over-list.ensures (subst (λ l. AreMoreItemsRead (c.args.levels - 1) type inside.octets.now (new_items c.over-list.result) l used) (sym c.into_items.ensures) c.fill_list-used.ensures) in
-    both_of (λ n. n ≤ length octets) (λ n. (tag : Tag) → IsOpened tag octets inside → IsConstructed ber tag (take used inside.octets.now) (take n octets)) (λ n. IsRead c.args.levels (Shape.set_of c.args.tag type) octets c.fill.new.slot n)
+    both_of (λ n. n ≤ length octets) (λ n. (tag : Tag) → IsOpened tag octets inside → IsConstructed ber tag (take used inside.octets.now) (take n octets)) (λ n. IsRead c.args.levels (Shape.set_of c.args.tag type) octets (value.Items items) n)
     c.close.result c.close.ensures.there c.close.ensures.value
-    (λ n there whole. subst (λ slot. IsRead c.args.levels (Shape.set_of c.args.tag type) octets slot n) (sym c.fill.ensures)
-    (set_of_read c.args.levels c.args.tag type octets inside.octets.now items used n c.requires.usable (search rules) read there (whole c.args.tag c.in_ok-inside.ensures)))
+    (λ n there whole. set_of_read c.args.levels c.args.tag type octets inside.octets.now items used n c.requires.usable (search rules) read there (whole c.args.tag c.in_ok-inside.ensures))
 
 pub members::read_member-bounds-fields-place : goal.members::read_member-bounds-fields-place
 members::read_member-bounds-fields-place t c =
@@ -182,8 +173,8 @@ members::read_member-offset_bounds-fields-place t c =
     let bound = place.below in
     search (rules, bound)
 
-pub members::read_member-index_mut-requires : goal.members::read_member-index_mut-requires
-members::read_member-index_mut-requires t c =
+pub members::read_member-index_mut-slot-requires : goal.members::read_member-index_mut-slot-requires
+members::read_member-index_mut-slot-requires t c =
     let own = c.args.set_components.now in
     let there = vacant_below (come_view own) c.in-Ok.place (ty_view c.in-Ok.field-0-1.now) c.in-Ok.ensures.value.0 in
     let all = members_in_slots own.fields.now own.slots.items in
@@ -212,12 +203,12 @@ members::read_member-returns t c =
     let which = c.in-Ok.place in
     let type = ty_view c.in-Ok.field-0-1.now in
     let f = c.index-fields-place.result in
-    let slot = c.read_one.new.slot in
+    let v = c.read_one.new.value in
     let used = c.in_ok-used.used in
     let vacant : IsVacant (come_view own) which type = c.in-Ok.ensures.value.0 in
     let place = due_field c.in-Done.tag c.args.fields.now (come_view own) which type c.requires.set_components vacant in
-    let read : IsRead levels type octets slot used = subst (λ shape. IsRead levels shape octets slot used) (place.types f c.index-fields-place.is) c.in_ok-used.ensures in
-    member_come levels own.fields.now octets own.slots.items slot which type used vacant read
+    let read : IsRead levels type octets v used = subst (λ shape. IsRead levels shape octets v used) (place.types f c.index-fields-place.is) c.in_ok-used.ensures in
+    member_come levels own.fields.now octets own.slots.items v which type used vacant read
 
 pub members::read_members-loop-alloc-smaller : goal.members::read_members-loop-alloc-smaller
 members::read_members-loop-alloc-smaller t c =
@@ -250,8 +241,7 @@ members::read_members-returns t c = λ tag.
     let octets = c.args.inside.now.octets.now in
     let at = c.loop-alloc.at in
     let parts = Parts.set (come_view c.loop-alloc.set_components) in
-    subst (λ slot. AreContentsRead levels (Shape.set tag (components_view fields)) octets slot at) (sym c.fill.ensures)
-    (set_contents levels tag (map field_view fields) octets parts c.in-Ok-into_value.value at c.loop-alloc.invariant c.in-Ok-into_value.ensures.value)
+    set_contents levels tag (map field_view fields) octets parts c.in-Ok-into_value.read at c.loop-alloc.invariant c.in-Ok-into_value.ensures.value
 
 pub reading::read_inside-read_components-requires : goal.reading::read_inside-read_components-requires
 reading::read_inside-read_components-requires t c =
@@ -266,23 +256,23 @@ reading::read_inside-read_members-requires t c =
 pub reading::read_inside-returns-in-Sequence : goal.reading::read_inside-returns-in-Sequence
 reading::read_inside-returns-in-Sequence t c =
     let octets = c.args.inside.now.octets.now in
-    let slot = c.read_components.new.slot in
+    let v = c.read_components.new.value in
     let same : ty_view c.args.ty.now ≡ Shape.sequence c.in-Sequence.field-0 (components_view c.deref.result.now) = ap ty_view c.in-Sequence.is ∙ (ty-Sequence c.in-Sequence.field-0 c.in-Sequence.fields ∙ ap (λ l. Shape.sequence c.in-Sequence.field-0 (components_view l)) (sym c.deref.ensures.value)) in
-    IfSome-map c.read_components.result _ (λ used. AreContentsRead c.args.levels (ty_view c.args.ty.now) octets slot used)
-    (λ used h. subst (λ shape. AreContentsRead c.args.levels shape octets slot used) (sym same) (h c.in-Sequence.field-0)) c.read_components.ensures
+    IfSome-map c.read_components.result _ (λ used. AreContentsRead c.args.levels (ty_view c.args.ty.now) octets v used)
+    (λ used h. subst (λ shape. AreContentsRead c.args.levels shape octets v used) (sym same) (h c.in-Sequence.field-0)) c.read_components.ensures
 
 pub reading::read_inside-returns-in-Set : goal.reading::read_inside-returns-in-Set
 reading::read_inside-returns-in-Set t c =
     let octets = c.args.inside.now.octets.now in
-    let slot = c.read_members.new.slot in
+    let v = c.read_members.new.value in
     let same : ty_view c.args.ty.now ≡ Shape.set c.in-Set.field-0 (components_view c.deref-in-Set.result.now) = ap ty_view c.in-Set.is ∙ (ty-Set c.in-Set.field-0 c.in-Set.fields ∙ ap (λ l. Shape.set c.in-Set.field-0 (components_view l)) (sym c.deref-in-Set.ensures.value)) in
-    IfSome-map c.read_members.result _ (λ used. AreContentsRead c.args.levels (ty_view c.args.ty.now) octets slot used)
-    (λ used h. subst (λ shape. AreContentsRead c.args.levels shape octets slot used) (sym same) (h c.in-Set.field-0)) c.read_members.ensures
+    IfSome-map c.read_members.result _ (λ used. AreContentsRead c.args.levels (ty_view c.args.ty.now) octets v used)
+    (λ used h. subst (λ shape. AreContentsRead c.args.levels shape octets v used) (sym same) (h c.in-Set.field-0)) c.read_members.ensures
 
 pub reading::read_inside-returns-in-Explicit : goal.reading::read_inside-returns-in-Explicit
 reading::read_inside-returns-in-Explicit t c =
     let octets = c.args.inside.now.octets.now in
-    let slot = c.read_one.new.slot in
+    let v = c.read_one.new.value in
     let same : ty_view c.args.ty.now ≡ Shape.explicit c.in-Explicit.field-0 (ty_view c.deref-in-Explicit.result.now) = ap ty_view c.in-Explicit.is ∙ (ty-Explicit c.in-Explicit.field-0 c.in-Explicit.inner ∙ ap (λ l. Shape.explicit c.in-Explicit.field-0 (ty_view l)) (sym c.deref-in-Explicit.ensures)) in
-    IfSome-map c.read_one.result _ (λ used. AreContentsRead c.args.levels (ty_view c.args.ty.now) octets slot used)
-    (λ used h. subst (λ shape. AreContentsRead c.args.levels shape octets slot used) (sym same) (explicit_contents c.args.levels c.in-Explicit.field-0 (ty_view c.deref-in-Explicit.result.now) octets slot used h)) c.read_one.ensures
+    IfSome-map c.read_one.result _ (λ used. AreContentsRead c.args.levels (ty_view c.args.ty.now) octets v used)
+    (λ used h. subst (λ shape. AreContentsRead c.args.levels shape octets v used) (sym same) (explicit_contents c.args.levels c.in-Explicit.field-0 (ty_view c.deref-in-Explicit.result.now) octets v used h)) c.read_one.ensures
