@@ -51,7 +51,12 @@ fn read_component(
     requires { IsGoodComponent (field_view field.now) }
     ensures { IfSome result (λ used. IsComponentRead levels (field_view field.now) octets.now slot.new used) }
 {
-    let value = slot.get_or_insert_with(|| Value::Null);
+    if slot.is_none() {
+        *slot = Some(Value::Null);
+    }
+    let Some(value) = slot else {
+        return None;
+    };
     match read_one(alloc, &field.ty, levels, octets, value) {
         Some(used) => {
             drop_default(&field.presence, slot);

@@ -57,6 +57,7 @@ fn long_primitive(tag: Tag, octets: &[u8]) -> Option<(&[u8], usize)>
 }
 
 // What stands inside the constructed encoding at the front, if it has the tag. Mostly two octets stand before it.
+// What the call for all others returns is handed on as a copy: else what mostly comes would go through memory too.
 #[inline(always)]
 pub fn opened(tag: Tag, octets: &[u8]) -> Option<Inside<'_>>
     ensures { IfSome result (λ inside. IsOpened tag octets.now inside) }
@@ -82,7 +83,8 @@ pub fn opened(tag: Tag, octets: &[u8]) -> Option<Inside<'_>>
             definite: true,
         });
     }
-    long_opened(tag, octets)
+    let inside = long_opened(tag, octets)?;
+    Some(inside)
 }
 
 // What is inside a constructed encoding, whatever its identifier and length are.
@@ -141,13 +143,6 @@ fn leading_octet(tag: Tag) -> u8
 }
 
 impl<'a> Inside<'a> {
-    // Whether the contents octets end behind so many.
-    pub fn ends(&self, used: usize) -> bool
-        requires { used ≤ length self.now.octets.now }
-    {
-        ends_at(&self.octets[used..], self.definite)
-    }
-
     // How many octets the encoding at the front has, of which this was read, if so many are its contents octets.
     pub fn close(&self, octets: &[u8], used: usize) -> Option<usize>
         requires there { used ≤ length self.now.octets.now }

@@ -9,7 +9,7 @@ ghost use Rattle.encoding_parts.specs.HeldParts.{come_view};
 ghost use Rattle.encoding_parts.specs.Parts.{IsGoodComponent, Parts};
 ghost use Rattle.berslice.specs.Reading.{AreContentsRead, AreSetComponentsOf, IsMemberRead};
 
-use crate::heads::Inside;
+use crate::heads::ends_at;
 use crate::reading::read_one;
 use encoding_parts::{SetComponents, emptied_slots};
 use octets::{Head, read_identifier};
@@ -23,11 +23,12 @@ pub fn read_members(
     alloc: Global,
     fields: &[Field],
     levels: usize,
-    inside: &Inside<'_>,
+    octets: &[u8],
+    definite: bool,
     value: &mut Value,
 ) -> Option<usize>
     requires { AllByRecursion IsGoodComponent (map field_view fields.now) }
-    ensures { IfSome result (λ used. (tag : Tag) → AreContentsRead levels (Shape.set tag (components_view fields.now)) inside.now.octets.now value.new used) }
+    ensures { IfSome result (λ used. (tag : Tag) → AreContentsRead levels (Shape.set tag (components_view fields.now)) octets.now value.new used) }
 {
     let Ok(slots) = emptied_slots(alloc, fields, value) else {
         return None;
@@ -39,14 +40,8 @@ pub fn read_members(
         behind,
     };
     let mut at = 0;
-    while !inside.ends(at) {
-        at += read_member(
-            alloc,
-            fields,
-            levels,
-            &inside.octets[at..],
-            &mut set_components,
-        )?;
+    while !ends_at(&octets[at..], definite) {
+        at += read_member(alloc, fields, levels, &octets[at..], &mut set_components)?;
     }
     let Ok(read) = set_components.into_value() else {
         return None;

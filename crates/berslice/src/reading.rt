@@ -118,7 +118,14 @@ fn read_inside(
 {
     match ty {
         Ty::Sequence(_, fields) => read_components(alloc, fields, levels, inside.octets, value),
-        Ty::Set(_, fields) => read_members(alloc, fields, levels, inside, value),
+        Ty::Set(_, fields) => read_members(
+            alloc,
+            fields,
+            levels,
+            inside.octets,
+            inside.definite,
+            value,
+        ),
         Ty::Explicit(_, inner) => read_one(alloc, inner, levels, inside.octets, value),
         _ => None,
     }

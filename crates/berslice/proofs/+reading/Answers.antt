@@ -40,9 +40,9 @@ reading::read_alternative-returns t c =
     IfSome-map c.read_one.result _ (λ used. IsRead levels (Shape.choice (alternatives_view xs)) octets _ used)
     (λ used h. chosen_read levels xs which a octets v _ used c.requires.there c.index-alternatives-which.is (search (rules, value.the_lemmas) ∙ ap (λ p. Val.chosen p (value_view v)) place) h) c.read_one.ensures
 
-pub components::read_component-returns-in-Some : goal.components::read_component-returns-in-Some
-components::read_component-returns-in-Some t c =
-    component_stands c.args.levels c.args.field.now c.args.octets.now c.read_one.new.value c.drop_default.new.slot c.in-Some.used c.in-Some.ensures c.drop_default.ensures
+pub components::read_component-returns-in-Some-read_one : goal.components::read_component-returns-in-Some-read_one
+components::read_component-returns-in-Some-read_one t c =
+    component_stands c.args.levels c.args.field.now c.args.octets.now c.read_one.new.value c.drop_default.new.slot c.in-Some-read_one.used c.in-Some-read_one.ensures c.drop_default.ensures
 
 pub components::read_components-loop-place-init : goal.components::read_components-loop-place-init
 components::read_components-loop-place-init t c = (no_components c.args.levels c.args.octets.now [] refl, c.in-Ok.ensures)
@@ -212,7 +212,7 @@ members::read_member-returns t c =
 
 pub members::read_members-loop-alloc-smaller : goal.members::read_members-loop-alloc-smaller
 members::read_members-loop-alloc-smaller t c =
-    let octets = c.args.inside.now.octets.now in
+    let octets = c.args.octets.now in
     let at = c.loop-alloc.at in
     let old = Parts.set (come_view c.loop-alloc.set_components) in
     let new = Parts.set (come_view c.read_member.new.set_components) in
@@ -223,7 +223,7 @@ members::read_members-loop-alloc-smaller t c =
 
 pub members::read_members-loop-alloc-preserved : goal.members::read_members-loop-alloc-preserved
 members::read_members-loop-alloc-preserved t c =
-    let octets = c.args.inside.now.octets.now in
+    let octets = c.args.octets.now in
     let at = c.loop-alloc.at in
     let old = Parts.set (come_view c.loop-alloc.set_components) in
     let new = Parts.set (come_view c.read_member.new.set_components) in
@@ -232,13 +232,13 @@ members::read_members-loop-alloc-preserved t c =
 
 pub members::read_members-loop-alloc-init : goal.members::read_members-loop-alloc-init
 members::read_members-loop-alloc-init t c =
-    no_members c.args.levels c.args.fields.now c.args.inside.now.octets.now c.in-Ok.slots.items c.in-Ok.ensures
+    no_members c.args.levels c.args.fields.now c.args.octets.now c.in-Ok.slots.items c.in-Ok.ensures
 
 pub members::read_members-returns : goal.members::read_members-returns
 members::read_members-returns t c = λ tag.
     let levels = c.args.levels in
     let fields = c.args.fields.now in
-    let octets = c.args.inside.now.octets.now in
+    let octets = c.args.octets.now in
     let at = c.loop-alloc.at in
     let parts = Parts.set (come_view c.loop-alloc.set_components) in
     set_contents levels tag (map field_view fields) octets parts c.in-Ok-into_value.read at c.loop-alloc.invariant c.in-Ok-into_value.ensures.value

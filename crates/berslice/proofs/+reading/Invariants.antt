@@ -18,7 +18,7 @@ abbrev pub decreases-items::fill_list-loop-alloc : goal.decreases-items::fill_li
 decreases-items::fill_list-loop-alloc l = length l.octets - l.at
 
 abbrev pub invariant-members::read_members-loop-alloc : goal.invariant-members::read_members-loop-alloc
-invariant-members::read_members-loop-alloc l = AreMembersRead l.levels (map field_view l.fields) l.inside.octets.now (Parts.set (come_view l.set_components)) l.at
+invariant-members::read_members-loop-alloc l = AreMembersRead l.levels (map field_view l.fields) l.octets (Parts.set (come_view l.set_components)) l.at
 
 abbrev pub decreases-members::read_members-loop-alloc : goal.decreases-members::read_members-loop-alloc
-decreases-members::read_members-loop-alloc l = length l.inside.octets.now - l.at
+decreases-members::read_members-loop-alloc l = length l.octets - l.at
