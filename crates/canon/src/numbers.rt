@@ -1,7 +1,7 @@
 //! Encodings of an INTEGER and of an ENUMERATED number (X.690 8.3 and 8.4): contents octets by words of eight.
 
-ghost use Rattle.std.specs.Prelude.{Bool, ◌≡◌, ◌≤◌, ◌<◌, ◌*◌, ◌^◌, ◌-◌, ◌++◌, ℕ, List, All, length, OnOk, OnErr};
-ghost use Rattle.std.specs.Int.{w64, to_be_bytes};
+ghost use Rattle.std.specs.Prelude.{Bool, ◌≡◌, ◌≤◌, ◌<◌, ◌*◌, ◌^◌, ◌-◌, ◌++◌, ℕ, ℤ, List, All, FitsSigned, length, OnOk, OnErr};
+ghost use Rattle.std.specs.Int.{w64, w128, to_be_bytes};
 ghost use Rattle.octets.specs.Digits.{number_of};
 ghost use Rattle.primitives.specs.Integer.{IsInteger, number_at};
 ghost use Rattle.canon.specs.Leaf.{IsNumberEncoding};
@@ -17,15 +17,31 @@ pub(crate) fn put_number(tag: Tag, number: i128, out: &mut Vec<u8>) -> Result<()
     ensures { Writes (IsNumberEncoding tag number) result out.old.items out.new.items }
 {
     let distance = distance_of(number);
-    if tag.number >= 31 || distance >= 1 << 47 {
-        return put_any_number(tag, number, out);
+    if distance >= 1 << 47 {
+        return put_long_number(tag, number, out);
     }
     let count = size_of_few(distance as u64);
-    // Identifier octet, length octet, at most six contents octets, and then zeros.
+    // The contents octets, and then zeros.
     let low = (number.cast_unsigned() % (1 << 64)) as u64;
-    let contents = (low << (64 - 8 * count)) >> 16;
-    let word = (u64::from(leading_octet(tag)) << 56) + ((count as u64) << 48) + contents;
+    let contents = low << (64 - 8 * count);
+    if tag.number >= 31 {
+        return put_behind_head(tag, count, contents, out);
+    }
+    // The same behind identifier octet and length octet.
+    let word = (u64::from(leading_octet(tag)) << 56) + ((count as u64) << 48) + (contents >> 16);
     put_few(2 + count, word, out)
+}
+
+// Appends a head, and then the first `count` of eight octets.
+#[inline(never)]
+fn put_behind_head(tag: Tag, count: usize, contents: u64, out: &mut Vec<u8>) -> Result<(), NoMemory>
+    requires few { count ≤ 6 }
+    ensures { (number : ℤ) → FitsSigned w128 number → ((octets : List ℕ) → IsInteger number octets →
+        (length octets ≡ count) × (contents ≡ number_of 256 octets * 256 ^ (8 - count))) →
+        Writes (IsNumberEncoding tag number) result out.old.items out.new.items }
+{
+    put_primitive_head(tag, count, out)?;
+    put_few(count, contents, out)
 }
 
 // How many contents octets a number has that stands so far above 0, or below -1.
@@ -70,9 +86,9 @@ fn grow_by_few(count: usize, word: u64, out: &mut Vec<u8>) -> Result<(), NoMemor
     Ok(())
 }
 
-// Appends the encoding of a number of any size, under any tag.
+// Appends the encoding of a number of any size.
 #[inline(never)]
-fn put_any_number(tag: Tag, number: i128, out: &mut Vec<u8>) -> Result<(), NoMemory>
+fn put_long_number(tag: Tag, number: i128, out: &mut Vec<u8>) -> Result<(), NoMemory>
     ensures { Writes (IsNumberEncoding tag number) result out.old.items out.new.items }
 {
     let count = size_of_integer(number);

@@ -3,7 +3,7 @@ use Rattle.std.specs.Int.{w128, cast_unsigned}
 use Rattle.std.proofs.lemmas.Int.{to_z-of_z}
 use Rattle.primitives.specs.Integer.{IsInteger}
 use Rattle.canon.proofs.NumberLemmas.{number_put}
-use Rattle.canon.proofs.numbers.put_any_number.Goals as goal
+use Rattle.canon.proofs.numbers.put_long_number.Goals as goal
 
 pub returns : goal.returns
 returns c =
