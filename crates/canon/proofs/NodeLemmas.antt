@@ -107,7 +107,7 @@ explicit_alike rule tag type v = record {
 
 -- a type whose encodings are constructed, and its tag
 abbrev pub IsFramed : Tag → Shape → Type 0
-IsFramed tag shape = ((components : Components) × (shape ≡ Shape.sequence tag components)) ⊎ (((components : Components) × (shape ≡ Shape.set tag components)) ⊎ (((type : Shape) × (shape ≡ Shape.sequence_of tag type)) ⊎ (((type : Shape) × (shape ≡ Shape.set_of tag type)) ⊎ ((type : Shape) × (shape ≡ Shape.explicit tag type)))))
+IsFramed tag shape = ((components : Components) × (shape ≡ Shape.sequence tag components)) ⊎ (((components : Components) × (shape ≡ Shape.set tag components)) ⊎ (((type : Shape) × (shape ≡ Shape.sequence_of tag type)) ⊎ ((type : Shape) × (shape ≡ Shape.set_of tag type))))
 
 abbrev Surrounds : Rule → Tag → Shape → Val → Type 0
 Surrounds rule tag shape v = Conforms shape v → (b : List ℕ) → IsAround (ArePartsOf rule shape v) rule tag b → IsEncoding rule shape v b
@@ -133,8 +133,7 @@ pub parts_around : (rule : Rule) (tag : Tag) (shape : Shape) (v : Val) → IsCan
 parts_around rule tag shape v canonical (inl is) = subst (λ s. Surrounds rule tag s v) (sym is.1) (sequence_around rule tag is.0 v)
 parts_around rule tag shape v canonical (inr (inl is)) = subst (λ s. Surrounds rule tag s v) (sym is.1) (set_around rule tag is.0 v canonical)
 parts_around rule tag shape v canonical (inr (inr (inl is))) = subst (λ s. Surrounds rule tag s v) (sym is.1) (sequence_of_around rule tag is.0 v)
-parts_around rule tag shape v canonical (inr (inr (inr (inl is)))) = subst (λ s. Surrounds rule tag s v) (sym is.1) (set_of_around rule tag is.0 v canonical)
-parts_around rule tag shape v canonical (inr (inr (inr (inr is)))) = subst (λ s. Surrounds rule tag s v) (sym is.1) (λ c b h. (explicit_alike rule tag is.0 v).to b h)
+parts_around rule tag shape v canonical (inr (inr (inr is))) = subst (λ s. Surrounds rule tag s v) (sym is.1) (set_of_around rule tag is.0 v canonical)
 
 -- the alternative that is chosen
 pub record IsChosen (alternatives : List Alternative) (which : ℕ) (v : Val) : Type 0 where

@@ -9,7 +9,7 @@ use Rattle.types.specs.Shape.{Val, listed, Shape, Components}
 use Rattle.types.specs.View.{ty_view, components_view}
 use Rattle.types.specs.Encoding.{IsEncoding}
 use Rattle.types.specs.Leaf.{tag_of, IsLeaf}
-use Rattle.types.proofs.ViewLemmas.{ty-Sequence, ty-Set, ty-SequenceOf, ty-SetOf, ty-Explicit}
+use Rattle.types.proofs.ViewLemmas.{ty-Sequence, ty-Set, ty-SequenceOf, ty-SetOf}
 use Rattle.canon.specs.Node.{HasGoodNodes, AreItems, AreComponents}
 use Rattle.canon.specs.Leaf.{IsLeafOf}
 use Rattle.canon.specs.Size.{HasSize}
@@ -27,12 +27,11 @@ record_view ty tag fields (inl is) = inl (ap ty_view is ∙ ty-Sequence tag fiel
 record_view ty tag fields (inr is) = inr (ap ty_view is ∙ ty-Set tag fields)
 
 pub framed_view : (ty : Ty) (tag : Tag) → ((fields : Vec Field Global) × (ty ≡ node.Sequence tag fields)) ⊎ (((fields : Vec Field Global) × (ty ≡ node.Set tag fields)) ⊎ (((inner : Box Ty Global) × (ty ≡ node.SequenceOf tag inner))
-    ⊎ (((inner : Box Ty Global) × (ty ≡ node.SetOf tag inner)) ⊎ ((inner : Box Ty Global) × (ty ≡ node.Explicit tag inner))))) → IsFramed tag (ty_view ty)
+    ⊎ ((inner : Box Ty Global) × (ty ≡ node.SetOf tag inner)))) → IsFramed tag (ty_view ty)
 framed_view ty tag (inl h) = inl (components_view h.0.items, ap ty_view h.1 ∙ ty-Sequence tag h.0)
 framed_view ty tag (inr (inl h)) = inr (inl (components_view h.0.items, ap ty_view h.1 ∙ ty-Set tag h.0))
 framed_view ty tag (inr (inr (inl h))) = inr (inr (inl (ty_view h.0.value, ap ty_view h.1 ∙ ty-SequenceOf tag h.0)))
-framed_view ty tag (inr (inr (inr (inl h)))) = inr (inr (inr (inl (ty_view h.0.value, ap ty_view h.1 ∙ ty-SetOf tag h.0))))
-framed_view ty tag (inr (inr (inr (inr h)))) = inr (inr (inr (inr (ty_view h.0.value, ap ty_view h.1 ∙ ty-Explicit tag h.0))))
+framed_view ty tag (inr (inr (inr h))) = inr (inr (inr (ty_view h.0.value, ap ty_view h.1 ∙ ty-SetOf tag h.0)))
 
 pub leaf_of : (tag : Tag) (shape : Shape) → IsLeaf shape → tag_of shape ≡ tag → IsLeafOf tag shape
 leaf_of tag (Shape.simple own type) leaf is = inl (type, ap (λ t. Shape.simple t type) is)

@@ -57,11 +57,10 @@ pub record AreComponentsByTag (rule : Rule) (components : Components) (slots : S
   pub ascends : AscendsByTag rule components order
   pub joined : octets ≡ concat order
 
--- the contents octets of a constructed encoding; nothing of a value that has none
+-- the contents octets of a constructed encoding, but of one under an explicit tag; nothing of a value that has none
 abbrev pub ArePartsOf : Rule → Shape → Val → List ℕ → Type 0
 ArePartsOf rule (Shape.sequence tag components) (Val.fields slots) = AreComponents rule components slots
 ArePartsOf rule (Shape.set tag components) (Val.fields slots) = AreComponentsByTag rule components slots
 ArePartsOf rule (Shape.sequence_of tag type) (Val.items items) = AreItems (IsEncoding rule type) (listed items)
 ArePartsOf rule (Shape.set_of tag type) (Val.items items) = AreItemsInOrder (IsEncoding rule type) (listed items)
-ArePartsOf rule (Shape.explicit tag type) v = IsEncoding rule type v
 ArePartsOf rule _ _ = λ octets. octets ≡ []

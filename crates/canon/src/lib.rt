@@ -3,8 +3,8 @@
 //! Each gives a value one encoding, written from the first octet to the last: DER's length of a
 //! constructed encoding is put in its place once the contents octets stand, the heads of many explicit tags
 //! around long contents octets before these at once, and the parts of a SET or SET OF are put in order once
-//! they stand. Where an encoding is too long or memory runs out its octets are
-//! counted, without memory, so that the latter never hides the former.
+//! they stand. Where an encoding is too long or memory runs out its octets are counted, without memory, so
+//! that the latter never hides the former.
 #![tactic(auto)]
 
 mod canon;
@@ -12,6 +12,7 @@ mod cer;
 mod contents;
 mod copying;
 mod der;
+mod explicit;
 mod heads;
 mod laws;
 mod leaf;

@@ -27,7 +27,7 @@ pub(crate) fn put_number(tag: Tag, number: i128, out: &mut Vec<u8>) -> Result<()
     if tag.number >= 31 {
         return put_behind_head(tag, count, contents, out);
     }
-    // The same behind identifier octet and length octet.
+    // Identifier octet and length octet, and then these.
     let word = (u64::from(leading_octet(tag)) << 56) + ((count as u64) << 48) + (contents >> 16);
     put_few(2 + count, word, out)
 }
@@ -72,7 +72,7 @@ fn put_few(count: usize, word: u64, out: &mut Vec<u8>) -> Result<(), NoMemory>
     Ok(())
 }
 
-// Appends them, and makes room for them.
+// Appends the first `count` of eight octets, for which there is no room yet.
 #[inline(never)]
 fn grow_by_few(count: usize, word: u64, out: &mut Vec<u8>) -> Result<(), NoMemory>
     requires few { count ≤ 8 }

@@ -2,17 +2,41 @@
 //! from the inside out and the last octet first, and stand before them at the end. So the contents octets move once,
 //! however many tags there are.
 
-ghost use Rattle.std.specs.Prelude.{◌≡◌, ◌≤◌, ◌++◌, length, take, drop, reverse, OnOk, OnErr};
+ghost use Rattle.std.specs.Prelude.{IsTrue, ◌≡◌, ◌≤◌, ◌++◌, length, take, drop, reverse, OnOk, OnErr};
 ghost use Rattle.octets.specs.Front.{Appends};
+ghost use Rattle.octets.specs.Rule.{der};
 ghost use Rattle.canon.specs.Part.{Keeps};
+ghost use Rattle.canon.specs.Rule.{rule_of};
 ghost use Rattle.canon.specs.Turned.{IsTurnedHead, IsTurnedForward};
 
 use crate::heads::{bring_forward, leading_octet, put_pair};
+use crate::rule::CanonicalRule;
 use octets::{NoMemory, Tag, put_identifier, put_shortest_length};
 use types::{Ty, Value};
 
+// Whether long contents octets would move for each of four explicit tags or more, one of them around `ty`. Under CER
+// none move.
+#[inline(always)]
+pub(crate) fn moves_often(rule: CanonicalRule, ty: &Ty, value: &Value) -> bool
+    ensures { IsTrue result → rule_of rule ≡ der }
+{
+    match rule {
+        CanonicalRule::Cer => false,
+        CanonicalRule::Der => is_long_under_tags(ty, value),
+    }
+}
+
+// Whether a value is long, and its type begins with three explicit tags. Mostly it begins with none.
+#[inline(always)]
+fn is_long_under_tags(ty: &Ty, value: &Value) -> bool {
+    match ty {
+        Ty::Explicit(_, inner) => has_tags(inner, 2) && is_long(value),
+        _ => false,
+    }
+}
+
 // Whether a value surely has contents octets by the thousand, which are dear to move. Takes a few steps.
-pub(crate) fn is_long(value: &Value) -> bool {
+fn is_long(value: &Value) -> bool {
     match value {
         Value::Items(items) => items.len() >= 512,
         Value::Octets(octets) | Value::Text(octets) => octets.len() >= 1024,
@@ -22,7 +46,7 @@ pub(crate) fn is_long(value: &Value) -> bool {
 }
 
 // Whether a type begins with so many explicit tags.
-pub(crate) fn has_tags(ty: &Ty, count: usize) -> bool {
+fn has_tags(ty: &Ty, count: usize) -> bool {
     if count == 0 {
         return true;
     }
@@ -44,7 +68,7 @@ pub(crate) fn put_turned_head(tag: Tag, contents: usize, out: &mut Vec<u8>) -> R
     put_long_turned_head(tag, contents, out)
 }
 
-// Appends it, of any size.
+// Appends what stands before them, whatever the tag and the length are, the last octet first.
 #[inline(never)]
 fn put_long_turned_head(tag: Tag, contents: usize, out: &mut Vec<u8>) -> Result<(), NoMemory>
     ensures appended { OnOk result (Appends (IsTurnedHead tag contents) out.old.items out.new.items) }

@@ -1,19 +1,17 @@
 //! Whole values, written from the first octet to the last. The parts of a SET or SET OF are put in order once
 //! they stand.
 
-ghost use Rattle.std.specs.Prelude.{◌≡◌, map, IsTrue, IfOk, OnErr};
-ghost use Rattle.octets.specs.Rule.{der};
+ghost use Rattle.std.specs.Prelude.{map, IfOk, OnErr};
 ghost use Rattle.types.specs.Encoding.{IsEncoding};
 ghost use Rattle.types.specs.FirstTags.{tags_of_components, AreDistinct};
 ghost use Rattle.types.specs.Leaf.{IsLeaf};
-ghost use Rattle.types.specs.Shape.{Shape};
 ghost use Rattle.types.specs.View.{ty_view, value_view, components_view, slots_view};
 ghost use Rattle.canon.specs.Node.{ArePartsOf, AreItems, AreItemsInOrder, AreComponents, AreComponentsByTag};
 ghost use Rattle.canon.specs.Part.{IsPut, Keeps};
 ghost use Rattle.canon.specs.Rule.{rule_of};
-ghost use Rattle.canon.specs.Turned.{IsTurned};
 ghost use Rattle.canon.specs.Writes.{IsWritable, AreWritable, AreWritableSlots, Writes};
 
+use crate::explicit::put_explicit;
 use crate::heads::{put_closing, put_opening};
 use crate::leaf::put_leaf;
 use crate::leaves::put_leaves;
@@ -21,8 +19,7 @@ use crate::parts::{chosen_in, items_in, slots_in};
 use crate::rule::CanonicalRule;
 use crate::spans::{Keyed, Span, arrange, arrange_by_tag, part, with_key_of};
 use crate::tags::order_tag;
-use crate::turned::{has_tags, is_long, put_turned_head, turn_forward};
-use octets::{NoMemory, Tag};
+use octets::NoMemory;
 use std::alloc::Global;
 use types::{Field, Ty, Value};
 
@@ -42,13 +39,15 @@ pub(crate) fn put_value(
 {
     match ty.leaf_tag() {
         Some(tag) => put_leaf(rule, tag, value, out),
-        None => put_constructed(alloc, rule, ty, value, out),
+        None => put_node(alloc, rule, ty, value, out),
     }
 }
 
-// Appends the encoding of a value that has parts, or of an alternative.
+// Appends the encoding of a value that has parts, of an alternative, or of a value under an explicit tag. The last
+// needs none of the room that `put_constructed` takes on the stack.
 #[cycle(writing)]
-fn put_constructed(
+#[inline(never)]
+fn put_node(
     alloc: Global,
     rule: CanonicalRule,
     ty: &Ty,
@@ -61,17 +60,16 @@ fn put_constructed(
         result out.old.items out.new.items }
 {
     match ty {
-        Ty::Explicit(tag, inner) if moves_often(rule, inner, value) => {
-            put_under_tags(alloc, *tag, inner, value, out)
-        }
-        _ => put_in_place(alloc, rule, ty, value, out),
+        Ty::Explicit(tag, inner) => put_explicit(alloc, rule, *tag, inner, value, out),
+        _ => put_constructed(alloc, rule, ty, value, out),
     }
 }
 
-// Appends the same, of which each head stands where it is to be before its contents octets.
+// Appends the encoding of a value that has parts, of an alternative, or of a value under an explicit tag: items come here
+// at once.
 #[cycle(writing)]
-#[inline(always)]
-fn put_in_place(
+#[inline(never)]
+fn put_constructed(
     alloc: Global,
     rule: CanonicalRule,
     ty: &Ty,
@@ -90,84 +88,13 @@ fn put_in_place(
             };
             put_value(alloc, rule, &alternatives[which].ty, chosen, out)
         }
-        Ty::Sequence(tag, _)
-        | Ty::Set(tag, _)
-        | Ty::SequenceOf(tag, _)
-        | Ty::SetOf(tag, _)
-        | Ty::Explicit(tag, _) => {
+        Ty::Explicit(tag, inner) => put_explicit(alloc, rule, *tag, inner, value, out),
+        Ty::Sequence(tag, _) | Ty::Set(tag, _) | Ty::SequenceOf(tag, _) | Ty::SetOf(tag, _) => {
             let place = put_opening(*tag, true, out)?;
             put_parts(alloc, rule, ty, value, out)?;
             put_closing(rule, place, out)
         }
         _ => unreachable!(),
-    }
-}
-
-// Whether long contents octets would move for each of four explicit tags or more. Under CER none move.
-fn moves_often(rule: CanonicalRule, ty: &Ty, value: &Value) -> bool
-    ensures { IsTrue result → rule_of rule ≡ der }
-{
-    match rule {
-        CanonicalRule::Cer => false,
-        CanonicalRule::Der => is_long(value) && has_tags(ty, 3),
-    }
-}
-
-// Appends the encoding under DER of a value under an explicit tag, with the heads from the inside out.
-#[cycle(writing)]
-#[inline(never)]
-fn put_under_tags(
-    alloc: Global,
-    tag: Tag,
-    ty: &Ty,
-    value: &Value,
-    out: &mut Vec<u8>,
-) -> Result<(), NoMemory>
-    requires { IsWritable (ty_view ty.now) (value_view value.now) }
-    ensures { Writes (IsEncoding der (Shape.explicit tag (ty_view ty.now)) (value_view value.now))
-        result out.old.items out.new.items }
-{
-    let start = out.len();
-    let from = put_turned_around(alloc, tag, ty, value, out)?;
-    turn_forward(start, from, out);
-    Ok(())
-}
-
-// Appends the contents octets of a value under an explicit tag and behind them, turned round, what stands before
-// them. Returns where the latter begins.
-#[cycle(writing)]
-fn put_turned_around(
-    alloc: Global,
-    tag: Tag,
-    ty: &Ty,
-    value: &Value,
-    out: &mut Vec<u8>,
-) -> Result<usize, NoMemory>
-    requires { IsWritable (ty_view ty.now) (value_view value.now) }
-    ensures put { IfOk result (IsTurned
-        (IsEncoding der (Shape.explicit tag (ty_view ty.now)) (value_view value.now)) out.old.items out.new.items) }
-    ensures kept { OnErr result (Keeps out.old.items out.new.items) }
-{
-    let start = out.len();
-    let from = put_turned(alloc, ty, value, out)?;
-    put_turned_head(tag, out.len() - start, out)?;
-    Ok(from)
-}
-
-// Appends the same of a value under no explicit tag, or some.
-#[cycle(writing)]
-fn put_turned(alloc: Global, ty: &Ty, value: &Value, out: &mut Vec<u8>) -> Result<usize, NoMemory>
-    requires { IsWritable (ty_view ty.now) (value_view value.now) }
-    ensures put { IfOk result (IsTurned
-        (IsEncoding der (ty_view ty.now) (value_view value.now)) out.old.items out.new.items) }
-    ensures kept { OnErr result (Keeps out.old.items out.new.items) }
-{
-    match ty {
-        Ty::Explicit(tag, inner) => put_turned_around(alloc, *tag, inner, value, out),
-        _ => {
-            put_value(alloc, CanonicalRule::Der, ty, value, out)?;
-            Ok(out.len())
-        }
     }
 }
 
@@ -189,7 +116,6 @@ fn put_parts(
         Ty::Set(_, fields) => put_by_tag(alloc, rule, fields, slots_in(value), out),
         Ty::SequenceOf(_, inner) => put_items(alloc, rule, inner, items_in(value), out),
         Ty::SetOf(_, inner) => put_in_order(alloc, rule, inner, items_in(value), out),
-        Ty::Explicit(_, inner) => put_value(alloc, rule, inner, value, out),
         _ => Ok(()),
     }
 }

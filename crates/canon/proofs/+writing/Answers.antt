@@ -1,8 +1,10 @@
 use Rattle.std.proofs.Common.{true, ◌≡◌, ◌∙◌, ◌+◌, ◌-◌, ◌<◌, ℕ, suc, List, [], ◌∷◌, ◌++◌, Option, Some, None, length, take, get_or, map, inl, inr, refl, sym, ap, subst, subst₂, arith, rules}
 use Rattle.std.proofs.lemmas.List.{length-map, take_all}
+use Rattle.std.specs.declared.result.Result.{Result}
+use Rattle.octets.specs.declared.no_memory.NoMemory.{NoMemory}
 use Rattle.octets.specs.declared.tag.Tag.{Tag}
 use Rattle.octets.specs.Front.{Appends}
-use Rattle.octets.specs.Rule.{Rule, der}
+use Rattle.octets.specs.Rule.{Rule}
 use Rattle.octets.proofs.ResultLemmas.{OnOk-map}
 use Rattle.types.specs.declared.ty.Ty.{Ty}
 use Rattle.types.specs.declared.ty.Ty as node
@@ -27,7 +29,7 @@ use Rattle.canon.proofs.JoinLemmas.{BeginsComponents, none_joined, present_joine
 use Rattle.canon.proofs.KeptLemmas.{kept, keeps_more, keeps_chain, keeps_taken}
 use Rattle.canon.proofs.LeafLemmas.{leaf_alike, leaf_conforms}
 use Rattle.canon.proofs.LeavesLemmas.{leaves_conform, leaves_alike, item_behind}
-use Rattle.canon.proofs.NodeLemmas.{choice_parts, has_items, has_slots, parts_around}
+use Rattle.canon.proofs.NodeLemmas.{choice_parts, explicit_alike, has_items, has_slots, parts_around}
 use Rattle.canon.proofs.OpeningLemmas.{opened_kept}
 use Rattle.canon.proofs.PartLemmas.{part_put}
 use Rattle.canon.proofs.PutLemmas.{laid_more, laid_cut, laid_keys, order_made}
@@ -39,31 +41,36 @@ use Rattle.canon.proofs.TurnedLemmas.{none_turned, turned_more}
 use Rattle.canon.proofs.TyLemmas.{framed_view, leaf_of}
 use Rattle.canon.proofs.WritableLemmas.{stands_at, item_writable, part_writable}
 use Rattle.canon.proofs.WritesLemmas.{few_in_order, written_by, refused, written_around, put_as}
-use Rattle.canon.proofs.writing.+writing.Goals as goal
+use Rattle.canon.proofs.+writing.Goals as goal
+
+-- the encoding of a value under an explicit tag
+written_as_explicit : {shape : Shape} {v : Val} {r : Result (Unit {0}) NoMemory} {old new : List ℕ} {type inner : Ty} (rule : Rule) (tag : Tag) → type ≡ inner → shape ≡ Shape.explicit tag (ty_view inner) → Writes (IsEncoding rule (Shape.explicit tag (ty_view type)) v) r old new → Writes (IsEncoding rule shape v) r old new
+written_as_explicit {v = v} {r = r} {old = old} {new = new} rule tag same is put =
+    subst (λ (s : Shape). Writes (IsEncoding rule s v) r old new) (sym is) (subst (λ (e : Ty). Writes (IsEncoding rule (Shape.explicit tag (ty_view e)) v) r old new) same put)
 
 -- no value in a slot
 no_slot_there : (slot : Option Value) → ((v : Value) → ¬ (slot ≡ Some v)) → slot ≡ None
 no_slot_there None h = refl
 no_slot_there (Some v) h = absurd (h v refl)
 
-pub put_value-put_leaf-requires-clause-leaf : goal.put_value-put_leaf-requires-clause-leaf
-put_value-put_leaf-requires-clause-leaf t c = leaf_conforms c.in-Some.tag (ty_view c.args.ty.now) (value_view c.args.value.now) (leaf_of c.in-Some.tag (ty_view c.args.ty.now) c.in-Some.ensures.leaf c.in-Some.ensures.tag) c.requires.conforms
+pub writing::put_value-put_leaf-requires-clause-leaf : goal.writing::put_value-put_leaf-requires-clause-leaf
+writing::put_value-put_leaf-requires-clause-leaf t c = leaf_conforms c.in-Some.tag (ty_view c.args.ty.now) (value_view c.args.value.now) (leaf_of c.in-Some.tag (ty_view c.args.ty.now) c.in-Some.ensures.leaf c.in-Some.ensures.tag) c.requires.conforms
 
-pub put_value-returns-in-Some : goal.put_value-returns-in-Some
-put_value-returns-in-Some t c =
+pub writing::put_value-returns-in-Some : goal.writing::put_value-returns-in-Some
+writing::put_value-returns-in-Some t c =
     let alike = leaf_alike (rule_of c.args.rule) (rule_is_canonical c.args.rule) c.in-Some.tag (ty_view c.args.ty.now) (value_view c.args.value.now) (leaf_of c.in-Some.tag (ty_view c.args.ty.now) c.in-Some.ensures.leaf c.in-Some.ensures.tag) c.requires.conforms in
     written_by c.put_leaf.ensures alike.to
 
-pub put_in_place-index-requires : goal.put_in_place-index-requires
-put_in_place-index-requires t c =
+pub writing::put_constructed-index-requires : goal.writing::put_constructed-index-requires
+writing::put_constructed-index-requires t c =
     let alternatives = c.in-Choice.alternatives in
     let is = ap ty_view c.in-Choice.is ∙ ty-Choice alternatives in
     let parts = choice_parts alternatives.items (value_view c.args.value.now) (subst (λ (s : Shape). Conforms s (value_view c.args.value.now)) is c.requires.writable.conforms) (subst HasGoodNodes is c.requires.writable.nodes) in
     let told = c.in-Some.ensures parts.which parts.value parts.is in
     omega (arith, told.0, parts.alternative.there, alternatives.ok.0)
 
-pub put_in_place-put_value-requires : goal.put_in_place-put_value-requires
-put_in_place-put_value-requires t c =
+pub writing::put_constructed-put_value-requires : goal.writing::put_constructed-put_value-requires
+writing::put_constructed-put_value-requires t c =
     let rule = rule_of c.args.rule in
     let v = value_view c.args.value.now in
     let alternatives = c.in-Choice.alternatives in
@@ -72,8 +79,8 @@ put_in_place-put_value-requires t c =
     let here = chosen_in_choice rule alternatives.items (ty_view c.args.ty.now) v c.in-Some.which (value_view c.in-Some.chosen.now) c.index.result.now is parts (c.in-Some.ensures parts.which parts.value parts.is) c.index.ensures in
     (search (rules, node.the_lemmas, alternative.the_lemmas), here.writable)
 
-pub put_in_place-returns-in-Some : goal.put_in_place-returns-in-Some
-put_in_place-returns-in-Some t c =
+pub writing::put_constructed-returns-in-Some : goal.writing::put_constructed-returns-in-Some
+writing::put_constructed-returns-in-Some t c =
     let rule = rule_of c.args.rule in
     let v = value_view c.args.value.now in
     let alternatives = c.in-Choice.alternatives in
@@ -83,8 +90,8 @@ put_in_place-returns-in-Some t c =
     let here = chosen_in_choice rule alternatives.items (ty_view c.args.ty.now) v c.in-Some.which (value_view c.in-Some.chosen.now) a is parts (c.in-Some.ensures parts.which parts.value parts.is) c.index.ensures in
     written_by c.put_value.ensures here.alike.to
 
-pub put_in_place-returns-in_ok-put_parts-in-Sequence : goal.put_in_place-returns-in_ok-put_parts-in-Sequence
-put_in_place-returns-in_ok-put_parts-in-Sequence t c =
+pub writing::put_constructed-returns-in_ok-put_parts-in-Sequence : goal.writing::put_constructed-returns-in_ok-put_parts-in-Sequence
+writing::put_constructed-returns-in_ok-put_parts-in-Sequence t c =
     let rule = rule_of c.args.rule in
     let shape = ty_view c.args.ty.now in
     let v = value_view c.args.value.now in
@@ -92,15 +99,15 @@ put_in_place-returns-in_ok-put_parts-in-Sequence t c =
     written_around c.put_closing.result rule tag (ArePartsOf rule shape v) (IsEncoding rule shape v) c.in_ok-place-in-Sequence.place c.args.out.now.items c.put_opening.new.out.items c.put_parts.new.out.items c.put_closing.new.out.items c.in_ok-place-in-Sequence.ensures.opened
     c.in_ok-put_parts-in-Sequence.ensures.appended (parts_around rule tag shape v (rule_is_canonical c.args.rule) (framed_view c.args.ty.now tag c.in-Sequence.is) c.requires.writable.conforms) c.put_closing.ensures.closed c.put_closing.ensures.kept
 
-pub put_in_place-returns-in_err-put_parts-in-Sequence : goal.put_in_place-returns-in_err-put_parts-in-Sequence
-put_in_place-returns-in_err-put_parts-in-Sequence t c =
+pub writing::put_constructed-returns-in_err-put_parts-in-Sequence : goal.writing::put_constructed-returns-in_err-put_parts-in-Sequence
+writing::put_constructed-returns-in_err-put_parts-in-Sequence t c =
     let old = c.args.out.now.items in
     let one = c.put_opening.new.out.items in
     refused _ c.from_residual-in_err-put_parts-in-Sequence.ensures.1
     (keeps_chain old one c.put_parts.new.out.items (opened_kept c.in-Sequence.tag true old one c.in_ok-place-in-Sequence.place c.in_ok-place-in-Sequence.ensures.opened) c.in_err-put_parts-in-Sequence.ensures.kept)
 
-pub put_parts-returns-in-Sequence : goal.put_parts-returns-in-Sequence
-put_parts-returns-in-Sequence t c =
+pub writing::put_parts-returns-in-Sequence : goal.writing::put_parts-returns-in-Sequence
+writing::put_parts-returns-in-Sequence t c =
     let rule = rule_of c.args.rule in
     let tag = c.in-Sequence.field-0 in
     let components = components_view c.in-Sequence.fields.items in
@@ -108,8 +115,8 @@ put_parts-returns-in-Sequence t c =
     let parts = has_slots tag components (ty_view c.args.ty.now) (value_view c.args.value.now) (inl is) c.requires.conforms c.requires.nodes in
     put_as rule is parts.is (subst₂ (λ (fs : List Field) (s : Slots). Writes (AreComponents rule (components_view fs) s) c.put_components.result c.args.out.now.items c.put_components.new.out.items) c.deref.ensures.value (sym (c.slots_in.ensures parts.slots parts.is)) c.put_components.ensures)
 
-pub put_parts-returns-in-Set : goal.put_parts-returns-in-Set
-put_parts-returns-in-Set t c =
+pub writing::put_parts-returns-in-Set : goal.writing::put_parts-returns-in-Set
+writing::put_parts-returns-in-Set t c =
     let rule = rule_of c.args.rule in
     let tag = c.in-Set.field-0 in
     let components = components_view c.in-Set.fields.items in
@@ -117,8 +124,8 @@ put_parts-returns-in-Set t c =
     let parts = has_slots tag components (ty_view c.args.ty.now) (value_view c.args.value.now) (inr is) c.requires.conforms c.requires.nodes in
     put_as rule is parts.is (subst₂ (λ (fs : List Field) (s : Slots). Writes (AreComponentsByTag rule (components_view fs) s) c.put_by_tag.result c.args.out.now.items c.put_by_tag.new.out.items) c.deref-in-Set.ensures.value (sym (c.slots_in-in-Set.ensures parts.slots parts.is)) c.put_by_tag.ensures)
 
-pub put_parts-returns-in-SequenceOf : goal.put_parts-returns-in-SequenceOf
-put_parts-returns-in-SequenceOf t c =
+pub writing::put_parts-returns-in-SequenceOf : goal.writing::put_parts-returns-in-SequenceOf
+writing::put_parts-returns-in-SequenceOf t c =
     let rule = rule_of c.args.rule in
     let tag = c.in-SequenceOf.field-0 in
     let inner = c.in-SequenceOf.inner in
@@ -126,8 +133,8 @@ put_parts-returns-in-SequenceOf t c =
     let parts = has_items tag (ty_view inner.value) (ty_view c.args.ty.now) (value_view c.args.value.now) (inl is) c.requires.conforms c.requires.nodes in
     put_as rule is parts.is (subst₂ (λ (e : Ty) (vs : List Val). Writes (AreItems (IsEncoding rule (ty_view e)) vs) c.put_items.result c.args.out.now.items c.put_items.new.out.items) c.deref-in-SequenceOf.ensures (sym (c.items_in.ensures parts.items parts.is)) c.put_items.ensures)
 
-pub put_parts-returns-in-SetOf : goal.put_parts-returns-in-SetOf
-put_parts-returns-in-SetOf t c =
+pub writing::put_parts-returns-in-SetOf : goal.writing::put_parts-returns-in-SetOf
+writing::put_parts-returns-in-SetOf t c =
     let rule = rule_of c.args.rule in
     let tag = c.in-SetOf.field-0 in
     let inner = c.in-SetOf.inner in
@@ -135,46 +142,38 @@ put_parts-returns-in-SetOf t c =
     let parts = has_items tag (ty_view inner.value) (ty_view c.args.ty.now) (value_view c.args.value.now) (inr is) c.requires.conforms c.requires.nodes in
     put_as rule is parts.is (subst₂ (λ (e : Ty) (vs : List Val). Writes (AreItemsInOrder (IsEncoding rule (ty_view e)) vs) c.put_in_order.result c.args.out.now.items c.put_in_order.new.out.items) c.deref-in-SetOf.ensures (sym (c.items_in-in-SetOf.ensures parts.items parts.is)) c.put_in_order.ensures)
 
-pub put_parts-returns-in-Explicit : goal.put_parts-returns-in-Explicit
-put_parts-returns-in-Explicit t c =
-    let rule = rule_of c.args.rule in
-    let v = value_view c.args.value.now in
-    let is : ty_view c.args.ty.now ≡ Shape.explicit c.in-Explicit.field-0 (ty_view c.in-Explicit.inner.value) = ap ty_view c.in-Explicit.is ∙ ty-Explicit c.in-Explicit.field-0 c.in-Explicit.inner in
-    let same : v ≡ v = refl in
-    put_as rule is same (subst (λ (e : Ty). Writes (IsEncoding rule (ty_view e) v) c.put_value.result c.args.out.now.items c.put_value.new.out.items) c.deref-in-Explicit.ensures c.put_value.ensures)
+pub writing::put_items-put_leaves-requires-clause-leaves : goal.writing::put_items-put_leaves-requires-clause-leaves
+writing::put_items-put_leaves-requires-clause-leaves t c = leaves_conform c.in-Some.tag (ty_view c.args.ty.now) (leaf_of c.in-Some.tag (ty_view c.args.ty.now) c.in-Some.ensures.leaf c.in-Some.ensures.tag) (map value_view c.args.items.now) c.requires.conform
 
-pub put_items-put_leaves-requires-clause-leaves : goal.put_items-put_leaves-requires-clause-leaves
-put_items-put_leaves-requires-clause-leaves t c = leaves_conform c.in-Some.tag (ty_view c.args.ty.now) (leaf_of c.in-Some.tag (ty_view c.args.ty.now) c.in-Some.ensures.leaf c.in-Some.ensures.tag) (map value_view c.args.items.now) c.requires.conform
-
-pub put_items-returns-in-Some : goal.put_items-returns-in-Some
-put_items-returns-in-Some t c =
+pub writing::put_items-returns-in-Some : goal.writing::put_items-returns-in-Some
+writing::put_items-returns-in-Some t c =
     let alike = leaves_alike c.in-Some.tag (ty_view c.args.ty.now) (leaf_of c.in-Some.tag (ty_view c.args.ty.now) c.in-Some.ensures.leaf c.in-Some.ensures.tag) (rule_of c.args.rule) (rule_is_canonical c.args.rule) (map value_view c.args.items.now) c.requires.conform in
     written_by c.put_leaves.ensures alike.to
 
-pub put_items-put_constructed-requires : goal.put_items-put_constructed-requires
-put_items-put_constructed-requires t c =
+pub writing::put_items-put_constructed-requires : goal.writing::put_items-put_constructed-requires
+writing::put_items-put_constructed-requires t c =
     (search (rules, node.the_lemmas), (c.in_default.ensures.none refl, item_writable (ty_view c.args.ty.now) c.args.items.now c.loop-item.item-index c.item-item.result (omega arith) c.item-item.is c.requires))
 
-pub put_items-loop-item-preserved : goal.put_items-loop-item-preserved
-put_items-loop-item-preserved t c =
+pub writing::put_items-loop-item-preserved : goal.writing::put_items-loop-item-preserved
+writing::put_items-loop-item-preserved t c =
     item_behind (IsEncoding (rule_of c.args.rule) (ty_view c.args.ty.now)) c.args.items.now c.loop-item.item-index c.item-item.result c.args.out.now.items c.loop-item.out.items c.put_constructed.new.out.items (omega arith) c.item-item.is c.loop-item.invariant c.in_ok-put_constructed.ensures.appended
 
-pub put_items-returns-in_err-put_constructed : goal.put_items-returns-in_err-put_constructed
-put_items-returns-in_err-put_constructed t c =
+pub writing::put_items-returns-in_err-put_constructed : goal.writing::put_items-returns-in_err-put_constructed
+writing::put_items-returns-in_err-put_constructed t c =
     let so_far = c.loop-item.invariant in
     refused _ c.from_residual.ensures.1 (keeps_chain c.args.out.now.items c.loop-item.out.items c.put_constructed.new.out.items (so_far.0, so_far.1, tt) c.in_err-put_constructed.ensures.kept)
 
-pub put_components-loop-place-init : goal.put_components-loop-place-init
-put_components-loop-place-init t c = none_joined (rule_of c.args.rule) c.args.fields.now c.args.slots.now c.args.out.now.items
+pub writing::put_components-loop-place-init : goal.writing::put_components-loop-place-init
+writing::put_components-loop-place-init t c = none_joined (rule_of c.args.rule) c.args.fields.now c.args.slots.now c.args.out.now.items
 
-pub put_components-returns : goal.put_components-returns
-put_components-returns t c =
+pub writing::put_components-returns : goal.writing::put_components-returns
+writing::put_components-returns t c =
     let many = as_many_slots c.args.fields.now c.args.slots.now c.requires.conform in
     let whole = all_joined (rule_of c.args.rule) c.args.fields.now c.args.slots.now c.loop-place.place c.args.out.now.items c.loop-place.out.items (omega (arith, c.min-count.ensures, many)) many c.loop-place.invariant in
     record { appended = whole; kept = tt }
 
-pub put_components-put_value-requires : goal.put_components-put_value-requires
-put_components-put_value-requires t c =
+pub writing::put_components-put_value-requires : goal.writing::put_components-put_value-requires
+writing::put_components-put_value-requires t c =
     let place = c.loop-place.place in
     let bound : place < length c.args.fields.now = omega (arith, c.min-count.ensures) in
     let at = c.index-fields-place.is in (
@@ -182,8 +181,8 @@ put_components-put_value-requires t c =
       part_writable c.args.fields.now c.args.slots.now place c.index-fields-place.result c.index-slots-place.result c.in-Some.value (omega (arith, c.min-count.ensures)) at c.index-slots-place.is c.in-Some.is c.requires,
     )
 
-pub put_components-loop-place-preserved-in_default : goal.put_components-loop-place-preserved-in_default
-put_components-loop-place-preserved-in_default t c =
+pub writing::put_components-loop-place-preserved-in_default : goal.writing::put_components-loop-place-preserved-in_default
+writing::put_components-loop-place-preserved-in_default t c =
     let rule = rule_of c.args.rule in
     let fields = c.args.fields.now in
     let slots = c.args.slots.now in
@@ -196,8 +195,8 @@ put_components-loop-place-preserved-in_default t c =
     subst (λ n. Appends (BeginsComponents rule fields slots n) old new) next
     (absent_joined rule fields slots i old new (omega (arith, c.min-count.ensures)) (omega (arith, c.min-count.ensures)) stands (rule_is_canonical c.args.rule) c.requires.conform c.loop-place.invariant)
 
-pub put_components-loop-place-preserved : goal.put_components-loop-place-preserved
-put_components-loop-place-preserved t c =
+pub writing::put_components-loop-place-preserved : goal.writing::put_components-loop-place-preserved
+writing::put_components-loop-place-preserved t c =
     let rule = rule_of c.args.rule in
     let fields = c.args.fields.now in
     let slots = c.args.slots.now in
@@ -217,23 +216,23 @@ put_components-loop-place-preserved t c =
     let one = subst (λ (g : Field). Appends (IsEncoding rule (ty_view g.ty) (value_view v)) mid c.put_value.new.out.items) (sym at) c.in_ok-put_value.ensures.appended in
     subst (λ n. Appends (BeginsComponents rule fields slots n) old c.put_value.new.out.items) next (present_joined rule fields slots i f v old mid c.put_value.new.out.items there here at stands is c.loop-place.invariant one)
 
-pub put_components-returns-in_err-put_value : goal.put_components-returns-in_err-put_value
-put_components-returns-in_err-put_value t c =
+pub writing::put_components-returns-in_err-put_value : goal.writing::put_components-returns-in_err-put_value
+writing::put_components-returns-in_err-put_value t c =
     let so_far = c.loop-place.invariant in
     refused _ c.from_residual.ensures.1 (keeps_chain c.args.out.now.items c.loop-place.out.items c.put_value.new.out.items (so_far.0, so_far.1, tt) c.in_err-put_value.ensures.kept)
 
-pub put_in_order-returns-then-items-lt2 : goal.put_in_order-returns-then-items-lt2
-put_in_order-returns-then-items-lt2 t c =
+pub writing::put_in_order-returns-then-items-lt2 : goal.writing::put_in_order-returns-then-items-lt2
+writing::put_in_order-returns-then-items-lt2 t c =
     let items = c.args.items.now in
     let few : length (map value_view items) < 2 = omega (arith, c.if-items-lt2.true, length-map items value_view) in
     written_by c.put_items.ensures (λ octets. few_in_order (IsEncoding (rule_of c.args.rule) (ty_view c.args.ty.now)) (map value_view items) octets few)
 
-pub put_in_order-put_span-requires : goal.put_in_order-put_span-requires
-put_in_order-put_span-requires t c =
+pub writing::put_in_order-put_span-requires : goal.writing::put_in_order-put_span-requires
+writing::put_in_order-put_span-requires t c =
     (search (rules, node.the_lemmas), item_writable (ty_view c.args.ty.now) c.args.items.now c.loop-item.item-index c.item-item.result (omega arith) c.item-item.is c.requires)
 
-pub put_in_order-loop-item-preserved : goal.put_in_order-loop-item-preserved
-put_in_order-loop-item-preserved t c =
+pub writing::put_in_order-loop-item-preserved : goal.writing::put_in_order-loop-item-preserved
+writing::put_in_order-loop-item-preserved t c =
     let items = c.args.items.now in
     let i = c.loop-item.item-index in
     let IsItem = IsEncoding (rule_of c.args.rule) (ty_view c.args.ty.now) in
@@ -244,15 +243,15 @@ put_in_order-loop-item-preserved t c =
     let laid = laid_more IsItem items i c.item-item.result c.loop-item.parts.items (with_key new span) old c.loop-item.out.items new (omega arith) c.item-item.is c.loop-item.invariant c.in_ok-span.ensures.put refl in
     subst (λ (ps : List (Keyed ℕ)). AreLaid IsItem (map value_view (take (i + 1) items)) ps old new) (sym (c.in_ok-push.ensures.items ∙ ap (λ p. c.loop-item.parts.items ++ p ∷ []) one)) laid
 
-pub put_in_order-arrange-requires : goal.put_in_order-arrange-requires
-put_in_order-arrange-requires t c =
+pub writing::put_in_order-arrange-requires : goal.writing::put_in_order-arrange-requires
+writing::put_in_order-arrange-requires t c =
     let parts = c.loop-item.parts.items in
     let old = c.args.out.now.items in
     let new = c.loop-item.out.items in
     record { cut = laid_cut _ _ parts old new c.loop-item.invariant c.len-from.result (omega (arith, c.len-from.ensures)); keys = laid_keys _ _ parts old new c.loop-item.invariant }
 
-pub put_in_order-returns : goal.put_in_order-returns
-put_in_order-returns t c =
+pub writing::put_in_order-returns : goal.writing::put_in_order-returns
+writing::put_in_order-returns t c =
     let items = c.args.items.now in
     let IsItem = IsEncoding (rule_of c.args.rule) (ty_view c.args.ty.now) in
     let old = c.args.out.now.items in
@@ -268,23 +267,23 @@ put_in_order-returns t c =
       kept = kept c.arrange.result (Keeps (take from mid) new) (Keeps old new) (keeps_taken old _ mid new from at c.loop-item.invariant.is) c.arrange.ensures.kept;
     }
 
-pub put_in_order-returns-in_err-span : goal.put_in_order-returns-in_err-span
-put_in_order-returns-in_err-span t c =
+pub writing::put_in_order-returns-in_err-span : goal.writing::put_in_order-returns-in_err-span
+writing::put_in_order-returns-in_err-span t c =
     refused _ c.from_residual-in_err-span.ensures.1 (keeps_chain c.args.out.now.items c.loop-item.out.items c.put_span.new.out.items (_, c.loop-item.invariant.is, tt) c.in_err-span.ensures.kept)
 
-pub put_in_order-returns-in_err-push : goal.put_in_order-returns-in_err-push
-put_in_order-returns-in_err-push t c =
+pub writing::put_in_order-returns-in_err-push : goal.writing::put_in_order-returns-in_err-push
+writing::put_in_order-returns-in_err-push t c =
     let put = c.in_ok-span.ensures.put in
     refused _ c.from_residual-in_err-push.ensures.1 (keeps_more c.args.out.now.items c.loop-item.out.items c.put_span.new.out.items put.octets (_, c.loop-item.invariant.is, tt) put.is)
 
-pub put_by_tag-loop-index-init : goal.put_by_tag-loop-index-init
-put_by_tag-loop-index-init t c =
+pub writing::put_by_tag-loop-index-init : goal.writing::put_by_tag-loop-index-init
+writing::put_by_tag-loop-index-init t c =
     let rule = rule_of c.args.rule in
     let old = c.args.out.now.items in
     subst (λ (ts : List (Keyed Tag)). LaidTo rule c.args.fields.now c.args.slots.now 0 ts old old) (sym (c.in_ok-reserve.ensures.items ∙ c.new-parts.ensures.items)) (none_laid_by_tag rule c.args.fields.now c.args.slots.now old)
 
-pub put_by_tag-put_span-requires : goal.put_by_tag-put_span-requires
-put_by_tag-put_span-requires t c =
+pub writing::put_by_tag-put_span-requires : goal.writing::put_by_tag-put_span-requires
+writing::put_by_tag-put_span-requires t c =
     let place = c.loop-index.index in
     let bound : place < length c.args.fields.now = omega (arith, c.min-count.ensures) in
     let at = c.index-fields-index.is in (
@@ -292,13 +291,13 @@ put_by_tag-put_span-requires t c =
       part_writable c.args.fields.now c.args.slots.now place c.index-fields-index.result c.index-slots-index.result c.in-Some.value (omega (arith, c.min-count.ensures)) at c.index-slots-index.is c.in-Some.is c.requires.slots,
     )
 
-pub put_by_tag-order_tag-tag-requires : goal.put_by_tag-order_tag-tag-requires
-put_by_tag-order_tag-tag-requires t c =
+pub writing::put_by_tag-order_tag-tag-requires : goal.writing::put_by_tag-order_tag-tag-requires
+writing::put_by_tag-order_tag-tag-requires t c =
     let here = part_writable c.args.fields.now c.args.slots.now c.loop-index.index c.index-fields-index.result c.index-slots-index.result c.in-Some.value (omega (arith, c.min-count.ensures)) c.index-fields-index.is c.index-slots-index.is c.in-Some.is c.requires.slots in
     here.nodes
 
-pub put_by_tag-loop-index-preserved-in_default : goal.put_by_tag-loop-index-preserved-in_default
-put_by_tag-loop-index-preserved-in_default t c =
+pub writing::put_by_tag-loop-index-preserved-in_default : goal.writing::put_by_tag-loop-index-preserved-in_default
+writing::put_by_tag-loop-index-preserved-in_default t c =
     let rule = rule_of c.args.rule in
     let fields = c.args.fields.now in
     let slots = c.args.slots.now in
@@ -311,8 +310,8 @@ put_by_tag-loop-index-preserved-in_default t c =
     subst (λ n. LaidTo rule fields slots n c.loop-index.parts.items old new) next
     (absent_laid rule fields slots i c.loop-index.parts.items old new (omega (arith, c.min-count.ensures)) (omega (arith, c.min-count.ensures)) stands (rule_is_canonical c.args.rule) c.requires.slots.conform (distinct_drop fields i c.requires.distinct) c.loop-index.invariant)
 
-pub put_by_tag-loop-index-preserved : goal.put_by_tag-loop-index-preserved
-put_by_tag-loop-index-preserved t c =
+pub writing::put_by_tag-loop-index-preserved : goal.writing::put_by_tag-loop-index-preserved
+writing::put_by_tag-loop-index-preserved t c =
     let rule = rule_of c.args.rule in
     let fields = c.args.fields.now in
     let slots = c.args.slots.now in
@@ -339,12 +338,12 @@ put_by_tag-loop-index-preserved t c =
     let laid = present_laid rule fields slots i f v c.loop-index.parts.items t old mid new there here at stands (rule_is_canonical c.args.rule) is (distinct_drop fields i c.requires.distinct) c.loop-index.invariant put order in
     subst₂ (λ n (ts : List (Keyed Tag)). LaidTo rule fields slots n ts old new) next (sym c.in_ok-push.ensures.items) laid
 
-pub put_by_tag-arrange_by_tag-requires : goal.put_by_tag-arrange_by_tag-requires
-put_by_tag-arrange_by_tag-requires t c =
+pub writing::put_by_tag-arrange_by_tag-requires : goal.writing::put_by_tag-arrange_by_tag-requires
+writing::put_by_tag-arrange_by_tag-requires t c =
     tagged_cut (rule_of c.args.rule) c.args.fields.now c.args.slots.now c.loop-index.parts.items c.args.out.now.items c.loop-index.out.items c.loop-index.index c.len-from.result (omega (arith, c.len-from.ensures)) c.loop-index.invariant
 
-pub put_by_tag-returns : goal.put_by_tag-returns
-put_by_tag-returns t c =
+pub writing::put_by_tag-returns : goal.writing::put_by_tag-returns
+writing::put_by_tag-returns t c =
     let rule = rule_of c.args.rule in
     let fields = c.args.fields.now in
     let slots = c.args.slots.now in
@@ -361,37 +360,70 @@ put_by_tag-returns t c =
       kept = kept c.arrange_by_tag.result (Keeps (take from mid) new) (Keeps old new) (keeps_taken old _ mid new from at c.loop-index.invariant.is) c.arrange_by_tag.ensures.kept;
     }
 
-pub put_by_tag-returns-in_err-span : goal.put_by_tag-returns-in_err-span
-put_by_tag-returns-in_err-span t c =
+pub writing::put_by_tag-returns-in_err-span : goal.writing::put_by_tag-returns-in_err-span
+writing::put_by_tag-returns-in_err-span t c =
     refused _ c.from_residual-in_err-span.ensures.1 (keeps_chain c.args.out.now.items c.loop-index.out.items c.put_span.new.out.items (_, c.loop-index.invariant.is, tt) c.in_err-span.ensures.kept)
 
-pub put_by_tag-returns-in_err-push : goal.put_by_tag-returns-in_err-push
-put_by_tag-returns-in_err-push t c =
+pub writing::put_by_tag-returns-in_err-push : goal.writing::put_by_tag-returns-in_err-push
+writing::put_by_tag-returns-in_err-push t c =
     let put = c.in_ok-span.ensures.put in
     refused _ c.from_residual-in_err-push.ensures.1 (keeps_more c.args.out.now.items c.loop-index.out.items c.put_span.new.out.items put.octets (_, c.loop-index.invariant.is, tt) put.is)
 
-pub put_span-returns-clause-put : goal.put_span-returns-clause-put
-put_span-returns-clause-put t c =
+pub writing::put_span-returns-clause-put : goal.writing::put_span-returns-clause-put
+writing::put_span-returns-clause-put t c =
     let put = c.in_ok-put_value.ensures.appended in
     record { octets = put.0; is = put.1; holds = put.2; start = search rules; end = search rules }
 
-pub put_constructed-returns-in-Explicit : goal.put_constructed-returns-in-Explicit
-put_constructed-returns-in-Explicit t c =
-    let v = value_view c.args.value.now in
+pub writing::put_constructed-returns-in-Explicit : goal.writing::put_constructed-returns-in-Explicit
+writing::put_constructed-returns-in-Explicit t c =
+    let rule = rule_of c.args.rule in
     let tag = c.in-Explicit.tag in
     let inner = c.in-Explicit.inner in
-    let old = c.args.out.now.items in
-    let new = c.put_under_tags.new.out.items in
     let is : ty_view c.args.ty.now ≡ Shape.explicit tag (ty_view inner.value) = ap ty_view c.in-Explicit.is ∙ ty-Explicit tag inner in
-    let put : Writes (IsEncoding der (Shape.explicit tag (ty_view inner.value)) v) c.put_under_tags.result old new =
-    subst (λ (e : Ty). Writes (IsEncoding der (Shape.explicit tag (ty_view e)) v) c.put_under_tags.result old new) c.deref-in-Explicit.ensures c.put_under_tags.ensures in
-    subst₂ (λ (r : Rule) (s : Shape). Writes (IsEncoding r s v) c.put_under_tags.result old new) (sym (c.moves_often.ensures c.if-moves_often.true)) (sym is) put
+    written_as_explicit rule tag c.deref.ensures is c.put_explicit.ensures
 
-pub put_turned-returns-in_ok-put_value-in_default : goal.put_turned-returns-in_ok-put_value-in_default
-put_turned-returns-in_ok-put_value-in_default t c =
+pub writing::put_node-returns-in-Explicit : goal.writing::put_node-returns-in-Explicit
+writing::put_node-returns-in-Explicit t c =
+    let rule = rule_of c.args.rule in
+    let tag = c.in-Explicit.tag in
+    let inner = c.in-Explicit.inner in
+    let is : ty_view c.args.ty.now ≡ Shape.explicit tag (ty_view inner.value) = ap ty_view c.in-Explicit.is ∙ ty-Explicit tag inner in
+    written_as_explicit rule tag c.deref.ensures is c.put_explicit.ensures
+
+pub explicit::put_explicit-returns-then-moves_often : goal.explicit::put_explicit-returns-then-moves_often
+explicit::put_explicit-returns-then-moves_often t c =
+    let shape = Shape.explicit c.args.tag (ty_view c.args.ty.now) in
+    subst (λ (r : Rule). Writes (IsEncoding r shape (value_view c.args.value.now)) c.put_from_inside.result c.args.out.now.items c.put_from_inside.new.out.items) (sym (c.moves_often.ensures c.if-moves_often.true)) c.put_from_inside.ensures
+
+pub explicit::put_under_tag-returns : goal.explicit::put_under_tag-returns
+explicit::put_under_tag-returns t c =
+    let rule = rule_of c.args.rule in
+    let type = ty_view c.args.ty.now in
+    let v = value_view c.args.value.now in
+    let tag = c.args.tag in
+    written_around c.put_closing.result rule tag (IsEncoding rule type v) (IsEncoding rule (Shape.explicit tag type) v) c.in_ok-place.place c.args.out.now.items c.put_opening.new.out.items c.put_tagged.new.out.items c.put_closing.new.out.items c.in_ok-place.ensures.opened
+    c.in_ok-put_tagged.ensures.appended (explicit_alike rule tag type v).to c.put_closing.ensures.closed c.put_closing.ensures.kept
+
+pub explicit::put_under_tag-returns-in_err-put_tagged : goal.explicit::put_under_tag-returns-in_err-put_tagged
+explicit::put_under_tag-returns-in_err-put_tagged t c =
+    let old = c.args.out.now.items in
+    let one = c.put_opening.new.out.items in
+    refused _ c.from_residual-in_err-put_tagged.ensures.1
+    (keeps_chain old one c.put_tagged.new.out.items (opened_kept c.args.tag true old one c.in_ok-place.place c.in_ok-place.ensures.opened) c.in_err-put_tagged.ensures.kept)
+
+pub explicit::put_tagged-returns-in-Explicit : goal.explicit::put_tagged-returns-in-Explicit
+explicit::put_tagged-returns-in-Explicit t c =
+    let rule = rule_of c.args.rule in
+    let tag = c.in-Explicit.tag in
+    let inner = c.in-Explicit.inner in
+    let is : ty_view c.args.ty.now ≡ Shape.explicit tag (ty_view inner.value) = ap ty_view c.in-Explicit.is ∙ ty-Explicit tag inner in
+    written_as_explicit rule tag c.deref.ensures is c.put_under_tag.ensures
+
+pub explicit::put_turned-returns-in_ok-put_value-in_default : goal.explicit::put_turned-returns-in_ok-put_value-in_default
+explicit::put_turned-returns-in_ok-put_value-in_default t c =
     record { put = none_turned _ c.args.out.now.items c.put_value.new.out.items c.len.result c.in_ok-put_value-in_default.ensures.appended (omega (arith, c.len.ensures, c.put_value.new.out.ok)); kept = tt }
 
-pub put_turned_around-returns-clause-put : goal.put_turned_around-returns-clause-put
-put_turned_around-returns-clause-put t c =
+pub explicit::put_turned_around-returns-clause-put : goal.explicit::put_turned_around-returns-clause-put
+explicit::put_turned_around-returns-clause-put t c =
     turned_more c.args.tag (ty_view c.args.ty.now) (value_view c.args.value.now) (c.len.result - c.len-start.result) c.in_ok-from.from c.args.out.now.items c.put_turned.new.out.items c.put_turned_head.new.out.items c.in_ok-from.ensures.put c.in_ok-put_turned_head.ensures.appended
     (omega (arith, c.len.ensures, c.len-start.ensures, c.put_turned.new.out.ok, c.args.out.now.ok))

@@ -1,0 +1,138 @@
+//! Values under explicit tags, and under further ones inside.
+
+ghost use Rattle.std.specs.Prelude.{IfOk, OnErr};
+ghost use Rattle.octets.specs.Rule.{der};
+ghost use Rattle.types.specs.Encoding.{IsEncoding};
+ghost use Rattle.types.specs.Shape.{Shape};
+ghost use Rattle.types.specs.View.{ty_view, value_view};
+ghost use Rattle.canon.specs.Part.{Keeps};
+ghost use Rattle.canon.specs.Rule.{rule_of};
+ghost use Rattle.canon.specs.Turned.{IsTurned};
+ghost use Rattle.canon.specs.Writes.{IsWritable, Writes};
+
+use crate::heads::{put_closing, put_opening};
+use crate::rule::CanonicalRule;
+use crate::turned::{moves_often, put_turned_head, turn_forward};
+use crate::writing::put_value;
+use octets::{NoMemory, Tag};
+use std::alloc::Global;
+use types::{Ty, Value};
+
+// Appends the encoding of a value of the type `ty` under an explicit tag.
+#[cycle(writing)]
+#[inline(always)]
+pub(crate) fn put_explicit(
+    alloc: Global,
+    rule: CanonicalRule,
+    tag: Tag,
+    ty: &Ty,
+    value: &Value,
+    out: &mut Vec<u8>,
+) -> Result<(), NoMemory>
+    requires { IsWritable (ty_view ty.now) (value_view value.now) }
+    ensures { Writes (IsEncoding (rule_of rule) (Shape.explicit tag (ty_view ty.now)) (value_view value.now))
+        result out.old.items out.new.items }
+{
+    if moves_often(rule, ty, value) {
+        return put_from_inside(alloc, tag, ty, value, out);
+    }
+    put_under_tag(alloc, rule, tag, ty, value, out)
+}
+
+// Appends the encoding of a value of the type `ty` under an explicit tag, from the first octet to the last.
+#[cycle(writing)]
+fn put_under_tag(
+    alloc: Global,
+    rule: CanonicalRule,
+    tag: Tag,
+    ty: &Ty,
+    value: &Value,
+    out: &mut Vec<u8>,
+) -> Result<(), NoMemory>
+    requires { IsWritable (ty_view ty.now) (value_view value.now) }
+    ensures { Writes (IsEncoding (rule_of rule) (Shape.explicit tag (ty_view ty.now)) (value_view value.now))
+        result out.old.items out.new.items }
+{
+    let place = put_opening(tag, true, out)?;
+    put_tagged(alloc, rule, ty, value, out)?;
+    put_closing(rule, place, out)
+}
+
+// Appends the contents octets behind an explicit tag: the encoding of a value, mostly under a further tag.
+#[cycle(writing)]
+#[inline(always)]
+fn put_tagged(
+    alloc: Global,
+    rule: CanonicalRule,
+    ty: &Ty,
+    value: &Value,
+    out: &mut Vec<u8>,
+) -> Result<(), NoMemory>
+    requires { IsWritable (ty_view ty.now) (value_view value.now) }
+    ensures { Writes (IsEncoding (rule_of rule) (ty_view ty.now) (value_view value.now))
+        result out.old.items out.new.items }
+{
+    match ty {
+        Ty::Explicit(tag, inner) => put_under_tag(alloc, rule, *tag, inner, value, out),
+        _ => put_value(alloc, rule, ty, value, out),
+    }
+}
+
+// Appends the encoding that DER gives a value under an explicit tag, with the heads from the inside out.
+#[cycle(writing)]
+#[inline(never)]
+fn put_from_inside(
+    alloc: Global,
+    tag: Tag,
+    ty: &Ty,
+    value: &Value,
+    out: &mut Vec<u8>,
+) -> Result<(), NoMemory>
+    requires { IsWritable (ty_view ty.now) (value_view value.now) }
+    ensures { Writes (IsEncoding der (Shape.explicit tag (ty_view ty.now)) (value_view value.now))
+        result out.old.items out.new.items }
+{
+    let start = out.len();
+    let from = put_turned_around(alloc, tag, ty, value, out)?;
+    turn_forward(start, from, out);
+    Ok(())
+}
+
+// Appends the contents octets of a value under an explicit tag and behind them, turned round, what stands before
+// them. Returns where the latter begins.
+#[cycle(writing)]
+fn put_turned_around(
+    alloc: Global,
+    tag: Tag,
+    ty: &Ty,
+    value: &Value,
+    out: &mut Vec<u8>,
+) -> Result<usize, NoMemory>
+    requires { IsWritable (ty_view ty.now) (value_view value.now) }
+    ensures put { IfOk result (IsTurned
+        (IsEncoding der (Shape.explicit tag (ty_view ty.now)) (value_view value.now)) out.old.items out.new.items) }
+    ensures kept { OnErr result (Keeps out.old.items out.new.items) }
+{
+    let start = out.len();
+    let from = put_turned(alloc, ty, value, out)?;
+    put_turned_head(tag, out.len() - start, out)?;
+    Ok(from)
+}
+
+// Appends the contents octets of a value under explicit tags, or its encoding where it is under none, and behind them,
+// turned round, what stands before them. Returns where the latter begins.
+#[cycle(writing)]
+fn put_turned(alloc: Global, ty: &Ty, value: &Value, out: &mut Vec<u8>) -> Result<usize, NoMemory>
+    requires { IsWritable (ty_view ty.now) (value_view value.now) }
+    ensures put { IfOk result (IsTurned
+        (IsEncoding der (ty_view ty.now) (value_view value.now)) out.old.items out.new.items) }
+    ensures kept { OnErr result (Keeps out.old.items out.new.items) }
+{
+    match ty {
+        Ty::Explicit(tag, inner) => put_turned_around(alloc, *tag, inner, value, out),
+        _ => {
+            put_value(alloc, CanonicalRule::Der, ty, value, out)?;
+            Ok(out.len())
+        }
+    }
+}
