@@ -1,5 +1,5 @@
 -- Lemmas on the one encoding inside an explicit tag.
-use Rattle.std.proofs.Common.{◌≡◌, ℕ, ◌-◌, List, [], ◌++◌, Bool, Option, Some, None, length, take, drop, sym, ◌∙◌, ap, subst, append-nil}
+use Rattle.std.proofs.Common.{◌≡◌, ℕ, ◌-◌, List, [], ◌++◌, Bool, length, take, drop, sym, ◌∙◌, ap, subst, append-nil}
 use Rattle.std.proofs.lemmas.List.{length-take-le}
 use Rattle.octets.specs.declared.tag.Tag.{Tag}
 use Rattle.octets.specs.Rule.{Rule}
@@ -22,10 +22,9 @@ pub part_alone : (rule : Rule) (type : Shape) (definite : Bool) (room : ℕ) (oc
 part_alone rule type definite room octets h = record { value = h.value; part = h.part; rest = mark definite ++ h.rest; encoding = h.encoding; fits = h.fills.within; parts = h.parts }
 
 -- behind it the contents octets end
-pub ends_alone : (rule : Rule) (type : Shape) (definite : Bool) (room : ℕ) (octets more : List ℕ) (slot : Option Value) (used : ℕ) → IsGoodType type → IsRead rule type room octets slot used → HasAlone rule type definite room (octets ++ more)
+pub ends_alone : (rule : Rule) (type : Shape) (definite : Bool) (room : ℕ) (octets more : List ℕ) (v : Value) (used : ℕ) → IsGoodType type → IsRead rule type room octets v used → HasAlone rule type definite room (octets ++ more)
     → EndsHere definite (room - used) (drop used octets ++ more)
-ends_alone rule type definite room octets more None used good read h = absurd read.2
-ends_alone rule type definite room octets more (Some v) used good read h =
+ends_alone rule type definite room octets more v used good read h =
     let front = take used octets in
     let split = front_of_more used octets more in
     let same = same_part front h.part (drop used octets ++ more) (mark definite ++ h.rest) (one_of rule type (value_view v) front good read.2) (one_of rule type h.value h.part good h.encoding) (sym split ∙ h.parts) in
@@ -34,10 +33,9 @@ ends_alone rule type definite room octets more (Some v) used good read h =
     subst (EndsHere definite (room - used)) (sym same.1) (ends_here definite (room - used) h.rest (fills_after definite room used h.part [] size fills))
 
 -- it is the contents octets under the tag
-pub explicit_read : (rule : Rule) (tag : Tag) (type : Shape) (definite : Bool) (room : ℕ) (octets : List ℕ) (slot : Option Value) (used : ℕ) → IsRead rule type room octets slot used → EndsHere definite (room - used) (drop used octets)
-    → IsInsideRead rule (Shape.explicit tag type) definite room octets slot used
-explicit_read rule tag type definite room octets None used read ends = absurd read.2
-explicit_read rule tag type definite room octets (Some v) used read ends = record {
+pub explicit_read : (rule : Rule) (tag : Tag) (type : Shape) (definite : Bool) (room : ℕ) (octets : List ℕ) (v : Value) (used : ℕ) → IsRead rule type room octets v used → EndsHere definite (room - used) (drop used octets)
+    → IsInsideRead rule (Shape.explicit tag type) definite room octets v used
+explicit_read rule tag type definite room octets v used read ends = record {
   there = read.0;
   within = read.1;
   ends = ends;

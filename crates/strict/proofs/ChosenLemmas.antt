@@ -1,9 +1,10 @@
 -- Lemmas on the alternatives of a CHOICE, one after another.
-use Rattle.std.proofs.Common.{◌≡◌, ℕ, zero, suc, ◌<◌, ◌≤◌, ◌⊎◌, inl, inr, List, [], ◌∷◌, ◌++◌, Bool, Option, Some, None, Contains, length, take, map, option_map, get_or, refl, sym, subst, arith}
+use Rattle.std.proofs.Common.{◌≡◌, ℕ, zero, suc, ◌<◌, ◌≤◌, ◌⊎◌, inl, inr, List, [], ◌∷◌, ◌++◌, Bool, Box, Global, Contains, length, take, map, get_or, refl, sym, ◌∙◌, ap, subst, arith}
 use Rattle.std.specs.List.{AllByRecursion}
 use Rattle.octets.specs.declared.tag.Tag.{Tag}
 use Rattle.octets.specs.Rule.{Rule}
 use Rattle.types.specs.declared.value.Value.{Value}
+use Rattle.types.specs.declared.value.Value as value
 use Rattle.types.specs.declared.ty.Alternative.{Alternative}
 use Rattle.types.specs.Shape.{Shape, Val}
 use Rattle.types.specs.Encoding.{IsEncoding, IsAlternativeEncoding}
@@ -12,6 +13,7 @@ use Rattle.types.specs.View.{AlternativeView, ty_view, value_view, alternative_v
 use Rattle.types.specs.WellFormed.{nodes_of, nodes_of_alternatives}
 use Rattle.types.proofs.BeginningLemmas.{encoding_begins, alternative_begins}
 use Rattle.types.proofs.LimitLemmas.{alternative_type}
+use Rattle.types.proofs.ViewLemmas.{value-Chosen}
 use Rattle.types.proofs.ListLemmas.{all_append, distinct_apart, distinct_right}
 use Rattle.types.proofs.FirstTagLemmas.{tag_within}
 use Rattle.encoding_parts.specs.Head.{IsTagWithin, IsReadTag}
@@ -106,12 +108,17 @@ alternative_encodes rule [] which a v octets below is e = absurd (omega (arith, 
 alternative_encodes rule (x ∷ xs) zero a v octets below is e = subst (λ (b : Alternative). IsEncoding rule (alternative_view b).type v octets) is e
 alternative_encodes rule (x ∷ xs) (suc which) a v octets below is e = alternative_encodes rule xs which a v octets (omega (arith, below)) is e
 
-pub chosen_read : (rule : Rule) (xs : List Alternative) (which : ℕ) (a : Alternative) (room : ℕ) (octets : List ℕ) (v : Value) (slot : Option Value) (used : ℕ) → which < length xs → a ≡ get_or xs which a
-    → option_map value_view slot ≡ Some (Val.chosen which (value_view v)) → IsRead rule (ty_view a.ty) room octets (Some v) used → IsRead rule (Shape.choice (alternatives_view xs)) room octets slot used
-chosen_read rule xs which a room octets v None used below is put h = absurd (cc put)
-chosen_read rule xs which a room octets v (Some w) used below is put h =
+-- the place of the alternative that was chosen
+pub place_chosen : (which place : ℕ) (inner : Box Value Global) (v : Value) → (chosen : Val) × (value_view v ≡ Val.chosen which chosen) → v ≡ value.Chosen place inner → place ≡ which
+place_chosen which place inner v chosen is =
+    let same : Val.chosen place (value_view inner.value) ≡ Val.chosen which chosen.0 = sym (value-Chosen place inner) ∙ (sym (ap value_view is) ∙ chosen.1) in
+    cc same
+
+-- its value is one of the CHOICE
+pub chosen_read : (rule : Rule) (xs : List Alternative) (which : ℕ) (a : Alternative) (room : ℕ) (octets : List ℕ) (v whole : Value) (used : ℕ) → which < length xs → a ≡ get_or xs which a
+    → value_view whole ≡ Val.chosen which (value_view v) → IsRead rule (ty_view a.ty) room octets v used → IsRead rule (Shape.choice (alternatives_view xs)) room octets whole used
+chosen_read rule xs which a room octets v whole used below is viewed h =
     let shape = Shape.choice (alternatives_view xs) in
-    let viewed : value_view w ≡ Val.chosen which (value_view v) = cc put in
     let here : IsEncoding rule (alternative_view a).type (value_view v) (take used octets) = subst (λ t. IsEncoding rule t (value_view v) (take used octets)) (sym (alternative_type a)) h.2 in
     let encodes : IsEncoding rule shape (Val.chosen which (value_view v)) (take used octets) = record { which = which; value = value_view v; is = refl; chosen = alternative_encodes rule xs which a (value_view v) (take used octets) below is here } in
     (h.0, h.1, subst (λ x. IsEncoding rule shape x (take used octets)) (sym viewed) encodes)

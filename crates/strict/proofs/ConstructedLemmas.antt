@@ -1,5 +1,5 @@
 -- Lemmas on encodings of types with parts, by what stands inside.
-use Rattle.std.proofs.Common.{◌≡◌, ◌+◌, ℕ, List, [], ◌∷◌, ◌++◌, Option, length, take, drop, refl, sym, subst}
+use Rattle.std.proofs.Common.{◌≡◌, ◌+◌, ℕ, List, [], ◌∷◌, ◌++◌, length, take, drop, refl, sym, subst}
 use Rattle.octets.specs.declared.tag.Tag.{Tag}
 use Rattle.octets.specs.Rule.{Rule}
 use Rattle.types.specs.declared.value.Value.{Value}
@@ -60,9 +60,9 @@ inside_of rule type tag room octets more inside parts is o h =
     record { value = h.value; whole = h.part; encoding = h.encoding; rest = h.rest; fills = only.0; parts = only.1 }
 
 -- around what was read inside, an encoding of the type
-pub constructed_read : (rule : Rule) (type : Shape) (tag : Tag) (room : ℕ) (octets : List ℕ) (inside : Inside) (slot : Option Value) (used whole : ℕ) → first_tags type ≡ tag ∷ [] → IsOpened rule tag room octets inside
-    → IsInsideRead rule type inside.definite inside.room (drop inside.start octets) slot used → whole ≡ inside.start + used + length (mark inside.definite) → IsRead rule type room octets slot whole
-constructed_read rule type tag room octets inside slot used whole own o read is =
+pub constructed_read : (rule : Rule) (type : Shape) (tag : Tag) (room : ℕ) (octets : List ℕ) (inside : Inside) (value : Value) (used whole : ℕ) → first_tags type ≡ tag ∷ [] → IsOpened rule tag room octets inside
+    → IsInsideRead rule type inside.definite inside.room (drop inside.start octets) value used → whole ≡ inside.start + used + length (mark inside.definite) → IsRead rule type room octets value whole
+constructed_read rule type tag room octets inside value used whole own o read is =
     let k = closed rule tag room octets inside used o read.there read.within read.ends in
     let n = inside.start + used + length (mark inside.definite) in
-    subst (λ m. IsRead rule type room octets slot m) (sym is) (k.there, k.fits, read.makes tag (take n octets) own k.made)
+    subst (λ m. IsRead rule type room octets value m) (sym is) (k.there, k.fits, read.makes tag (take n octets) own k.made)

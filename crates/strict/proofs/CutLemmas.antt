@@ -1,5 +1,5 @@
 -- Lemmas on strings that CER cuts.
-use Rattle.std.proofs.Common.{◌≡◌, inl, inr, ℕ, ◌+◌, ◌-◌, ◌<◌, List, [], ◌∷◌, ◌++◌, Some, true, false, length, take, drop, refl, sym, ◌∙◌, ap, subst, arith, append-nil}
+use Rattle.std.proofs.Common.{◌≡◌, inl, inr, ℕ, ◌+◌, ◌-◌, ◌<◌, List, [], ◌∷◌, ◌++◌, true, false, length, take, drop, refl, sym, ◌∙◌, ap, subst, arith, append-nil}
 use Rattle.octets.specs.Rule.{cer}
 use Rattle.types.specs.declared.value.Value.{Value}
 use Rattle.types.specs.Conforms.{Conforms}
@@ -46,7 +46,7 @@ segments_of kind string octets long (inr some) = some.1
 -- a string that is cut was read
 pub cut_read : (kind : Kind) (type : Shape) (room : ℕ) (octets : List ℕ) (inside : Inside) (joined : Joined) (value : Value) (used whole : ℕ) → IsStringOf kind type → IsOpened cer (tag_of type) room octets inside → inside.definite ≡ false
     → AreSegmentsKnown kind inside.room (drop inside.start octets) (string_of kind joined) used → IsLong kind joined → value_view value ≡ value_is type kind (string_of kind joined) → Conforms type (value_view value) → whole ≡ inside.start + used + length (mark inside.definite)
-    → IsRead cer type room octets (Some value) whole
+    → IsRead cer type room octets value whole
 cut_read kind type room octets inside joined value used whole of o form known long is conforms size =
     let inner = drop inside.start octets in
     let string = string_of kind joined in
@@ -60,4 +60,4 @@ cut_read kind type room octets inside joined value used whole of o form known lo
       conforms = conforms;
       cut = record { long = long; segments_octets = take used inner; segments = segments_of kind string (take used inner) long follow; constructed = k.made };
     } in
-    subst (IsRead cer type room octets (Some value)) (sym size) (k.there, k.fits, encodes)
+    subst (IsRead cer type room octets value) (sym size) (k.there, k.fits, encodes)

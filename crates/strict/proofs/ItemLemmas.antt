@@ -1,5 +1,5 @@
 -- Lemmas on the items of a SEQUENCE OF or SET OF, one after another: where they are ordered, each is at most the next one.
-use Rattle.std.proofs.Common.{◌≡◌, ℕ, ◌+◌, ◌-◌, ◌<◌, ◌≤◌, ◌⊎◌, inl, inr, List, [], ◌∷◌, ◌++◌, Bool, true, false, Some, Vec, Global, length, take, drop, map, refl, sym, ◌∙◌, ap, subst, subst₂, arith, append_assoc, length-append}
+use Rattle.std.proofs.Common.{◌≡◌, ℕ, ◌+◌, ◌-◌, ◌<◌, ◌≤◌, ◌⊎◌, inl, inr, List, [], ◌∷◌, ◌++◌, Bool, true, false, Vec, Global, length, take, drop, map, refl, sym, ◌∙◌, ap, subst, subst₂, arith, append_assoc, length-append}
 use Rattle.std.specs.List.{AllByRecursion, AllZip, concat}
 use Rattle.std.specs.Ordering.{nat_cmp, is_lt, ordering_then, MatchOrdering}
 use Rattle.std.specs.declared.cmp.Ordering.{Ordering}
@@ -169,7 +169,7 @@ all_below (x ∷ es) last part h k = (padded_trans x last part h.0 k, all_below 
 
 -- one item more
 pub item_read : (rule : Rule) (type : Shape) (ordered definite : Bool) (room : ℕ) (octets : List ℕ) (items : List Value) (v : Value) (before at used : ℕ) → IsGoodType type → AreItemsRead rule type ordered definite room octets items before at
-    → IsRead rule type (room - at) (drop at octets) (Some v) used → (ordered ≡ true → is_lt (slice_cmp nat_cmp (take used (drop at octets)) (between octets before at)) ≡ false) → AreItemsRead rule type ordered definite room octets (items ++ (v ∷ [])) at (at + used)
+    → IsRead rule type (room - at) (drop at octets) v used → (ordered ≡ true → is_lt (slice_cmp nat_cmp (take used (drop at octets)) (between octets before at)) ≡ false) → AreItemsRead rule type ordered definite room octets (items ++ (v ∷ [])) at (at + used)
 item_read rule type ordered definite room octets items v before at used good h one order =
     let rest = drop at octets in
     let part = take used rest in
@@ -196,7 +196,7 @@ item_read rule type ordered definite room octets items v before at used good h o
 
 -- what comes before the last one cannot stand there
 pub none_out_of_order : (rule : Rule) (type : Shape) (ordered definite : Bool) (room : ℕ) (octets more : List ℕ) (items : List Value) (v : Value) (before at used : ℕ) → IsGoodType type → AreItemsRead rule type ordered definite room octets items before at
-    → IsRead rule type (room - at) (drop at octets) (Some v) used → ordered ≡ true → is_lt (slice_cmp nat_cmp (take used (drop at octets)) (between octets before at)) ≡ true → HasItems rule type ordered definite room [] (octets ++ more) → ⊥
+    → IsRead rule type (room - at) (drop at octets) v used → ordered ≡ true → is_lt (slice_cmp nat_cmp (take used (drop at octets)) (between octets before at)) ≡ true → HasItems rule type ordered definite room [] (octets ++ more) → ⊥
 none_out_of_order rule type ordered definite room octets more items v before at used good h one on less k =
     let rest = drop at octets in
     let last = between octets before at in
@@ -205,7 +205,7 @@ none_out_of_order rule type ordered definite room octets more items v before at 
 
 -- they are the contents octets of a SEQUENCE OF or SET OF
 pub list_read : (rule : Canonical) (ordered : Bool) (tag : Tag) (type : Shape) (definite : Bool) (room : ℕ) (octets : List ℕ) (items : Vec Value Global) (before used : ℕ) → AreItemsRead (rule_of rule) type ordered definite room octets items.items before used
-    → EndsHere definite (room - used) (drop used octets) → IsInsideRead (rule_of rule) (list_of ordered tag type) definite room octets (Some (value.Items items)) used
+    → EndsHere definite (room - used) (drop used octets) → IsInsideRead (rule_of rule) (list_of ordered tag type) definite room octets (value.Items items) used
 list_read rule true tag type definite room octets items before used read ends =
     let values = map value_view items.items in
     let shape = Shape.set_of tag type in

@@ -1,5 +1,5 @@
 -- Lemmas on where the contents octets of primitive encodings stand.
-use Rattle.std.proofs.Common.{◌≡◌, ℕ, ◌+◌, ◌-◌, ◌≤◌, List, ◌++◌, Some, false, length, take, drop, sym, ◌∙◌, ap, subst, arith, slice_range, length-append}
+use Rattle.std.proofs.Common.{◌≡◌, ℕ, ◌+◌, ◌-◌, ◌≤◌, List, ◌++◌, false, length, take, drop, sym, ◌∙◌, ap, subst, arith, slice_range, length-append}
 use Rattle.std.proofs.Math.Seq.{take-add}
 use Rattle.std.proofs.lemmas.List.{length-take-le, length-drop, drop-drop}
 use Rattle.octets.specs.declared.tag.Tag.{Tag}
@@ -78,7 +78,7 @@ can_of_primitive rule type room octets leaf h = length_of_contents type h.value 
 
 -- the value of the contents octets was read
 pub leaf_read : (rule : Canonical) (type : Shape) (room start stop : ℕ) (octets : List ℕ) (value : Value) → IsLeaf type → IsPlace (tag_of type) room octets start stop → ((size : ℕ) → stop ≡ start + size → IsWhole rule type size)
-    → Conforms type (value_view value) → HoldsContents der type (value_view value) (slice_range octets start stop) → IsRead (rule_of rule) type room octets (Some value) stop
+    → Conforms type (value_view value) → HoldsContents der type (value_view value) (slice_range octets start stop) → IsRead (rule_of rule) type room octets value stop
 leaf_read rule type room start stop octets value leaf place whole conforms holds =
     let contents = slice_range octets start stop in
     let count : length contents ≡ stop - start = length-take-le (stop - start) (drop start octets) (omega (arith, place.there, length-drop start octets)) in (

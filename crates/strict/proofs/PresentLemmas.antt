@@ -1,5 +1,5 @@
 -- Lemmas on a component that stands, which is not its default.
-use Rattle.std.proofs.Common.{◌≡◌, ℕ, ◌≤◌, List, ◌++◌, Option, Some, None, MatchOption, length, take, drop, sym, ◌∙◌, subst}
+use Rattle.std.proofs.Common.{◌≡◌, ℕ, ◌-◌, ◌<◌, ◌≤◌, List, ◌++◌, Option, Some, None, length, take, drop, sym, ◌∙◌, subst}
 use Rattle.octets.specs.Rule.{Rule}
 use Rattle.octets.proofs.FrontLemmas.{front_of_more}
 use Rattle.types.specs.declared.value.Value.{Value}
@@ -11,10 +11,10 @@ use Rattle.types.specs.WellFormed.{IsGoodDefault, TakesDefault}
 use Rattle.types.proofs.BerLemmas.{encoding_by_ber}
 use Rattle.types.proofs.EncodingLemmas.{value_unique}
 use Rattle.types.proofs.SameLemmas.{same_is_equal}
-use Rattle.encoding_parts.specs.Parts.{IsGoodComponent, IsSlotOf}
+use Rattle.encoding_parts.specs.Parts.{IsGoodType, IsGoodComponent, IsSlotOf}
 use Rattle.strict.specs.Reading.{IsRead, HasPart}
-use Rattle.strict.specs.Components.{HasPresent}
-use Rattle.strict.proofs.PartLemmas.{one_of, same_part}
+use Rattle.strict.specs.Components.{HasPresent, IsPresentRead}
+use Rattle.strict.proofs.PartLemmas.{one_of, same_part, read_some, read_behind_in_front}
 
 pub part_of_present : (rule : Rule) (c : ComponentView) (room : ℕ) (octets : List ℕ) → HasPresent rule c room octets → HasPart rule c.type room octets
 part_of_present rule c room octets h = record { value = h.value; part = h.part; rest = h.rest; encoding = h.encoding; fits = h.fits; parts = h.parts }
@@ -30,16 +30,23 @@ default_differs type required v w good dropped differs same = let no : None ≡ 
 default_differs type optional v w good dropped differs same = let no : None ≡ Some v = dropped in cc
 default_differs type (default other) v w good dropped differs same = differs (sym (same good.0) ∙ dropped)
 
--- where what was read is the default, no other value stands there
-default_read : (rule : Rule) (c : ComponentView) (room used : ℕ) (v : Val) (octets more : List ℕ) → IsGoodComponent c → used ≤ length octets → IsEncoding rule c.type v (take used octets) → IsSlotOf c.requirement v None → HasPresent rule c room (octets ++ more) → ⊥
-default_read rule c room used v octets more good there encoding dropped h =
-    let front = take used octets in
-    let same = same_part h.part front h.rest (drop used octets ++ more) (one_of rule c.type h.value h.part good.type h.encoding) (one_of rule c.type v front good.type encoding) (sym h.parts ∙ front_of_more used octets more) in
-    let other : IsEncoding rule c.type h.value front = subst (IsEncoding rule c.type h.value) same.0 h.encoding in
-    default_differs c.type c.requirement v h.value good.default dropped h.differs
-    (λ takes. same_is_equal c.type takes v h.value (value_unique c.type v h.value front (record { tags = good.type.tags; defaults = good.type.defaults }) (encoding_by_ber rule c.type v front encoding) (encoding_by_ber rule c.type h.value front other)))
+-- so many octets are some, and no more than there are
+pub present_some : (rule : Rule) (c : ComponentView) (room : ℕ) (octets : List ℕ) (slot : Option Value) (used : ℕ) → IsGoodType c.type → IsPresentRead rule c room octets slot used → (0 < used) × (used ≤ length octets)
+present_some rule c room octets None used good read = absurd read
+present_some rule c room octets (Some v) used good read = (read_some rule c.type room octets v used good read.0, read.0.0)
 
-pub none_spelt_out : (rule : Rule) (c : ComponentView) (room : ℕ) (octets more : List ℕ) (slot : Option Value) (used : ℕ) → IsGoodComponent c → IsRead rule c.type room octets slot used
-    → MatchOption slot (Unit {0}) (λ v. IsSlotOf c.requirement (value_view v) None) → HasPresent rule c room (octets ++ more) → ⊥
-none_spelt_out rule c room octets more None used good read spelt h = absurd read.2
-none_spelt_out rule c room octets more (Some v) used good read spelt h = default_read rule c room used (value_view v) octets more good read.0 read.2 spelt h
+-- what was read behind some octets of the front, was read of all that stand behind them
+pub present_in_front : (rule : Rule) (c : ComponentView) (room n at : ℕ) (octets : List ℕ) (slot : Option Value) (used : ℕ) → at ≤ n → n ≤ room → n ≤ length octets
+    → IsPresentRead rule c (length (take (length (take n octets) - at) (drop at (take n octets)))) (take (length (take n octets) - at) (drop at (take n octets))) slot used → IsPresentRead rule c (room - at) (drop at octets) slot used
+present_in_front rule c room n at octets None used below fits there read = absurd read
+present_in_front rule c room n at octets (Some v) used below fits there read = (read_behind_in_front rule c.type room n at octets v used below fits there read.0, read.1)
+
+-- where what was read is the default, no other value stands there
+pub none_spelt_out : (rule : Rule) (c : ComponentView) (room : ℕ) (octets more : List ℕ) (v : Value) (used : ℕ) → IsGoodComponent c → IsRead rule c.type room octets v used → IsSlotOf c.requirement (value_view v) None → HasPresent rule c room (octets ++ more) → ⊥
+none_spelt_out rule c room octets more v used good read dropped h =
+    let front = take used octets in
+    let view = value_view v in
+    let same = same_part h.part front h.rest (drop used octets ++ more) (one_of rule c.type h.value h.part good.type h.encoding) (one_of rule c.type view front good.type read.2) (sym h.parts ∙ front_of_more used octets more) in
+    let other : IsEncoding rule c.type h.value front = subst (IsEncoding rule c.type h.value) same.0 h.encoding in
+    default_differs c.type c.requirement view h.value good.default dropped h.differs
+    (λ takes. same_is_equal c.type takes view h.value (value_unique c.type view h.value front (record { tags = good.type.tags; defaults = good.type.defaults }) (encoding_by_ber rule c.type view front read.2) (encoding_by_ber rule c.type h.value front other)))

@@ -49,7 +49,7 @@ absent_read rule c others definite room octets slot none may good known = record
 -- one that stands
 pub stands_read : (rule : Canonical) (c : ComponentView) (others : List ComponentView) (definite : Bool) (room : ℕ) (octets : List ℕ) (slot : Option Value) (used : ℕ) → IsGoodType c.type → RunsAreDistinct (components_of (c ∷ others)) → AllByRecursion IsGoodComponent others
     → IsPresentRead (rule_of rule) c room octets slot used → AreComponentsRead (rule_of rule) (c ∷ []) others definite room octets (slot ∷ []) used
-stands_read rule c others definite room octets None used good runs goods read = absurd read.1
+stands_read rule c others definite room octets None used good runs goods read = absurd read
 stands_read rule c others definite room octets (Some v) used good runs goods read = record {
   there = read.0.0;
   within = read.0.1;
@@ -158,7 +158,7 @@ all_read rule fields i definite room octets slots at past many read =
 
 -- they are the contents octets of a SEQUENCE
 pub sequence_read : (rule : Rule) (tag : Tag) (fields : List Field) (definite : Bool) (room : ℕ) (octets : List ℕ) (slots : Vec (Option Value) Global) (used : ℕ) → AreComponentsRead rule (map field_view fields) [] definite room octets slots.items used
-    → EndsHere definite (room - used) (drop used octets) → IsInsideRead rule (Shape.sequence tag (components_view fields)) definite room octets (Some (value.Fields slots)) used
+    → EndsHere definite (room - used) (drop used octets) → IsInsideRead rule (Shape.sequence tag (components_view fields)) definite room octets (value.Fields slots) used
 sequence_read rule tag fields definite room octets slots used read ends =
     let shape = Shape.sequence tag (components_view fields) in
     record {

@@ -157,7 +157,7 @@ pub member_more : (rule : Canonical) (cs : List ComponentView) (slots : List (Op
     → AreDistinct (tags_of_components (components_of cs)) → IsFront (Some tag) definite (room - at) (drop at octets) → IsFound cs slots place c tag → IsOrderTagOf (rule_of rule) c.type tag order
     → (IsTrue b ↔ MatchOption last (Unit {0}) (λ before. ComesBefore before order)) → b ≡ true → AreMembersRead (rule_of rule) cs slots last definite room octets at → IsPresentRead (rule_of rule) c (room - at) (drop at octets) slot used
     → AreMembersRead (rule_of rule) cs (set slots place slot) (Some order) definite room octets (at + used)
-member_more rule cs slots last place c tag order b definite room octets None at used good distinct front found is iff on h one = absurd one.1
+member_more rule cs slots last place c tag order b definite room octets None at used good distinct front found is iff on h one = absurd one
 member_more rule cs slots last place c tag order b definite room octets (Some v) at used good distinct front found is iff on h one =
     let begins = read_begins (rule_of rule) c tag definite (room - at) used (drop at octets) v front one in
     let ordered = order_in (rule_of rule) cs place c tag order (take used (drop at octets)) found.here is found.first begins in
@@ -173,7 +173,7 @@ filled_slots rule cs slots encodings h filled = elim h [ ]
 
 -- they are the contents octets of a SET
 pub set_read : (rule : Rule) (tag : Tag) (fields : List Field) (definite : Bool) (room : ℕ) (octets : List ℕ) (slots : Vec (Option Value) Global) (last : Option Tag) (used : ℕ) → AreFilled (come_of (map field_view fields) slots.items)
-    → AreMembersRead rule (map field_view fields) slots.items last definite room octets used → EndsHere definite (room - used) (drop used octets) → IsInsideRead rule (Shape.set tag (components_view fields)) definite room octets (Some (value.Fields slots)) used
+    → AreMembersRead rule (map field_view fields) slots.items last definite room octets used → EndsHere definite (room - used) (drop used octets) → IsInsideRead rule (Shape.set tag (components_view fields)) definite room octets (value.Fields slots) used
 set_read rule tag fields definite room octets slots last used filled read ends =
     let shape = Shape.set tag (components_view fields) in
     record {

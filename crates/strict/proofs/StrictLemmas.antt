@@ -1,5 +1,5 @@
 -- Lemmas on what the whole reader takes.
-use Rattle.std.proofs.Common.{◌≡◌, ℕ, ◌≤◌, List, Option, Some, None, IfSome, MatchOption, length, take, drop, sym, ◌∙◌, ap, arith}
+use Rattle.std.proofs.Common.{◌≡◌, ℕ, ◌≤◌, List, length, take, drop, sym, ◌∙◌, ap, arith}
 use Rattle.std.proofs.lemmas.List.{length-take-le}
 use Rattle.octets.specs.Front.{HasFront}
 use Rattle.octets.specs.Rule.{Rule, ber, IsCanonical}
@@ -28,7 +28,7 @@ pub part_of_front : (rule : Rule) (shape : Shape) (octets : List ℕ) → HasFro
 part_of_front rule shape octets f = record { value = f.2.0; part = take f.0 octets; rest = drop f.0 octets; encoding = f.2.1.encoding; fits = f.2.1.size; parts = whole_front f.0 octets }
 
 -- what was read is accepted: a canonical encoding of a well-formed type nests no deeper than is allowed
-pub accepted : (rule : Rule) (shape : Shape) (v : Value) (octets : List ℕ) (used : ℕ) → IsWellFormed shape → IsCanonical rule → IsRead rule shape 1_048_576 octets (Some v) used → (used ≤ length octets) × IsAccepted rule shape (value_view v) (take used octets)
+pub accepted : (rule : Rule) (shape : Shape) (v : Value) (octets : List ℕ) (used : ℕ) → IsWellFormed shape → IsCanonical rule → IsRead rule shape 1_048_576 octets v used → (used ≤ length octets) × IsAccepted rule shape (value_view v) (take used octets)
 accepted rule shape v octets used well canonical read = (
   read.0,
   record {
@@ -38,18 +38,8 @@ accepted rule shape v octets used well canonical read = (
   },
 )
 
-pub slot_accepted : (rule : Rule) (shape : Shape) (slot : Option Value) (octets : List ℕ) (used : ℕ) → IsWellFormed shape → IsCanonical rule → IsRead rule shape 1_048_576 octets slot used
-    → (used ≤ length octets) × MatchOption slot ⊥ (λ v. IsAccepted rule shape (value_view v) (take used octets))
-slot_accepted rule shape None octets used well canonical read = absurd read.2
-slot_accepted rule shape (Some v) octets used well canonical read = accepted rule shape v octets used well canonical read
-
 -- and nothing else is
-pub only_that : (rule : Rule) (shape : Shape) (v : Value) (w : Val) (octets : List ℕ) (used n : ℕ) → IsWellFormed shape → IsRead rule shape 1_048_576 octets (Some v) used → n ≤ length octets → IsAccepted rule shape w (take n octets) → (n ≡ used) × IsSame shape (value_view v) w
+pub only_that : (rule : Rule) (shape : Shape) (v : Value) (w : Val) (octets : List ℕ) (used n : ℕ) → IsWellFormed shape → IsRead rule shape 1_048_576 octets v used → n ≤ length octets → IsAccepted rule shape w (take n octets) → (n ≡ used) × IsSame shape (value_view v) w
 only_that rule shape v w octets used n well read there h =
     let same = encoding_unique shape (value_view v) w (take used octets) (take n octets) (drop used octets) (drop n octets) well (encoding_by_ber rule shape (value_view v) (take used octets) read.2) (encoding_by_ber rule shape w (take n octets) h.encoding) (sym (whole_front used octets) ∙ whole_front n octets) in
     (sym (length-take-le n octets there) ∙ (ap length (sym same.octets) ∙ length-take-le used octets read.0), same.values)
-
-pub only_that_in : (rule : Rule) (shape : Shape) (slot : Option Value) (octets : List ℕ) (used : ℕ) → IsWellFormed shape → IsRead rule shape 1_048_576 octets slot used
-    → IfSome slot (λ v. (w : Val) (n : ℕ) → n ≤ length octets → IsAccepted rule shape w (take n octets) → (n ≡ used) × IsSame shape (value_view v) w)
-only_that_in rule shape None octets used well read = tt
-only_that_in rule shape (Some v) octets used well read = λ w n there h. only_that rule shape v w octets used n well read there h

@@ -37,7 +37,7 @@ pub record HasPresent (rule : Rule) (c : ComponentView) (room : ℕ) (octets : L
 
 -- so many octets are that of the value in the slot
 abbrev pub IsPresentRead : Rule → ComponentView → ℕ → List ℕ → Option Value → ℕ → Type 0
-IsPresentRead rule c room octets slot used = IsRead rule c.type room octets slot used × MatchOption slot ⊥ (λ value. DiffersFromDefault c.requirement (value_view value))
+IsPresentRead rule c room octets slot used = MatchOption slot ⊥ (λ value. IsRead rule c.type room octets value used × DiffersFromDefault c.requirement (value_view value))
 
 -- the octets begin with the encodings of components up to an end
 pub record HasComponents (rule : Rule) (components : List ComponentView) (definite : Bool) (room : ℕ) (octets : List ℕ) : Type 0 where

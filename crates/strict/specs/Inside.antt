@@ -1,5 +1,5 @@
 -- What stands inside an encoding of a type with parts: its contents octets, up to an end (X.690 8.9 to 8.12 and 8.14).
-use Rattle.std.specs.Prelude.{◌≡◌, ◌-◌, ◌≤◌, ⊤, ℕ, Bool, true, false, List, [], ◌∷◌, ◌++◌, Option, length, take, drop, MatchOption}
+use Rattle.std.specs.Prelude.{◌≡◌, ◌-◌, ◌≤◌, ⊤, ℕ, Bool, true, false, List, [], ◌∷◌, ◌++◌, length, take, drop}
 use Rattle.std.specs.List.{concat}
 use Rattle.octets.specs.declared.tag.Tag.{Tag}
 use Rattle.octets.specs.Rule.{Rule}
@@ -40,9 +40,9 @@ pub record HasInside (rule : Rule) (type : Shape) (definite : Bool) (room : ℕ)
   pub fills : Fills definite room (contents_of rule type value whole encoding)
   pub parts : octets ≡ contents_of rule type value whole encoding ++ (mark definite ++ rest)
 
--- so many of the octets are those of an encoding of the value in the slot, and end there
-pub record IsInsideRead (rule : Rule) (type : Shape) (definite : Bool) (room : ℕ) (octets : List ℕ) (slot : Option Value) (used : ℕ) : Type 0 where
+-- so many of the octets are those of an encoding of the value, and end there
+pub record IsInsideRead (rule : Rule) (type : Shape) (definite : Bool) (room : ℕ) (octets : List ℕ) (value : Value) (used : ℕ) : Type 0 where
   pub there : used ≤ length octets
   pub within : used ≤ room
   pub ends : EndsHere definite (room - used) (drop used octets)
-  pub makes : (tag : Tag) (whole : List ℕ) → first_tags type ≡ tag ∷ [] → IsConstructed rule tag (take used octets) whole → MatchOption slot ⊥ (λ value. IsEncoding rule type (value_view value) whole)
+  pub makes : (tag : Tag) (whole : List ℕ) → first_tags type ≡ tag ∷ [] → IsConstructed rule tag (take used octets) whole → IsEncoding rule type (value_view value) whole

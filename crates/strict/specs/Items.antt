@@ -8,6 +8,7 @@ use Rattle.types.specs.View.{value_view}
 use Rattle.types.specs.Order.{Ascends, IsPaddedAtMost}
 use Rattle.types.specs.Encoding.{IsEncoding}
 use Rattle.strict.specs.Head.{Fills, mark}
+use Rattle.strict.specs.Reading.{IsRead}
 
 -- an encoding of some value
 abbrev pub IsSomeEncoding : Rule → Shape → List ℕ → Type 0
@@ -22,6 +23,10 @@ pub record HasItems (rule : Rule) (type : Shape) (ordered definite : Bool) (room
   pub ascends : ordered ≡ true → Ascends (last ∷ order)
   pub fills : Fills definite room (concat order)
   pub parts : octets ≡ concat order ++ (mark definite ++ rest)
+
+-- so many octets are an encoding of one item more, which stands behind the others
+abbrev pub IsItemRead : Rule → Shape → ℕ → List ℕ → List Value → List Value → ℕ → Type 0
+IsItemRead rule type room octets old new used = (item : Value) × (new ≡ old ++ (item ∷ [])) × IsRead rule type room octets item used
 
 -- the octets between two places
 abbrev pub between : List ℕ → ℕ → ℕ → List ℕ

@@ -1,5 +1,5 @@
 -- A value that has been read at the front of some octets, what can stand there, and why it cannot.
-use Rattle.std.specs.Prelude.{◌≡◌, ◌≤◌, ℕ, Bool, List, ◌++◌, Option, length, take, MatchOption}
+use Rattle.std.specs.Prelude.{◌≡◌, ◌≤◌, ℕ, Bool, List, ◌++◌, length, take}
 use Rattle.octets.specs.Rule.{Rule}
 use Rattle.types.specs.declared.refusal.Refusal.{Refusal}
 use Rattle.types.specs.declared.value.Value.{Value}
@@ -12,9 +12,9 @@ use Rattle.strict.specs.Begun.{IsBegun}
 use Rattle.strict.specs.Canonical.{rule_of}
 use Rattle.strict.specs.Head.{Fills, mark}
 
--- so many octets are an encoding of the value in the slot
-abbrev pub IsRead : Rule → Shape → ℕ → List ℕ → Option Value → ℕ → Type 0
-IsRead rule type room octets slot used = (used ≤ length octets) × (used ≤ room) × MatchOption slot ⊥ (λ value. IsEncoding rule type (value_view value) (take used octets))
+-- so many octets are an encoding of the value
+abbrev pub IsRead : Rule → Shape → ℕ → List ℕ → Value → ℕ → Type 0
+IsRead rule type room octets value used = (used ≤ length octets) × (used ≤ room) × IsEncoding rule type (value_view value) (take used octets)
 
 -- the octets begin with an encoding of the type, of at most so many octets
 pub record HasPart (rule : Rule) (type : Shape) (room : ℕ) (octets : List ℕ) : Type 0 where

@@ -17,15 +17,15 @@ ghost use Rattle.strict.specs.Components.{HasPresent, IsPresentRead, HasComponen
 
 use crate::canonical::Canonical;
 use crate::filling::read_shortly;
-use crate::fronts::{front_tag, is_spelt_out, left_over, stands_next, why_not_read};
+use crate::fronts::{front_tag, left_over, stands_next, why_not_read};
 use crate::head::Inside;
 use crate::parts::read_one;
-use encoding_parts::{clear, take_slots};
+use encoding_parts::{clear, is_default, take_slots};
 use octets::MAX_ENCODING;
 use std::alloc::Global;
 use types::{Field, Refusal, Value, may_be_absent};
 
-// Reads the encodings of components at the front up to the end into the slot, and returns how many octets they have.
+// Reads the encodings of components at the front up to the end into the value, and returns how many octets they have.
 #[cycle(reading)]
 pub fn read_components(
     alloc: Global,
@@ -33,15 +33,15 @@ pub fn read_components(
     fields: &[Field],
     inside: &Inside,
     octets: &[u8],
-    slot: &mut Option<Value>,
+    value: &mut Value,
 ) -> Result<usize, Refusal>
     requires good { AllByRecursion IsGoodComponent (map field_view fields.now) }
     requires runs { RunsAreDistinct (components_view fields.now) }
     requires room { inside.now.room ≤ MAX_ENCODING }
-    ensures value { IfOk result (λ used. (tag : Tag) → IsInsideRead (rule_of rule) (Shape.sequence tag (components_view fields.now)) inside.now.definite inside.now.room octets.now slot.new used) }
+    ensures value { IfOk result (λ used. (tag : Tag) → IsInsideRead (rule_of rule) (Shape.sequence tag (components_view fields.now)) inside.now.definite inside.now.room octets.now value.new used) }
     ensures refused { IfErr result (RefusesStrictly (HasComponents (rule_of rule) (map field_view fields.now) inside.now.definite inside.now.room) (AreFewer inside.now.definite inside.now.room) octets.now) }
 {
-    let Ok(taken) = take_slots(alloc, fields, slot) else {
+    let Ok(taken) = take_slots(alloc, fields, value) else {
         return Err(Refusal::NoMemory);
     };
     let mut slots = taken;
@@ -67,7 +67,7 @@ pub fn read_components(
     match front_tag(inside.definite, inside.room - at, &octets[at..])? {
         Some(tag) => Err(left_over(tag, &slots)),
         None => {
-            *slot = Some(Value::Fields(slots));
+            *value = Value::Fields(slots);
             Ok(at)
         }
     }
@@ -123,9 +123,12 @@ fn read_shortly_present(
     ensures { IfSome result (λ used. (rule : Canonical) → IsPresentRead (rule_of rule) (field_view field.now) (length octets.now) octets.now slot.new used) }
 {
     let tag = field.ty.leaf_tag()?;
-    let used = read_shortly(alloc, &field.ty, tag, octets, slot)?;
-    let spelt_out = is_spelt_out(&field.presence, slot);
-    if spelt_out { None } else { Some(used) }
+    let value = slot.get_or_insert_with(|| Value::Null);
+    let used = read_shortly(alloc, &field.ty, tag, octets, value)?;
+    if !is_default(&field.presence, value) {
+        return Some(used);
+    }
+    None
 }
 
 // Reads the encoding of the component at the front, which is not that of its default.
@@ -144,8 +147,9 @@ pub fn read_present(
     ensures value { IfOk result (λ used. IsPresentRead (rule_of rule) (field_view field.now) room octets.now slot.new used) }
     ensures refused { IfErr result (RefusesStrictly (HasPresent (rule_of rule) (field_view field.now) room) (λ o. length o < room) octets.now) }
 {
-    let used = read_one(alloc, rule, &field.ty, room, octets, slot)?;
-    if is_spelt_out(&field.presence, slot) {
+    let value = slot.get_or_insert_with(|| Value::Null);
+    let used = read_one(alloc, rule, &field.ty, room, octets, value)?;
+    if is_default(&field.presence, value) {
         return Err(Refusal::NotCanonical);
     }
     Ok(used)

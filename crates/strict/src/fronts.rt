@@ -1,12 +1,11 @@
 //! What stands at the front where a component must begin or the contents octets end.
 
-ghost use Rattle.std.specs.Prelude.{◌≡◌, ⊤, false, ◌↔◌, ◌⊎◌, Option, None, Contains, IsTrue, IfOk, IfErr, MatchOption};
+ghost use Rattle.std.specs.Prelude.{◌≡◌, ◌↔◌, ◌⊎◌, Option, Contains, IsTrue, IfOk, IfErr, MatchOption};
 ghost use Rattle.octets.specs.declared.tag.Tag.{Tag};
-ghost use Rattle.types.specs.Conforms.{DiffersFromDefault};
 ghost use Rattle.types.specs.FirstTags.{first_tags};
 ghost use Rattle.types.specs.Refusal.{IsFinal};
-ghost use Rattle.types.specs.View.{ty_view, value_view, requirement_view};
-ghost use Rattle.encoding_parts.specs.Parts.{IsGoodType, IsSlotOf};
+ghost use Rattle.types.specs.View.{ty_view};
+ghost use Rattle.encoding_parts.specs.Parts.{IsGoodType};
 ghost use Rattle.strict.specs.declared.canonical.Canonical.{Canonical};
 ghost use Rattle.strict.specs.Canonical.{rule_of};
 ghost use Rattle.strict.specs.Bars.{RefusesStrictly};
@@ -16,9 +15,9 @@ ghost use Rattle.strict.specs.Reading.{HasPart};
 ghost use Rattle.strict.specs.Refusal.{IsOfStrictReading};
 
 use crate::ends::ends;
-use encoding_parts::{begins, is_default, not_due, read_head_tag};
+use encoding_parts::{begins, not_due, read_head_tag};
 use octets::Tag;
-use types::{Field, Presence, Refusal, Ty, Value};
+use types::{Field, Refusal, Ty, Value};
 
 // The tag at the front, or none where the contents octets end there.
 pub fn front_tag(definite: bool, room: usize, octets: &[u8]) -> Result<Option<Tag>, Refusal>
@@ -91,18 +90,5 @@ pub fn left_over(tag: Tag, slots: &[Option<Value>]) -> Refusal
         Some(None) => not_due(tag),
         Some(Some(_)) => Refusal::Identifier,
         None => Refusal::Identifier,
-    }
-}
-
-// Whether the value in the slot is the component's default.
-pub fn is_spelt_out(presence: &Presence, slot: &Option<Value>) -> bool
-    ensures default { IsTrue result → MatchOption slot.now ⊤
-        (λ value. IsSlotOf (requirement_view presence.now) (value_view value) None) }
-    ensures other { result ≡ false → MatchOption slot.now ⊥
-        (λ value. DiffersFromDefault (requirement_view presence.now) (value_view value)) }
-{
-    match slot {
-        Some(value) => is_default(presence, value),
-        None => true,
     }
 }

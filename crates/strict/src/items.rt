@@ -1,17 +1,19 @@
 //! SEQUENCE OF and SET OF (X.690 8.10, 8.12 and 11.6).
 
-ghost use Rattle.std.specs.Prelude.{◌≡◌, ◌≤◌, [], false, IsTrue, IfOk, IfErr};
+ghost use Rattle.std.specs.Prelude.{◌≡◌, ◌≤◌, [], false, vec_len, IsTrue, IfOk, IfErr};
 ghost use Rattle.std.specs.Ordering.{nat_cmp, is_lt};
 ghost use Rattle.std.specs.Cmp.Lexicographic.{slice_cmp};
 ghost use Rattle.octets.specs.declared.TheConstants.{MAX_ENCODING};
 ghost use Rattle.octets.specs.declared.tag.Tag.{Tag};
 ghost use Rattle.types.specs.View.{ty_view};
 ghost use Rattle.encoding_parts.specs.Parts.{IsGoodType};
+ghost use Rattle.encoding_parts.specs.Renewed.{new_items};
 ghost use Rattle.strict.specs.Canonical.{rule_of};
 ghost use Rattle.strict.specs.Bars.{RefusesStrictly};
 ghost use Rattle.strict.specs.Head.{AreFewer};
 ghost use Rattle.strict.specs.Inside.{IsInsideRead, list_of};
-ghost use Rattle.strict.specs.Items.{HasItems};
+ghost use Rattle.strict.specs.Items.{HasItems, IsItemRead};
+ghost use Rattle.strict.specs.Reading.{RefusesPart};
 
 use crate::canonical::Canonical;
 use crate::ends::ends;
@@ -26,8 +28,8 @@ use types::{Refusal, Ty, Value};
 // and takes longer to begin.
 const FEW: usize = 8;
 
-// Reads the encodings of items up to the end into the slot, and returns how many octets they have. Where they are to be
-// `ordered`, as those of a SET OF, none may come before the one that it follows.
+// Reads the encodings of items up to the end into the value, and returns how many octets they have. Where they are to
+// be `ordered`, as those of a SET OF, none may come before the one that it follows.
 #[cycle(reading)]
 pub fn read_items(
     alloc: Global,
@@ -36,32 +38,80 @@ pub fn read_items(
     ordered: bool,
     inside: &Inside,
     octets: &[u8],
-    slot: &mut Option<Value>,
+    value: &mut Value,
 ) -> Result<usize, Refusal>
     requires good { IsGoodType (ty_view inner.now) }
     requires room { inside.now.room ≤ MAX_ENCODING }
-    ensures value { IfOk result (λ used. (tag : Tag) → IsInsideRead (rule_of rule) (list_of ordered tag (ty_view inner.now)) inside.now.definite inside.now.room octets.now slot.new used) }
+    ensures value { IfOk result (λ used. (tag : Tag) → IsInsideRead (rule_of rule) (list_of ordered tag (ty_view inner.now)) inside.now.definite inside.now.room octets.now value.new used) }
     ensures refused { IfErr result (RefusesStrictly (HasItems (rule_of rule) (ty_view inner.now) ordered inside.now.definite inside.now.room []) (AreFewer inside.now.definite inside.now.room) octets.now) }
 {
-    let mut list = Renewed::over(alloc, inner, slot);
+    let mut list = Renewed::over(alloc, inner, value);
     let mut at = 0;
     let mut before = 0;
     while !ends(inside.definite, inside.room - at, &octets[at..])? {
-        let mut item = list.take_old();
         let room = inside.room - at;
-        let used = read_one(alloc, rule, inner, room, &octets[at..], &mut item)?;
-        let Some(value) = item else { unreachable!() };
+        let used = read_item(alloc, rule, inner, room, &octets[at..], &mut list)?;
         if is_out_of_order(ordered, &octets[at..at + used], &octets[before..at]) {
             return Err(Refusal::NotCanonical);
-        }
-        if !list.put(value, 0, used, octets.len() - at) {
-            return Err(Refusal::NoMemory);
         }
         before = at;
         at += used;
     }
-    *slot = Some(Value::Items(list.into_items()));
+    *value = Value::Items(list.into_items());
     Ok(at)
+}
+
+// Reads the encoding of the next item at the front into its place in the list, and returns how many octets it has: at
+// most `room`.
+#[cycle(reading)]
+#[inline(always)]
+fn read_item(
+    alloc: Global,
+    rule: Canonical,
+    inner: &Ty,
+    room: usize,
+    octets: &[u8],
+    list: &mut Renewed,
+) -> Result<usize, Refusal>
+    requires good { IsGoodType (ty_view inner.now) }
+    requires room { room ≤ MAX_ENCODING }
+    ensures value { IfOk result (λ used. IsItemRead (rule_of rule) (ty_view inner.now) room octets.now (new_items list.old) (new_items list.new) used) }
+    ensures refused { IfErr result (RefusesPart rule (ty_view inner.now) room octets.now) }
+{
+    if !list.has_next() {
+        return read_growing(alloc, rule, inner, room, octets, list);
+    }
+    let place = list.count;
+    let used = read_one(alloc, rule, inner, room, octets, &mut list.items[place])?;
+    list.keep();
+    Ok(used)
+}
+
+// Reads the encoding of the next item, for which the list has no place yet, and puts the item behind the others. A call
+// of its own, since a list grows seldom.
+#[cycle(reading)]
+#[inline(never)]
+fn read_growing(
+    alloc: Global,
+    rule: Canonical,
+    inner: &Ty,
+    room: usize,
+    octets: &[u8],
+    list: &mut Renewed,
+) -> Result<usize, Refusal>
+    requires good { IsGoodType (ty_view inner.now) }
+    requires room { room ≤ MAX_ENCODING }
+    requires grows { vec_len list.old.items ≤ list.old.count }
+    ensures value { IfOk result (λ used. IsItemRead (rule_of rule) (ty_view inner.now) room octets.now (new_items list.old) (new_items list.new) used) }
+    ensures refused { IfErr result (RefusesPart rule (ty_view inner.now) room octets.now) }
+{
+    let mut item = Value::Null;
+    let used = read_one(alloc, rule, inner, room, octets, &mut item)?;
+    if list.put(item, 0, used, octets.len()) {
+        Ok(used)
+    } else {
+        Err(Refusal::NoMemory)
+    }
 }
 
 // Whether the encoding of an item comes before that of the last one, where they are to be ordered (X.690 11.6).

@@ -23,8 +23,8 @@ use octets::{Length, MAX_ENCODING, Tag, read_length};
 use std::alloc::Global;
 use types::{Refusal, Ty, Value};
 
-// Reads the encoding at the front, of a type without parts under this tag, into the slot, and returns how many octets it
-// has: at most `room`. Strings alone have constructed ones, and of CER the long ones. All values but those of BOOLEAN,
+// Reads the encoding at the front, of a type without parts under this tag, into the value, and returns how many octets
+// it has: at most `room`. Strings alone have constructed ones, and of CER the long ones. All values but those of BOOLEAN,
 // INTEGER within 128 bits, ENUMERATED and NULL take memory.
 pub fn read_leaf(
     alloc: Global,
@@ -33,13 +33,13 @@ pub fn read_leaf(
     tag: Tag,
     room: usize,
     octets: &[u8],
-    slot: &mut Option<Value>,
+    value: &mut Value,
 ) -> Result<usize, Refusal>
     requires leaf { IsLeaf (ty_view ty.now) }
     requires tag { tag_of (ty_view ty.now) ≡ tag }
     requires good { IsGoodType (ty_view ty.now) }
     requires room { room ≤ MAX_ENCODING }
-    ensures value { IfOk result (λ used. IsRead (rule_of rule) (ty_view ty.now) room octets.now slot.new used) }
+    ensures value { IfOk result (λ used. IsRead (rule_of rule) (ty_view ty.now) room octets.now value.new used) }
     ensures refused { IfErr result (RefusesPart rule (ty_view ty.now) room octets.now) }
 {
     let (constructed, identifier) = read_its_tag(tag, room, octets)?;
@@ -48,13 +48,12 @@ pub fn read_leaf(
             return Err(Refusal::Form);
         };
         return match rule {
-            Canonical::Cer => read_cut(alloc, kind, ty, tag, room, octets, slot),
+            Canonical::Cer => read_cut(alloc, kind, ty, tag, room, octets, value),
             Canonical::Der => Err(Refusal::NotCanonical),
         };
     }
     let (start, stop) = read_place(rule, ty, identifier, room, octets)?;
-    let value = read_value(alloc, ty, &octets[start..stop])?;
-    *slot = Some(value);
+    *value = read_value(alloc, ty, &octets[start..stop])?;
     Ok(stop)
 }
 

@@ -24,7 +24,7 @@ use octets::MAX_ENCODING;
 use std::alloc::Global;
 use types::{Field, Refusal, Value};
 
-// Reads the encodings of components at the front up to the end into the slot, and returns how many octets they have.
+// Reads the encodings of components at the front up to the end into the value, and returns how many octets they have.
 #[cycle(reading)]
 pub fn read_members(
     alloc: Global,
@@ -32,15 +32,15 @@ pub fn read_members(
     fields: &[Field],
     inside: &Inside,
     octets: &[u8],
-    slot: &mut Option<Value>,
+    value: &mut Value,
 ) -> Result<usize, Refusal>
     requires good { AllByRecursion IsGoodComponent (map field_view fields.now) }
     requires distinct { AreDistinct (tags_of_components (components_view fields.now)) }
     requires room { inside.now.room ≤ MAX_ENCODING }
-    ensures value { IfOk result (λ used. (tag : Tag) → IsInsideRead (rule_of rule) (Shape.set tag (components_view fields.now)) inside.now.definite inside.now.room octets.now slot.new used) }
+    ensures value { IfOk result (λ used. (tag : Tag) → IsInsideRead (rule_of rule) (Shape.set tag (components_view fields.now)) inside.now.definite inside.now.room octets.now value.new used) }
     ensures refused { IfErr result (RefusesStrictly (HasMembers (rule_of rule) (map field_view fields.now) (map (λ c. None) (map field_view fields.now)) None inside.now.definite inside.now.room) (AreFewer inside.now.definite inside.now.room) octets.now) }
 {
-    let Ok(slots) = emptied_slots(alloc, fields, slot) else {
+    let Ok(slots) = emptied_slots(alloc, fields, value) else {
         return Err(Refusal::NoMemory);
     };
     let behind = 0;
@@ -72,6 +72,6 @@ pub fn read_members(
     if !set_components.are_filled() {
         return Err(Refusal::Missing);
     }
-    *slot = Some(Value::Fields(set_components.slots));
+    *value = Value::Fields(set_components.slots);
     Ok(at)
 }

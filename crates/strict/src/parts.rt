@@ -19,13 +19,13 @@ use crate::head::{Inside, opened, refusal_inside};
 use crate::items::read_items;
 use crate::leaf::read_leaf;
 use crate::members::read_members;
-use encoding_parts::{by_tag, not_due, put_chosen, read_head_tag, take_chosen};
+use encoding_parts::{by_tag, choose, not_due, read_head_tag};
 use octets::MAX_ENCODING;
 use std::alloc::Global;
 use types::{Alternative, Refusal, Ty, Value};
 
-// Reads the encoding at the front into the slot, and returns how many octets it has: at most `room`. Most without parts are
-// looked at once.
+// Reads the encoding at the front into the value, and returns how many octets it has: at most `room`. Most without parts
+// are looked at once.
 #[cycle(reading)]
 #[inline(always)]
 pub fn read_one(
@@ -34,23 +34,23 @@ pub fn read_one(
     ty: &Ty,
     room: usize,
     octets: &[u8],
-    slot: &mut Option<Value>,
+    value: &mut Value,
 ) -> Result<usize, Refusal>
     requires good { IsGoodType (ty_view ty.now) }
     requires room { room ≤ MAX_ENCODING }
-    ensures value { IfOk result (λ used. IsRead (rule_of rule) (ty_view ty.now) room octets.now slot.new used) }
+    ensures value { IfOk result (λ used. IsRead (rule_of rule) (ty_view ty.now) room octets.now value.new used) }
     ensures refused { IfErr result (RefusesPart rule (ty_view ty.now) room octets.now) }
 {
     if let Some(tag) = ty.leaf_tag() {
         let front = &octets[..octets.len().min(room)];
-        return match read_shortly(alloc, ty, tag, front, slot) {
+        return match read_shortly(alloc, ty, tag, front, value) {
             Some(used) => Ok(used),
-            None => read_leaf(alloc, rule, ty, tag, room, octets, slot),
+            None => read_leaf(alloc, rule, ty, tag, room, octets, value),
         };
     }
     match ty {
-        Ty::Choice(alternatives) => read_chosen(alloc, rule, alternatives, room, octets, slot),
-        _ => read_parts(alloc, rule, ty, room, octets, slot),
+        Ty::Choice(alternatives) => read_chosen(alloc, rule, alternatives, room, octets, value),
+        _ => read_parts(alloc, rule, ty, room, octets, value),
     }
 }
 
@@ -62,24 +62,24 @@ fn read_parts(
     ty: &Ty,
     room: usize,
     octets: &[u8],
-    slot: &mut Option<Value>,
+    value: &mut Value,
 ) -> Result<usize, Refusal>
     requires parts { HasParts (ty_view ty.now) }
     requires good { IsGoodType (ty_view ty.now) }
     requires room { room ≤ MAX_ENCODING }
-    ensures value { IfOk result (λ used. IsRead (rule_of rule) (ty_view ty.now) room octets.now slot.new used) }
+    ensures value { IfOk result (λ used. IsRead (rule_of rule) (ty_view ty.now) room octets.now value.new used) }
     ensures refused { IfErr result (RefusesPart rule (ty_view ty.now) room octets.now) }
 {
     let Some(tag) = ty.tag() else { unreachable!() };
     let inside = opened(rule, tag, room, octets)?;
     let behind = &octets[inside.start..];
-    match read_inside(alloc, rule, ty, &inside, behind, slot) {
+    match read_inside(alloc, rule, ty, &inside, behind, value) {
         Ok(used) => Ok(inside.close(used)),
         Err(refusal) => Err(refusal_inside(rule, inside.room, refusal)),
     }
 }
 
-// Reads the contents octets up to their end into the slot, and returns how many they are.
+// Reads the contents octets up to their end into the value, and returns how many they are.
 #[cycle(reading)]
 #[inline(always)]
 fn read_inside(
@@ -88,25 +88,25 @@ fn read_inside(
     ty: &Ty,
     inside: &Inside,
     octets: &[u8],
-    slot: &mut Option<Value>,
+    value: &mut Value,
 ) -> Result<usize, Refusal>
     requires parts { HasParts (ty_view ty.now) }
     requires good { IsGoodType (ty_view ty.now) }
     requires room { inside.now.room ≤ MAX_ENCODING }
-    ensures value { IfOk result (λ used. IsInsideRead (rule_of rule) (ty_view ty.now) inside.now.definite inside.now.room octets.now slot.new used) }
+    ensures value { IfOk result (λ used. IsInsideRead (rule_of rule) (ty_view ty.now) inside.now.definite inside.now.room octets.now value.new used) }
     ensures refused { IfErr result (RefusesStrictly (HasInside (rule_of rule) (ty_view ty.now) inside.now.definite inside.now.room) (AreFewer inside.now.definite inside.now.room) octets.now) }
 {
     match ty {
-        Ty::Sequence(_, fields) => read_components(alloc, rule, fields, inside, octets, slot),
-        Ty::Set(_, fields) => read_members(alloc, rule, fields, inside, octets, slot),
-        Ty::SequenceOf(_, inner) => read_items(alloc, rule, inner, false, inside, octets, slot),
-        Ty::SetOf(_, inner) => read_items(alloc, rule, inner, true, inside, octets, slot),
-        Ty::Explicit(_, inner) => read_alone(alloc, rule, inner, inside, octets, slot),
+        Ty::Sequence(_, fields) => read_components(alloc, rule, fields, inside, octets, value),
+        Ty::Set(_, fields) => read_members(alloc, rule, fields, inside, octets, value),
+        Ty::SequenceOf(_, inner) => read_items(alloc, rule, inner, false, inside, octets, value),
+        Ty::SetOf(_, inner) => read_items(alloc, rule, inner, true, inside, octets, value),
+        Ty::Explicit(_, inner) => read_alone(alloc, rule, inner, inside, octets, value),
         _ => unreachable!(),
     }
 }
 
-// Reads an encoding of one of the alternatives of a CHOICE into the slot: tags tell them apart.
+// Reads an encoding of one of the alternatives of a CHOICE into the value: tags tell them apart.
 #[cycle(reading)]
 #[inline(never)]
 fn read_chosen(
@@ -115,25 +115,24 @@ fn read_chosen(
     alternatives: &[Alternative],
     room: usize,
     octets: &[u8],
-    slot: &mut Option<Value>,
+    value: &mut Value,
 ) -> Result<usize, Refusal>
     requires good { IsGoodType (Shape.choice (alternatives_view alternatives.now)) }
     requires room { room ≤ MAX_ENCODING }
-    ensures value { IfOk result (λ used. IsRead (rule_of rule) (Shape.choice (alternatives_view alternatives.now)) room octets.now slot.new used) }
+    ensures value { IfOk result (λ used. IsRead (rule_of rule) (Shape.choice (alternatives_view alternatives.now)) room octets.now value.new used) }
     ensures refused { IfErr result (RefusesPart rule (Shape.choice (alternatives_view alternatives.now)) room octets.now) }
 {
     let (tag, _, _) = read_head_tag(room, 0, octets)?;
     let Some((which, alternative)) = by_tag(alternatives, tag) else {
         return Err(not_due(tag));
     };
-    let mut chosen = take_chosen(slot);
-    let used = read_one(alloc, rule, &alternative.ty, room, octets, &mut chosen)?;
-    let Some(value) = chosen else { unreachable!() };
-    if put_chosen(alloc, which, value, slot) {
-        Ok(used)
-    } else {
-        Err(Refusal::NoMemory)
+    if !choose(alloc, which, value) {
+        return Err(Refusal::NoMemory);
     }
+    let Value::Chosen(_, boxed) = value else {
+        unreachable!()
+    };
+    read_one(alloc, rule, &alternative.ty, room, octets, boxed)
 }
 
 // Reads the one encoding inside another, up to the end, and returns how many octets it has.
@@ -144,15 +143,15 @@ fn read_alone(
     ty: &Ty,
     inside: &Inside,
     octets: &[u8],
-    slot: &mut Option<Value>,
+    value: &mut Value,
 ) -> Result<usize, Refusal>
     requires good { IsGoodType (ty_view ty.now) }
     requires room { inside.now.room ≤ MAX_ENCODING }
-    ensures value { IfOk result (λ used. IsRead (rule_of rule) (ty_view ty.now) inside.now.room octets.now slot.new used
+    ensures value { IfOk result (λ used. IsRead (rule_of rule) (ty_view ty.now) inside.now.room octets.now value.new used
         × EndsHere inside.now.definite (inside.now.room - used) (drop used octets.now)) }
     ensures refused { IfErr result (RefusesStrictly (HasAlone (rule_of rule) (ty_view ty.now) inside.now.definite inside.now.room) (AreFewer inside.now.definite inside.now.room) octets.now) }
 {
-    let used = read_one(alloc, rule, ty, inside.room, octets, slot)?;
+    let used = read_one(alloc, rule, ty, inside.room, octets, value)?;
     match front_tag(inside.definite, inside.room - used, &octets[used..])? {
         Some(_) => Err(Refusal::Identifier),
         None => Ok(used),

@@ -114,5 +114,6 @@ pub fn read_into(
     ensures numbers { IfErr result IsOfStrictReading }
     ensures well_formed { IsWellFormed (ty_view ty.now) }
 {
-    read_one(alloc, rule, ty.as_type(), MAX_ENCODING, octets, slot)
+    let value = slot.get_or_insert_with(|| Value::Null);
+    read_one(alloc, rule, ty.as_type(), MAX_ENCODING, octets, value)
 }

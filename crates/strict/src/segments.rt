@@ -29,7 +29,7 @@ use types::{Refusal, Ty, Value};
 // The most contents octets of a segment, and of a string that is not cut.
 pub const SEGMENT_OCTETS: usize = 1000;
 
-// Reads the constructed encoding at the front, of a string of the kind, into the slot, and returns how many octets it
+// Reads the constructed encoding at the front, of a string of the kind, into the value, and returns how many octets it
 // has: at most `room`.
 #[inline(never)]
 pub fn read_cut(
@@ -39,13 +39,13 @@ pub fn read_cut(
     tag: Tag,
     room: usize,
     octets: &[u8],
-    slot: &mut Option<Value>,
+    value: &mut Value,
 ) -> Result<usize, Refusal>
     requires string { IsStringOf kind (ty_view ty.now) }
     requires tag { tag_of (ty_view ty.now) ≡ tag }
     requires within { tag.number ≤ MAX_TAG_NUMBER }
     requires room { room ≤ MAX_ENCODING }
-    ensures value { IfOk result (λ used. IsRead cer (ty_view ty.now) room octets.now slot.new used) }
+    ensures value { IfOk result (λ used. IsRead cer (ty_view ty.now) room octets.now value.new used) }
     ensures refused { IfErr result (RefusesStrictly (HasCut kind (ty_view ty.now) room) (IsConstructedCut Canonical.Cer tag room) octets.now) }
 {
     let inside = indefinite(tag, room, octets)?;
@@ -54,8 +54,7 @@ pub fn read_cut(
     if !is_long(kind, &joined) {
         return Err(Refusal::NotCanonical);
     }
-    let value = value_of(kind, ty, joined)?;
-    *slot = Some(value);
+    *value = value_of(kind, ty, joined)?;
     Ok(inside.close(used))
 }
 

@@ -2,10 +2,11 @@ use Rattle.std.proofs.Common.{rules, ◌≡◌, ◌+◌, ◌-◌, ◌≤◌, ◌
 use Rattle.std.specs.Ordering.{nat_cmp, is_lt}
 use Rattle.std.specs.Cmp.Lexicographic.{slice_cmp}
 use Rattle.std.proofs.lemmas.List.{take_rest, take_more_set, length-set, length-drop}
-use Rattle.types.specs.Shape.{Shape}
+use Rattle.types.specs.Shape.{Shape, Val}
 use Rattle.types.specs.View.{ty_view, value_view, field_view, components_view, alternative_view, alternatives_view}
 use Rattle.types.specs.Conforms.{MayBeAbsent}
 use Rattle.types.specs.declared.value.Value.{Value}
+use Rattle.types.specs.declared.value.Value as value
 use Rattle.types.specs.declared.ty.Ty as node
 use Rattle.types.specs.declared.ty.Field as field
 use Rattle.types.specs.declared.ty.Alternative as alternative
@@ -17,21 +18,21 @@ use Rattle.encoding_parts.specs.Renewed.{new_items}
 use Rattle.strict.specs.Canonical.{rule_of}
 use Rattle.strict.specs.Begun.{IsBegun}
 use Rattle.strict.specs.Head.{EndsHere, IsEndKnown, AreFewer}
-use Rattle.strict.specs.Reading.{IsRead, HasPart}
+use Rattle.strict.specs.Reading.{IsRead, HasPart, RefusesPart}
 use Rattle.strict.specs.Components.{IsFront, HasComponents, AreComponentsRead, HasComponentFirst}
 use Rattle.strict.specs.Bars.{RefusesStrictly}
 use Rattle.strict.specs.Inside.{HasInside, IsInsideRead}
 use Rattle.strict.specs.Items.{AreItemsRead, between}
 use Rattle.strict.proofs.BarsLemmas.{refused_of, refused_for_good, refused_by, refused_behind, refused_named, refused_through}
-use Rattle.strict.proofs.PartLemmas.{read_some, read_in_front, read_behind_in_front}
+use Rattle.strict.proofs.PartLemmas.{read_some, read_in_front}
 use Rattle.strict.proofs.FieldLemmas.{field_type, field_requirement, run_at, first_of, whole_of}
 use Rattle.strict.proofs.FrontLemmas.{IsStandingKnown, front_known}
-use Rattle.strict.proofs.PresentLemmas.{part_of_present, none_spelt_out}
+use Rattle.strict.proofs.PresentLemmas.{part_of_present, present_in_front, none_spelt_out}
 use Rattle.strict.proofs.ComponentLemmas.{ends_or_begins}
 use Rattle.strict.proofs.SequenceLemmas.{absent_read, stands_read, present_first, none_read, component_more, good_components, components_inside, all_read, ends_behind_all, sequence_read}
 use Rattle.strict.proofs.ItemLemmas.{item_or_end, item_stands, no_items, item_read, none_out_of_order, list_read, items_inside}
 use Rattle.strict.proofs.ConstructedLemmas.{node_of_parts, can_of_parts, constructed_of, inside_of, constructed_read}
-use Rattle.strict.proofs.ChosenLemmas.{tag_of_part, choice_of_part, this_at, none_there, good_at, chosen_read}
+use Rattle.strict.proofs.ChosenLemmas.{tag_of_part, choice_of_part, this_at, none_there, good_at, place_chosen, chosen_read}
 use Rattle.strict.proofs.AloneLemmas.{alone_inside, ends_alone, explicit_read, part_alone}
 use Rattle.strict.proofs.EndingLemmas.{fewer_behind, begun_short, item_behind, begun_constructed, begun_around, begun_chosen}
 use Rattle.strict.proofs.+reading.Goals as goal
@@ -85,11 +86,11 @@ items::read_items-returns-then-is_out_of_order-clause-refused t c = refused_for_
     let at = c.loop-list.at in
     let before = c.loop-list.before in
     let used = c.in_ok-used.used in
-    let v = c.in-Some.value in
-    let read : IsRead rule type (room - at) (drop at octets) (Some v) used = subst₂ (λ x s. IsRead rule type (room - at) x s used) (take_rest octets at) c.in-Some.is c.in_ok-used.ensures.value in
+    let item = c.in_ok-used.ensures.value in
+    let read = subst (λ x. IsRead rule type (room - at) x item.0 used) (take_rest octets at) item.2 in
     let size : (at + used) - at ≡ used = omega arith in
     let told = subst (λ n. c.is_out_of_order.result ≡ true → (c.args.ordered ≡ true) × (is_lt (slice_cmp nat_cmp (take n (drop at octets)) (between octets before at)) ≡ true)) size c.is_out_of_order.ensures.0 c.if-is_out_of_order.true in
-    none_out_of_order rule type c.args.ordered d room octets more (new_items c.loop-list.list) v before at used c.requires.good c.loop-list.invariant read told.0 told.1 h)
+    none_out_of_order rule type c.args.ordered d room octets more (new_items c.loop-list.list) item.0 before at used c.requires.good c.loop-list.invariant read told.0 told.1 h)
 
 pub items::read_items-loop-list-smaller : goal.items::read_items-loop-list-smaller
 items::read_items-loop-list-smaller t c =
@@ -98,8 +99,9 @@ items::read_items-loop-list-smaller t c =
     let type = ty_view c.args.inner.now in
     let room = c.args.inside.now.room in
     let at = c.loop-list.at in
-    let read = subst (λ x. IsRead rule type (room - at) x c.read_one.new.slot c.in_ok-used.used) (take_rest octets at) c.in_ok-used.ensures.value in
-    let some = read_some rule type (room - at) (drop at octets) c.read_one.new.slot c.in_ok-used.used c.requires.good read in
+    let item = c.in_ok-used.ensures.value in
+    let read = subst (λ x. IsRead rule type (room - at) x item.0 c.in_ok-used.used) (take_rest octets at) item.2 in
+    let some = read_some rule type (room - at) (drop at octets) item.0 c.in_ok-used.used c.requires.good read in
     omega (arith, some, read.0, length-drop at octets, c.loop-list.invariant.there)
 
 pub items::read_items-loop-list-preserved : goal.items::read_items-loop-list-preserved
@@ -112,12 +114,12 @@ items::read_items-loop-list-preserved t c =
     let at = c.loop-list.at in
     let before = c.loop-list.before in
     let used = c.in_ok-used.used in
-    let v = c.in-Some.value in
-    let read : IsRead rule type (room - at) (drop at octets) (Some v) used = subst₂ (λ x s. IsRead rule type (room - at) x s used) (take_rest octets at) c.in-Some.is c.in_ok-used.ensures.value in
+    let item = c.in_ok-used.ensures.value in
+    let read = subst (λ x. IsRead rule type (room - at) x item.0 used) (take_rest octets at) item.2 in
     let size : (at + used) - at ≡ used = omega arith in
     let told = subst (λ n. c.is_out_of_order.result ≡ false → c.args.ordered ≡ true → is_lt (slice_cmp nat_cmp (take n (drop at octets)) (between octets before at)) ≡ false) size c.is_out_of_order.ensures.1 c.if-is_out_of_order.false in
-    let more = item_read rule type c.args.ordered d room octets (new_items c.loop-list.list) v before at used c.requires.good c.loop-list.invariant read told in
-    subst (λ l. AreItemsRead rule type c.args.ordered d room octets l at (at + used)) (sym (c.put.ensures.put (search rules) ∙ ap (λ l. l ++ (v ∷ [])) c.take_old-item.ensures)) more
+    let more = item_read rule type c.args.ordered d room octets (new_items c.loop-list.list) item.0 before at used c.requires.good c.loop-list.invariant read told in
+    subst (λ l. AreItemsRead rule type c.args.ordered d room octets l at (at + used)) (sym item.1) more
 
 pub items::read_items-returns-clause-value : goal.items::read_items-returns-clause-value
 items::read_items-returns-clause-value t c = λ tag.
@@ -164,29 +166,36 @@ parts::read_chosen-read_one-requires t c =
     let good = subst IsGoodType (alternative_type a) (good_at xs c.in-Some.which a bound is c.requires.good) in
     (search (rules, node.the_lemmas, alternative.the_lemmas, bound, is), (good, c.requires.room))
 
-pub parts::read_chosen-returns-in_err-used-clause-refused : goal.parts::read_chosen-returns-in_err-used-clause-refused
-parts::read_chosen-returns-in_err-used-clause-refused t c =
+pub parts::read_chosen-returns-clause-refused : goal.parts::read_chosen-returns-clause-refused
+parts::read_chosen-returns-clause-refused t c =
     let octets = c.args.octets.now in
     let rule = rule_of c.args.rule in
     let xs = c.args.alternatives.now in
     let room = c.args.room in
     let which = c.in-Some.which in
+    let a = c.in-Some.alternative.now in
     let found = c.in-Some.ensures in
-    refused_through c.from_residual-in_err-used.result c.from_residual-in_err-used.ensures.1
-    (refused_by c.in_err-used.ensures.refused
-    (λ more h. this_at rule xs which c.in-Some.alternative.now room octets more c.in_ok-tag.tag c.in_ok-tag.field-0-1 c.in_ok-tag.field-0-2 found.0 found.1 c.requires.good.tags.0 c.in_ok-tag.ensures.value found.2 (choice_of_part rule (map alternative_view xs) room (octets ++ more) h))
-    (λ k. begun_chosen c.args.rule xs which c.in-Some.alternative.now room octets found.0 found.1 k))
+    IfErr-map c.read_one.result (RefusesPart c.args.rule (ty_view a.ty) room octets) (RefusesPart c.args.rule (Shape.choice (alternatives_view xs)) room octets)
+    (λ refusal h. refused_by h
+    (λ more k. this_at rule xs which a room octets more c.in_ok-tag.tag c.in_ok-tag.field-0-1 c.in_ok-tag.field-0-2 found.0 found.1 c.requires.good.tags.0 c.in_ok-tag.ensures.value found.2 (choice_of_part rule (map alternative_view xs) room (octets ++ more) k))
+    (λ k. begun_chosen c.args.rule xs which a room octets found.0 found.1 k))
+    c.read_one.ensures.refused
 
-pub parts::read_chosen-returns-then-put_chosen-clause-value : goal.parts::read_chosen-returns-then-put_chosen-clause-value
-parts::read_chosen-returns-then-put_chosen-clause-value t c =
+pub parts::read_chosen-returns-clause-value : goal.parts::read_chosen-returns-clause-value
+unfolding value.out-Value denote.Hole.Carrier.out
+parts::read_chosen-returns-clause-value t c =
     let octets = c.args.octets.now in
     let rule = rule_of c.args.rule in
     let xs = c.args.alternatives.now in
     let room = c.args.room in
+    let which = c.in-Some.which in
     let a = c.in-Some.alternative.now in
-    let v = c.in-Some-chosen.value in
-    let one = subst (λ s. IsRead rule (ty_view a.ty) room octets s c.in_ok-used.used) c.in-Some-chosen.is c.in_ok-used.ensures.value in
-    chosen_read rule xs c.in-Some.which a room octets v c.put_chosen.new.slot c.in_ok-used.used c.in-Some.ensures.0 c.in-Some.ensures.1 (c.put_chosen.ensures c.if-put_chosen.true) one
+    let found = c.in-Some.ensures in
+    let v = c.read_one.new.value in
+    let place : c.in-Chosen.field-0 ≡ which = place_chosen which c.in-Chosen.field-0 c.in-Chosen.boxed c.choose.new.value (c.choose.ensures c.if-not-choose.false) c.in-Chosen.is in
+    IfOk-map c.read_one.result (λ used. IsRead rule (ty_view a.ty) room octets v used) (λ used. IsRead rule (Shape.choice (alternatives_view xs)) room octets _ used)
+    (λ used h. chosen_read rule xs which a room octets v _ used found.0 found.1 (search (rules, value.the_lemmas) ∙ ap (λ n. Val.chosen n (value_view v)) place) h)
+    c.read_one.ensures.value
 
 pub parts::read_alone-returns-in_err-front_tag-clause-refused : goal.parts::read_alone-returns-in_err-front_tag-clause-refused
 parts::read_alone-returns-in_err-front_tag-clause-refused t c =
@@ -198,7 +207,7 @@ parts::read_alone-returns-in_err-front_tag-clause-refused t c =
     let used = c.in_ok-used.used in
     let read = c.in_ok-used.ensures.value in
     refused_through c.from_residual-in_err-front_tag.result c.from_residual-in_err-front_tag.ensures.1
-    (refused_behind used c.in_err-front_tag.ensures.refused (λ more h. inl (ends_alone rule type d room octets more c.read_one.new.slot used c.requires.good read h)) (λ k. fewer_behind d room used octets read.1 read.0 k))
+    (refused_behind used c.in_err-front_tag.ensures.refused (λ more h. inl (ends_alone rule type d room octets more c.read_one.new.value used c.requires.good read h)) (λ k. fewer_behind d room used octets read.1 read.0 k))
 
 pub parts::read_alone-returns-in-Some-clause-refused : goal.parts::read_alone-returns-in-Some-clause-refused
 parts::read_alone-returns-in-Some-clause-refused t c = refused_for_good (tt, tt) (λ more h.
@@ -210,7 +219,7 @@ parts::read_alone-returns-in-Some-clause-refused t c = refused_for_good (tt, tt)
     let used = c.in_ok-used.used in
     let inner = take (length octets - used) (drop used octets) in
     let front : IsFront (Some c.in-Some.field-0) d (room - used) inner = subst (λ f. IsFront f d (room - used) inner) c.in-Some.is c.in_ok-front_tag.ensures.value in
-    front.1 more (subst (λ x. EndsHere d (room - used) (x ++ more)) (sym (take_rest octets used)) (ends_alone rule type d room octets more c.read_one.new.slot used c.requires.good c.in_ok-used.ensures.value h)))
+    front.1 more (subst (λ x. EndsHere d (room - used) (x ++ more)) (sym (take_rest octets used)) (ends_alone rule type d room octets more c.read_one.new.value used c.requires.good c.in_ok-used.ensures.value h)))
 
 pub components::read_components-loop-place-init : goal.components::read_components-loop-place-init
 components::read_components-loop-place-init t c =
@@ -268,8 +277,8 @@ component_at t c =
           let slot = c.read_shortly_present.new.slot in
           let used = w.in-Some.used in
           let present = w.in-Some.ensures c.args.rule in
-          let read = read_behind_in_front rule view.type room n at octets slot used (omega (arith, c.min.ensures, so_far.there, so_far.within)) (omega (arith, c.min.ensures)) (omega (arith, c.min.ensures)) present.0 in
-          (slot, ap (λ v. v.items) w.slots-is, subst (AreComponentsRead rule (view ∷ []) others d (room - at) (drop at octets) (slot ∷ [])) (sym w.at-is) (stands_read c.args.rule view others d (room - at) (drop at octets) slot used run.good.type run.runs run.goods (read, present.1)))
+          let read = present_in_front rule view room n at octets slot used (omega (arith, c.min.ensures, so_far.there, so_far.within)) (omega (arith, c.min.ensures)) (omega (arith, c.min.ensures)) present in
+          (slot, ap (λ v. v.items) w.slots-is, subst (AreComponentsRead rule (view ∷ []) others d (room - at) (drop at octets) (slot ∷ [])) (sym w.at-is) (stands_read c.args.rule view others d (room - at) (drop at octets) slot used run.good.type run.runs run.goods read))
       | components::read_components-in-None+in_ok-at-in-None w ↦
           let slot = w.read_component.new.slot in
           let read = subst (λ x. AreComponentsRead rule (view ∷ []) others d (room - at) x (slot ∷ []) w.in_ok-at-in-None.field-0) (take_rest octets at) (w.in_ok-at-in-None.ensures.value others run.runs run.goods) in
@@ -388,7 +397,7 @@ pub parts::read_one-returns-in-Some-read_shortly-clause-value : goal.parts::read
 parts::read_one-returns-in-Some-read_shortly-clause-value t c =
     let octets = c.args.octets.now in
     let n = c.min.result in
-    read_in_front (rule_of c.args.rule) (ty_view c.args.ty.now) c.args.room n octets c.read_shortly.new.slot c.in-Some-read_shortly.used (omega (arith, c.min.ensures)) (omega (arith, c.min.ensures)) (c.in-Some-read_shortly.ensures c.args.rule)
+    read_in_front (rule_of c.args.rule) (ty_view c.args.ty.now) c.args.room n octets c.read_shortly.new.value c.in-Some-read_shortly.used (omega (arith, c.min.ensures)) (omega (arith, c.min.ensures)) (c.in-Some-read_shortly.ensures c.args.rule)
 
 pub components::read_component-returns-in-Ok-clause-value : goal.components::read_component-returns-in-Ok-clause-value
 components::read_component-returns-in-Ok-clause-value t c = λ others runs goods.
@@ -403,19 +412,19 @@ components::read_present-returns-in_err-used-clause-refused t c =
     refused_through c.from_residual.result c.from_residual.ensures.1
     (refused_by c.in_err-used.ensures.refused (λ more h. subst (λ t. HasPart rule t room (octets ++ more)) (field_type f) (part_of_present rule (field_view f) room (octets ++ more) h)) (λ k. begun_short c.args.rule (ty_view f.ty) room octets k))
 
-pub components::read_present-returns-then-is_spelt_out-clause-refused : goal.components::read_present-returns-then-is_spelt_out-clause-refused
-components::read_present-returns-then-is_spelt_out-clause-refused t c = refused_for_good (tt, tt) (λ more h.
+pub components::read_present-returns-then-is_default-clause-refused : goal.components::read_present-returns-then-is_default-clause-refused
+components::read_present-returns-then-is_default-clause-refused t c = refused_for_good (tt, tt) (λ more h.
     let octets = c.args.octets.now in
     let rule = rule_of c.args.rule in
     let f = c.args.field.now in
     let view = field_view f in
     let room = c.args.room in
     let same : ty_view f.ty ≡ view.type = sym (field_type f) in
-    let slot = c.read_one.new.slot in
-    let on : c.is_spelt_out.result ≡ true = search rules in
-    let spelt = subst (λ r. MatchOption slot (Unit {0}) (λ v. IsSlotOf r (value_view v) None)) (sym (field_requirement f)) (c.is_spelt_out.ensures.default on) in
-    let read = subst (λ t. IsRead rule t room octets slot c.in_ok-used.used) same c.in_ok-used.ensures.value in
-    none_spelt_out rule view room octets more slot c.in_ok-used.used c.requires.good read spelt h)
+    let v = c.read_one.new.value in
+    let on : c.is_default.result ≡ true = search rules in
+    let spelt = subst (λ r. IsSlotOf r (value_view v) None) (sym (field_requirement f)) (c.is_default.ensures.default on) in
+    let read = subst (λ t. IsRead rule t room octets v c.in_ok-used.used) same c.in_ok-used.ensures.value in
+    none_spelt_out rule view room octets more v c.in_ok-used.used c.requires.good read spelt h)
 
 pub members::read_members-loop-set_components-init : goal.members::read_members-loop-set_components-init
 members::read_members-loop-set_components-init = set.members::read_members-loop-set_components-init
@@ -493,7 +502,7 @@ parts::read_parts-returns-in-Ok-clause-value t c =
     let type = ty_view c.args.ty.now in
     let inside = c.in_ok-inside.inside in
     let used = c.in-Ok.used in
-    let slot = c.read_inside.new.slot in
+    let slot = c.read_inside.new.value in
     let read = subst (λ x. IsInsideRead rule type inside.definite inside.room x slot used) (take_rest octets inside.start) c.in-Ok.ensures.value in
     constructed_read rule type c.in-Some.tag c.args.room octets inside slot used c.close.result c.in-Some.ensures.value c.in_ok-inside.ensures.value read c.close.ensures
 
@@ -519,8 +528,8 @@ parts::read_inside-returns-in-Sequence-clause-value t c =
     let d = c.args.inside.now.definite in
     let room = c.args.inside.now.room in
     let same : ty_view c.args.ty.now ≡ Shape.sequence c.in-Sequence.field-0 (components_view c.deref.result.now) = ap ty_view c.in-Sequence.is ∙ (ty-Sequence c.in-Sequence.field-0 c.in-Sequence.fields ∙ ap (λ l. Shape.sequence c.in-Sequence.field-0 (components_view l)) (sym c.deref.ensures.value)) in
-    IfOk-map c.read_components.result _ (λ used. IsInsideRead (rule_of rule) (ty_view c.args.ty.now) d room octets c.read_components.new.slot used)
-    (λ used h. subst (λ shape. IsInsideRead (rule_of rule) shape d room octets c.read_components.new.slot used) (sym same) (h c.in-Sequence.field-0)) c.read_components.ensures.value
+    IfOk-map c.read_components.result _ (λ used. IsInsideRead (rule_of rule) (ty_view c.args.ty.now) d room octets c.read_components.new.value used)
+    (λ used h. subst (λ shape. IsInsideRead (rule_of rule) shape d room octets c.read_components.new.value used) (sym same) (h c.in-Sequence.field-0)) c.read_components.ensures.value
 
 pub parts::read_inside-returns-in-Sequence-clause-refused : goal.parts::read_inside-returns-in-Sequence-clause-refused
 parts::read_inside-returns-in-Sequence-clause-refused t c =
@@ -539,8 +548,8 @@ parts::read_inside-returns-in-Set-clause-value t c =
     let d = c.args.inside.now.definite in
     let room = c.args.inside.now.room in
     let same : ty_view c.args.ty.now ≡ Shape.set c.in-Set.field-0 (components_view c.deref-in-Set.result.now) = ap ty_view c.in-Set.is ∙ (ty-Set c.in-Set.field-0 c.in-Set.fields ∙ ap (λ l. Shape.set c.in-Set.field-0 (components_view l)) (sym c.deref-in-Set.ensures.value)) in
-    IfOk-map c.read_members.result _ (λ used. IsInsideRead (rule_of rule) (ty_view c.args.ty.now) d room octets c.read_members.new.slot used)
-    (λ used h. subst (λ shape. IsInsideRead (rule_of rule) shape d room octets c.read_members.new.slot used) (sym same) (h c.in-Set.field-0)) c.read_members.ensures.value
+    IfOk-map c.read_members.result _ (λ used. IsInsideRead (rule_of rule) (ty_view c.args.ty.now) d room octets c.read_members.new.value used)
+    (λ used h. subst (λ shape. IsInsideRead (rule_of rule) shape d room octets c.read_members.new.value used) (sym same) (h c.in-Set.field-0)) c.read_members.ensures.value
 
 pub parts::read_inside-returns-in-Set-clause-refused : goal.parts::read_inside-returns-in-Set-clause-refused
 parts::read_inside-returns-in-Set-clause-refused t c =
@@ -559,8 +568,8 @@ parts::read_inside-returns-in-SequenceOf-clause-value t c =
     let d = c.args.inside.now.definite in
     let room = c.args.inside.now.room in
     let same : ty_view c.args.ty.now ≡ Shape.sequence_of c.in-SequenceOf.field-0 (ty_view c.deref-in-SequenceOf.result.now) = ap ty_view c.in-SequenceOf.is ∙ (ty-SequenceOf c.in-SequenceOf.field-0 c.in-SequenceOf.inner ∙ ap (λ l. Shape.sequence_of c.in-SequenceOf.field-0 (ty_view l)) (sym c.deref-in-SequenceOf.ensures)) in
-    IfOk-map c.read_items.result _ (λ used. IsInsideRead (rule_of rule) (ty_view c.args.ty.now) d room octets c.read_items.new.slot used)
-    (λ used h. subst (λ shape. IsInsideRead (rule_of rule) shape d room octets c.read_items.new.slot used) (sym same) (h c.in-SequenceOf.field-0)) c.read_items.ensures.value
+    IfOk-map c.read_items.result _ (λ used. IsInsideRead (rule_of rule) (ty_view c.args.ty.now) d room octets c.read_items.new.value used)
+    (λ used h. subst (λ shape. IsInsideRead (rule_of rule) shape d room octets c.read_items.new.value used) (sym same) (h c.in-SequenceOf.field-0)) c.read_items.ensures.value
 
 pub parts::read_inside-returns-in-SequenceOf-clause-refused : goal.parts::read_inside-returns-in-SequenceOf-clause-refused
 parts::read_inside-returns-in-SequenceOf-clause-refused t c =
@@ -579,8 +588,8 @@ parts::read_inside-returns-in-SetOf-clause-value t c =
     let d = c.args.inside.now.definite in
     let room = c.args.inside.now.room in
     let same : ty_view c.args.ty.now ≡ Shape.set_of c.in-SetOf.field-0 (ty_view c.deref-in-SetOf.result.now) = ap ty_view c.in-SetOf.is ∙ (ty-SetOf c.in-SetOf.field-0 c.in-SetOf.inner ∙ ap (λ l. Shape.set_of c.in-SetOf.field-0 (ty_view l)) (sym c.deref-in-SetOf.ensures)) in
-    IfOk-map c.read_items-in-SetOf.result _ (λ used. IsInsideRead (rule_of rule) (ty_view c.args.ty.now) d room octets c.read_items-in-SetOf.new.slot used)
-    (λ used h. subst (λ shape. IsInsideRead (rule_of rule) shape d room octets c.read_items-in-SetOf.new.slot used) (sym same) (h c.in-SetOf.field-0)) c.read_items-in-SetOf.ensures.value
+    IfOk-map c.read_items-in-SetOf.result _ (λ used. IsInsideRead (rule_of rule) (ty_view c.args.ty.now) d room octets c.read_items-in-SetOf.new.value used)
+    (λ used h. subst (λ shape. IsInsideRead (rule_of rule) shape d room octets c.read_items-in-SetOf.new.value used) (sym same) (h c.in-SetOf.field-0)) c.read_items-in-SetOf.ensures.value
 
 pub parts::read_inside-returns-in-SetOf-clause-refused : goal.parts::read_inside-returns-in-SetOf-clause-refused
 parts::read_inside-returns-in-SetOf-clause-refused t c =
@@ -599,8 +608,8 @@ parts::read_inside-returns-in-Explicit-clause-value t c =
     let d = c.args.inside.now.definite in
     let room = c.args.inside.now.room in
     let same : ty_view c.args.ty.now ≡ Shape.explicit c.in-Explicit.field-0 (ty_view c.deref-in-Explicit.result.now) = ap ty_view c.in-Explicit.is ∙ (ty-Explicit c.in-Explicit.field-0 c.in-Explicit.inner ∙ ap (λ l. Shape.explicit c.in-Explicit.field-0 (ty_view l)) (sym c.deref-in-Explicit.ensures)) in
-    IfOk-map c.read_alone.result _ (λ used. IsInsideRead (rule_of rule) (ty_view c.args.ty.now) d room octets c.read_alone.new.slot used)
-    (λ used h. subst (λ shape. IsInsideRead (rule_of rule) shape d room octets c.read_alone.new.slot used) (sym same) (explicit_read (rule_of rule) c.in-Explicit.field-0 (ty_view c.deref-in-Explicit.result.now) d room octets c.read_alone.new.slot used h.0 h.1)) c.read_alone.ensures.value
+    IfOk-map c.read_alone.result _ (λ used. IsInsideRead (rule_of rule) (ty_view c.args.ty.now) d room octets c.read_alone.new.value used)
+    (λ used h. subst (λ shape. IsInsideRead (rule_of rule) shape d room octets c.read_alone.new.value used) (sym same) (explicit_read (rule_of rule) c.in-Explicit.field-0 (ty_view c.deref-in-Explicit.result.now) d room octets c.read_alone.new.value used h.0 h.1)) c.read_alone.ensures.value
 
 pub parts::read_inside-returns-in-Explicit-clause-refused : goal.parts::read_inside-returns-in-Explicit-clause-refused
 parts::read_inside-returns-in-Explicit-clause-refused t c =

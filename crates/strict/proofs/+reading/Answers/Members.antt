@@ -13,7 +13,7 @@ use Rattle.strict.specs.Head.{EndsHere}
 use Rattle.strict.specs.Components.{IsFront, IsPresentRead}
 use Rattle.strict.specs.Members.{IsOrderTagOf}
 use Rattle.strict.proofs.BarsLemmas.{due_strictly, refused_for_good, refused_behind, refused_through}
-use Rattle.strict.proofs.PartLemmas.{read_some}
+use Rattle.strict.proofs.PresentLemmas.{present_some}
 use Rattle.strict.proofs.FieldLemmas.{field_type}
 use Rattle.strict.proofs.DueLemmas.{found_at, found_below, members_begin, members_filled, none_goes_on, present_due, none_before, component_all}
 use Rattle.strict.proofs.SetLemmas.{no_members, due_there, member_more, set_read}
@@ -148,8 +148,8 @@ members::read_members-loop-set_components-smaller t c =
     let good = component_all IsGoodComponent cs place view found.here c.requires.good in
     let used = c.in_ok-at.field-0 in
     let one = subst (λ x. IsPresentRead rule view (room - at) x c.read_present.new.slot used) (take_rest octets at) c.in_ok-at.ensures.value in
-    let some = read_some rule view.type (room - at) (drop at octets) c.read_present.new.slot used good.type one.0 in
-    omega (arith, some, one.0.0, length-drop at octets, read.there)
+    let some = present_some rule view (room - at) (drop at octets) c.read_present.new.slot used good.type one in
+    omega (arith, some.0, some.1, length-drop at octets, read.there)
 
 pub members::read_members-loop-set_components-preserved : goal.members::read_members-loop-set_components-preserved
 members::read_members-loop-set_components-preserved t c =

@@ -15,4 +15,4 @@ returns-then-fill_canonical c = λ rule.
     let h = c.in_ok-stop.ensures in
     let own : IsPlace c.args.tag room octets 2 (2 + h.contents) = short_place c.args.tag room h.contents octets (omega (arith, h.there, h.counted)) h.tagged h.low h.sized (omega (arith, h.fits, h.counted)) (omega (arith, h.there, h.counted)) in
     let place : IsPlace (tag_of type) room octets 2 stop = subst (λ n. IsPlace (tag_of type) room octets 2 n) (sym h.counted) (subst (λ t. IsPlace t room octets 2 (2 + h.contents)) (sym c.requires.tag) own) in
-    filled_read rule type room stop octets c.fill_canonical.new.slot c.requires.leaf place (omega (arith, h.counted, h.low)) (c.fill_canonical.ensures c.if-fill_canonical.true)
+    filled_read rule type room stop octets c.fill_canonical.new.value c.requires.leaf place (omega (arith, h.counted, h.low)) (c.fill_canonical.ensures c.if-fill_canonical.true)

@@ -90,4 +90,4 @@ returns-in_err-value-clause-refused c =
 
 pub returns-clause-value : goal.returns-clause-value
 returns-clause-value c =
-    leaf_read c.args.rule (ty_view c.args.ty.now) c.args.room c.in_ok-start.start c.in_ok-start.stop c.args.octets.now c.in_ok-value.value c.requires.leaf c.in_ok-start.ensures.place c.in_ok-start.ensures.whole c.in_ok-value.ensures.value.0 c.in_ok-value.ensures.value.1
+    leaf_read c.args.rule (ty_view c.args.ty.now) c.args.room c.in_ok-start.start c.in_ok-start.stop c.args.octets.now c.in_ok-value.field-0 c.requires.leaf c.in_ok-start.ensures.place c.in_ok-start.ensures.whole c.in_ok-value.ensures.value.0 c.in_ok-value.ensures.value.1

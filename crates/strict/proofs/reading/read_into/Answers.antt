@@ -10,25 +10,25 @@ use Rattle.strict.specs.Canonical.{rule_of}
 use Rattle.strict.specs.Reading.{IsRead, HasPart, RefusesPart}
 use Rattle.strict.proofs.BarsLemmas.{bars_cut, bars_never}
 use Rattle.strict.proofs.FrontLemmas.{canonical_of}
-use Rattle.strict.proofs.StrictLemmas.{part_of_front, slot_accepted, only_that_in}
+use Rattle.strict.proofs.StrictLemmas.{part_of_front, accepted, only_that}
 use Rattle.strict.proofs.reading.read_into.Goals as goal
 
 pub returns-clause-value : goal.returns-clause-value
 returns-clause-value c = IfOk-weaker c.read_one.result _ _
     (λ used read.
     let rule = rule_of c.args.rule in
-    let slot = c.read_one.new.slot in
+    let v = c.read_one.new.value in
     let octets = c.args.octets.now in
-    slot_accepted rule (ty_view c.args.ty.now) slot octets used c.as_type.ensures.well_formed (canonical_of c.args.rule) (subst (λ t. IsRead rule (ty_view t) 1_048_576 octets slot used) c.as_type.ensures.value read))
+    accepted rule (ty_view c.args.ty.now) v octets used c.as_type.ensures.well_formed (canonical_of c.args.rule) (subst (λ t. IsRead rule (ty_view t) 1_048_576 octets v used) c.as_type.ensures.value read))
     c.read_one.ensures.value
 
 pub returns-clause-only : goal.returns-clause-only
 returns-clause-only c = IfOk-weaker c.read_one.result _ _
     (λ used read.
     let rule = rule_of c.args.rule in
-    let slot = c.read_one.new.slot in
+    let v = c.read_one.new.value in
     let octets = c.args.octets.now in
-    only_that_in rule (ty_view c.args.ty.now) slot octets used c.as_type.ensures.well_formed (subst (λ t. IsRead rule (ty_view t) 1_048_576 octets slot used) c.as_type.ensures.value read))
+    λ w n there h. only_that rule (ty_view c.args.ty.now) v w octets used n c.as_type.ensures.well_formed (subst (λ t. IsRead rule (ty_view t) 1_048_576 octets v used) c.as_type.ensures.value read) there h)
     c.read_one.ensures.value
 
 pub returns-clause-truncated : goal.returns-clause-truncated

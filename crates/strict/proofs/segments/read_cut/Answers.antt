@@ -87,4 +87,4 @@ returns-clause-value c =
     let all : take (length octets - start) (drop start octets) ≡ drop start octets = take_rest octets start in
     let opened : IsOpened cer (tag_of type) room octets inside = subst (λ t. IsOpened cer t room octets inside) (sym c.requires.tag) c.in_ok-inside.ensures.value in
     let known = subst (λ x. AreSegmentsKnown kind inside.room x (string_of kind joined) used) all c.in_ok-used.ensures.value in
-    cut_read kind type room octets inside joined c.in_ok-value.value used c.close.result c.requires.string opened c.in_ok-inside.ensures.form known (c.is_long.ensures.long c.if-not-is_long.false) c.in_ok-value.ensures.value.0 c.in_ok-value.ensures.value.1 c.close.ensures
+    cut_read kind type room octets inside joined c.in_ok-value.field-0 used c.close.result c.requires.string opened c.in_ok-inside.ensures.form known (c.is_long.ensures.long c.if-not-is_long.false) c.in_ok-value.ensures.value.0 c.in_ok-value.ensures.value.1 c.close.ensures
