@@ -63,7 +63,7 @@ fn fill_truth(contents: &[u8], value: &mut Value) -> bool
     let Ok(truth) = read_truth(contents) else {
         return false;
     };
-    *value = truth;
+    *value = Value::Boolean(truth);
     true
 }
 

@@ -3,13 +3,13 @@
 ghost use Rattle.std.specs.Prelude.{◌≡◌, ◌↔◌, Bool, List, IsTrue, IsErr, IfOk, IfErr};
 ghost use Rattle.octets.specs.Rule.{ber, der};
 ghost use Rattle.primitives.specs.Bits.{IsBits};
+ghost use Rattle.primitives.specs.Boolean.{IsBoolean};
 ghost use Rattle.types.specs.Conforms.{Conforms};
 ghost use Rattle.types.specs.Leaf.{IsLeaf};
 ghost use Rattle.types.specs.Refusal.{IsFinal};
-ghost use Rattle.types.specs.Shape.{Val};
 ghost use Rattle.types.specs.View.{ty_view, value_view};
 ghost use Rattle.encoding_parts.specs.Contents.{HoldsNoValue, HoldsValue};
-ghost use Rattle.strict.specs.Leaf.{IsBitString, IsBooleanOf, IsOfSpelling, bits_view};
+ghost use Rattle.strict.specs.Leaf.{IsBitString, IsOfSpelling, bits_view};
 
 use encoding_parts::read_contents;
 use primitives::{Bits, Fault, read_bits};
@@ -27,21 +27,21 @@ pub fn read_value(alloc: Global, ty: &Ty, contents: &[u8]) -> Result<Value, Refu
     ensures numbers { IfErr result IsOfSpelling }
 {
     match ty {
-        Ty::Boolean(_) => read_truth(contents),
+        Ty::Boolean(_) => Ok(Value::Boolean(read_truth(contents)?)),
         Ty::Bits(_) | Ty::NamedBits(_, _) => read_bit_string(alloc, ty, contents),
         _ => read_contents(alloc, ty, contents),
     }
 }
 
 // The truth value: TRUE is FF (X.690 11.1).
-pub fn read_truth(contents: &[u8]) -> Result<Value, Refusal>
-    ensures value { IfOk result (λ value. IsBooleanOf (value_view value) contents.now) }
-    ensures none { IsErr result → (v : Val) → ¬ IsBooleanOf v contents.now }
+pub fn read_truth(contents: &[u8]) -> Result<bool, Refusal>
+    ensures value { IfOk result (λ truth. IsBoolean der truth contents.now) }
+    ensures none { IsErr result → (truth : Bool) → ¬ IsBoolean der truth contents.now }
     ensures numbers { IfErr result IsOfSpelling }
 {
     match contents {
-        [0x00] => Ok(Value::Boolean(false)),
-        [0xFF] => Ok(Value::Boolean(true)),
+        [0x00] => Ok(false),
+        [0xFF] => Ok(true),
         [_] => Err(Refusal::NotCanonical),
         _ => Err(Refusal::Contents),
     }
