@@ -104,7 +104,8 @@ fn shortest(size: usize) -> usize
     }
 }
 
-// What stands inside the constructed encoding at the front, which has the tag and at most `room` octets.
+// What stands inside the constructed encoding at the front, which has the tag and at most `room` octets. What the call
+// for long ones returns is handed on as a copy: else what mostly comes would go through memory too.
 #[inline(always)]
 pub fn opened(rule: Canonical, tag: Tag, room: usize, octets: &[u8]) -> Result<Inside, Refusal>
     requires tag { tag.number ≤ MAX_TAG_NUMBER }
@@ -112,10 +113,11 @@ pub fn opened(rule: Canonical, tag: Tag, room: usize, octets: &[u8]) -> Result<I
     ensures value { IfOk result (λ inside. IsOpened (rule_of rule) tag room octets.now inside) }
     ensures refused { IfErr result (RefusesStrictly (HasConstructed (rule_of rule) tag room) (IsConstructedCut rule tag room) octets.now) }
 {
-    match short_opened(rule, tag, room, octets) {
-        Some(inside) => Ok(inside),
-        None => long_opened(rule, tag, room, octets),
+    if let Some(inside) = short_opened(rule, tag, room, octets) {
+        return Ok(inside);
     }
+    let inside = long_opened(rule, tag, room, octets)?;
+    Ok(inside)
 }
 
 // What stands inside it, however many octets stand before that.
