@@ -98,17 +98,13 @@ impl Batch {
         let mut slot = None;
         let mut rest = piece;
         while !rest.is_empty() {
-            let is_whole = reader.finish().is_ok();
+            let is_copied = self.copies && reader.finish().is_ok();
             let used = reader.feed(rest, &mut slot)?;
             let Some(value) = &slot else {
                 return Ok(());
             };
             let (front, behind) = rest.split_at(used);
-            let encoding = if self.copies && is_whole {
-                Some(front)
-            } else {
-                None
-            };
+            let encoding = if is_copied { Some(front) } else { None };
             self.add(writer, value, encoding)?;
             rest = behind;
         }

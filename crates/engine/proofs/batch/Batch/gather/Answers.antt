@@ -1,4 +1,5 @@
 use Rattle.std.proofs.Common.{rules, ◌≡◌, ◌++◌, [], length, take, drop, refl, sym, subst, ap, ◌∙◌, arith, length-drop}
+use Rattle.std.proofs.lemmas.Bool.{true≢false}
 use Rattle.std.proofs.lemmas.List.{length_push}
 use Rattle.types.specs.View.{value_view}
 use Rattle.types.proofs.EncodedLemmas.{encoded_conforms}
@@ -8,7 +9,7 @@ use Rattle.types.specs.Encoding.{IsAccepted}
 use Rattle.octets.proofs.ResultLemmas.{IfErr-from}
 use Rattle.engine.proofs.FeedingLemmas.{none_begun, cut_piece, finished_none, gathered_all, feed_refused, add_refused}
 use Rattle.engine.proofs.batch.Batch.gather.Goals as goal
-use Rattle.engine.proofs.batch.Batch.gather.Goals.{then-self+then-is_whole, else-self}
+use Rattle.engine.proofs.batch.Batch.gather.Goals.{then-is_copied, else-is_copied, then-self, else-self}
 
 pub loop-rest-init : goal.loop-rest-init
 loop-rest-init g c = record {
@@ -33,12 +34,16 @@ add-requires-clause-stands g c =
     let fed = rw c.loop-rest.invariant.same_rule at (rw c.in-Some.is at c.in_ok-used.ensures.fed) in
     let i = c.loop-rest.invariant.gathers c.requires.stands.0 c.requires.stands.1 in
     let accepted = (fed shape i.0 i.1.stands).0.accepted in
-    elim c.if-self.branch [
-      | then-self+then-is_whole w ↦
-          let none = finished_none c.finish.result i.0 (c.finish.ensures shape i.0 i.1.stands) (rw c.is_ok-is_whole.ensures.value at w.if-is_whole.true) in
-          let whole : i.0 ++ take c.in_ok-used.used c.loop-rest.rest.now ≡ c.split_at.result.0.now = ap (λ x. x ++ take c.in_ok-used.used c.loop-rest.rest.now) none ∙ sym c.split_at.ensures.front in
-          rw w.encoding-is (c.requires.copied (rw c.loop-rest.invariant.copies at w.if-self.true) v c.split_at.result.0.now (subst (IsAccepted (read_rule c.args.reader.now) shape v) whole accepted))
-      | else-self w ↦ rw w.encoding-is tt
+    elim c.if-is_copied.branch [
+      | then-is_copied w ↦ elim c.if-self.branch [
+        | then-self x ↦
+            let finished = sym x.is_ok-is_copied.ensures.value ∙ sym x.is_copied-is ∙ w.if-is_copied.true in
+            let none = finished_none x.finish.result i.0 (x.finish.ensures shape i.0 i.1.stands) finished in
+            let whole : i.0 ++ take c.in_ok-used.used c.loop-rest.rest.now ≡ c.split_at.result.0.now = ap (λ x. x ++ take c.in_ok-used.used c.loop-rest.rest.now) none ∙ sym c.split_at.ensures.front in
+            rw w.encoding-is (c.requires.copied (rw c.loop-rest.invariant.copies at x.if-self.true) v c.split_at.result.0.now (subst (IsAccepted (read_rule c.args.reader.now) shape v) whole accepted))
+        | else-self x ↦ absurd (true≢false (sym w.if-is_copied.true ∙ x.is_copied-is ∙ x.if-self.false))
+      ]
+      | else-is_copied w ↦ rw w.encoding-is tt
     ]
 
 pub loop-rest-preserved : goal.loop-rest-preserved
