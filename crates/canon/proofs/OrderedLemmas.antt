@@ -1,7 +1,8 @@
 -- Lemmas on how values are put in order, part by part.
 use Rattle.std.specs.List.{AllByRecursion, AllZip}
-use Rattle.std.proofs.Common.{◌≡◌, ◌⊎◌, inl, inr, ◌+◌, ◌-◌, ◌<◌, ◌≤◌, ℕ, zero, suc, List, [], ◌∷◌, ◌++◌, Option, Some, None, Vec, Global, length, take, drop, get_or, map, refl, sym, ap, ◌∙◌, subst, arith, append_assoc, append-nil, length-append, IsPermutation}
+use Rattle.std.proofs.Common.{◌≡◌, ◌⊎◌, inl, inr, ◌+◌, ◌-◌, ◌<◌, ◌≤◌, ℕ, zero, suc, List, [], ◌∷◌, ◌++◌, Option, Some, None, Vec, Global, length, take, drop, get_or, map, refl, sym, ap, ◌∙◌, subst, arith, append_assoc, append-nil, length-append, All, IsPermutation}
 use Rattle.std.proofs.lemmas.List.{take_more, map-append}
+use Rattle.std.proofs.lemmas.List.Elements.{All-map, All-from_recursion}
 use Rattle.std.proofs.lemmas.List.Sorted.{IsPermutation-refl}
 use Rattle.std.proofs.lemmas.Simd.{map-map}
 use Rattle.octets.specs.Rule.{der}
@@ -22,11 +23,12 @@ use Rattle.types.proofs.ListLemmas.{all_append}
 use Rattle.types.proofs.ViewLemmas.{alternative_is}
 use Rattle.types.proofs.ZipLemmas.{zip_length, zip_map, zip_permutes}
 use Rattle.canon.specs.declared.ordering.Placed.{Placed}
-use Rattle.canon.specs.declared.spans.Span.{Span}
+use Rattle.canon.specs.declared.spans.Keyed.{Keyed}
+use Rattle.canon.specs.Keyed.{HasKey}
 use Rattle.canon.specs.Leaf.{IsLeafOf}
 use Rattle.canon.specs.Ordered.{IsOrdered, IsOrderedAlternative, IsOrderedFrom, AreOrderedFrom, AreItemsOrderedFrom, IsSound}
 use Rattle.canon.specs.Part.{IsPut}
-use Rattle.canon.specs.Span.{part_of}
+use Rattle.canon.specs.Span.{part_of, key_of}
 use Rattle.canon.proofs.AcceptedLemmas.{good_nodes}
 use Rattle.canon.proofs.NodeLemmas.{IsRecordOf}
 use Rattle.canon.proofs.PartLemmas.{part_put}
@@ -159,11 +161,12 @@ item_ordered type xs done i x y l at h g =
     (subst (AllZip (IsOrderedFrom type) (map value_view (take i xs) ++ value_view x ∷ [])) (sym (map-append value_view done (y ∷ [])))
     (zip_push (IsOrderedFrom type) (map value_view (take i xs)) (map value_view done) (value_view x) (value_view y) h g))
 
--- an item in order whose encoding stands in the buffer
+-- an item in order whose encoding stands in the buffer, with its key
 pub record IsPlaced (type : Shape) (buffer : List ℕ) (v : Val) (p : Placed) : Type 0 where
   pub from : IsOrderedFrom type v (value_view p.value)
-  pub encodes : IsEncoding der type (value_view p.value) (part_of buffer p.span)
-  pub within : p.span.start + (p.span.end - p.span.start) ≤ length buffer
+  pub encodes : IsEncoding der type (value_view p.value) (part_of buffer p.keyed.span)
+  pub within : p.keyed.span.start + (p.keyed.span.end - p.keyed.span.start) ≤ length buffer
+  pub key : HasKey buffer p.keyed
 
 take_grown : (xs ys : List ℕ) (n : ℕ) → n ≤ length xs → take n (xs ++ ys) ≡ take n xs
 take_grown xs ys zero h = refl
@@ -176,25 +179,30 @@ part_grown [] ys (suc start) n h = absurd (omega arith)
 part_grown (x ∷ xs) ys (suc start) n h = part_grown xs ys start n (omega arith)
 
 placed_grown : (type : Shape) (old added : List ℕ) (v : Val) (p : Placed) → IsPlaced type old v p → IsPlaced type (old ++ added) v p
-placed_grown type old added v p h = record {
-  from = h.from;
-  encodes = subst (IsEncoding der type (value_view p.value)) (sym (part_grown old added p.span.start (p.span.end - p.span.start) h.within)) h.encodes;
-  within = omega (arith, h.within, length-append old added);
-}
+placed_grown type old added v p h =
+    let span = p.keyed.span in
+    let stays : part_of old span ≡ part_of (old ++ added) span = sym (part_grown old added span.start (span.end - span.start) h.within) in
+    record {
+      from = h.from;
+      encodes = subst (IsEncoding der type (value_view p.value)) stays h.encodes;
+      within = omega (arith, h.within, length-append old added);
+      key = h.key ∙ ap (key_of 16) stays;
+    }
 
-pub item_placed : (type : Shape) (xs : List Value) (done : List Placed) (i : ℕ) (x y : Value) (span : Span) (old new : List ℕ) → i < length xs → x ≡ get_or xs i x → AllZip (IsPlaced type old) (map value_view (take i xs)) done
-    → IsOrderedFrom type (value_view x) (value_view y) → IsPut (IsEncoding der type (value_view y)) old new span
-    → AllZip (IsPlaced type new) (map value_view (take (i + 1) xs)) (done ++ record { value = y; span = span } ∷ [])
-item_placed type xs done i x y span old new l at h from put =
+pub item_placed : (type : Shape) (xs : List Value) (done : List Placed) (i : ℕ) (x y : Value) (keyed : Keyed ℕ) (old new : List ℕ) → i < length xs → x ≡ get_or xs i x → AllZip (IsPlaced type old) (map value_view (take i xs)) done
+    → IsOrderedFrom type (value_view x) (value_view y) → IsPut (IsEncoding der type (value_view y)) old new keyed.span → HasKey new keyed
+    → AllZip (IsPlaced type new) (map value_view (take (i + 1) xs)) (done ++ record { value = y; keyed = keyed } ∷ [])
+item_placed type xs done i x y keyed old new l at h from put key =
     let grown = zip_map (IsPlaced type old) (IsPlaced type (old ++ put.octets)) (λ v p q. placed_grown type old put.octets v p q) (map value_view (take i xs)) done h in
     let kept : AllZip (IsPlaced type new) (map value_view (take i xs)) done = subst (λ b. AllZip (IsPlaced type b) (map value_view (take i xs)) done) (sym put.is) grown in
-    let one : IsPlaced type new (value_view x) (record { value = y; span = span }) = record {
+    let one : IsPlaced type new (value_view x) (record { value = y; keyed = keyed }) = record {
       from = from;
-      encodes = subst (IsEncoding der type (value_view y)) (sym (part_put (IsEncoding der type (value_view y)) old new span put)) put.holds;
+      encodes = subst (IsEncoding der type (value_view y)) (sym (part_put (IsEncoding der type (value_view y)) old new keyed.span put)) put.holds;
       within = omega (arith, put.start, put.end, ap length put.is, length-append old put.octets);
+      key = key;
     } in
-    subst (λ (vs : List Val). AllZip (IsPlaced type new) vs (done ++ record { value = y; span = span } ∷ [])) (sym (taken xs i x l at))
-    (zip_push (IsPlaced type new) (map value_view (take i xs)) done (value_view x) (record { value = y; span = span }) kept one)
+    subst (λ (vs : List Val). AllZip (IsPlaced type new) vs (done ++ record { value = y; keyed = keyed } ∷ [])) (sym (taken xs i x l at))
+    (zip_push (IsPlaced type new) (map value_view (take i xs)) done (value_view x) (record { value = y; keyed = keyed }) kept one)
 
 zip_right : {X Y Z : Type 0} (P : X → Y → Type 0) (Q : X → Z → Type 0) (f : Y → Z) → ((x : X) (y : Y) → P x y → Q x (f y)) → (xs : List X) (ys : List Y) → AllZip P xs ys → AllZip Q xs (map f ys)
 zip_right P Q f g [] [] h = tt
@@ -203,14 +211,21 @@ zip_right P Q f g (x ∷ xs) [] h = elim h [ ]
 zip_right P Q f g (x ∷ xs) (y ∷ ys) h = (g x y h.0, zip_right P Q f g xs ys h.1)
 
 values_encode : (type : Shape) (buffer : List ℕ) (vs : List Val) (ps : List Placed) → AllZip (IsPlaced type buffer) vs ps
-    → AllZip (IsEncoding der type) (map (λ (p : Placed). value_view p.value) ps) (map (λ (p : Placed). part_of buffer p.span) ps)
+    → AllZip (IsEncoding der type) (map (λ (p : Placed). value_view p.value) ps) (map (λ (p : Placed). part_of buffer p.keyed.span) ps)
 values_encode type buffer [] [] h = tt
 values_encode type buffer [] (p ∷ ps) h = elim h [ ]
 values_encode type buffer (v ∷ vs) [] h = elim h [ ]
 values_encode type buffer (v ∷ vs) (p ∷ ps) h = (h.0.encodes, values_encode type buffer vs ps h.1)
 
+-- the keys of placed items
+pub placed_keys : (type : Shape) (buffer : List ℕ) (vs : List Val) (ps : List Placed) → AllZip (IsPlaced type buffer) vs ps → All (HasKey buffer) (map (λ (p : Placed). p.keyed) ps)
+placed_keys type buffer vs ps h =
+    let keyed = λ (p : Placed). p.keyed in
+    let each : AllByRecursion (λ p. HasKey buffer (keyed p)) ps = all_zip (IsPlaced type buffer) (λ p. HasKey buffer (keyed p)) (λ v p q. q.key) vs ps h in
+    All-map (HasKey buffer) keyed ps (All-from_recursion (λ p. HasKey buffer (keyed p)) ps each)
+
 -- placed items that were sorted by their encodings
-pub items_sorted : (type : Shape) (buffer : List ℕ) (vs : List Val) (placed sorted : List Placed) (values : List Value) → AllZip (IsPlaced type buffer) vs placed → IsPermutation placed sorted → Ascends (map (λ (p : Placed). part_of buffer p.span) sorted)
+pub items_sorted : (type : Shape) (buffer : List ℕ) (vs : List Val) (placed sorted : List Placed) (values : List Value) → AllZip (IsPlaced type buffer) vs placed → IsPermutation placed sorted → Ascends (map (λ (p : Placed). part_of buffer p.keyed.span) sorted)
     → values ≡ map (λ (p : Placed). p.value) sorted → AreItemsOrderedFrom type vs (map value_view values)
 items_sorted type buffer vs placed sorted values h moved up is =
     let places = zip_permutes (IsPlaced type buffer) vs placed sorted h moved in
@@ -219,7 +234,7 @@ items_sorted type buffer vs placed sorted values h moved up is =
     let whole : AreItemsOrderedFrom type vs (map views sorted) = record {
       same = record { order = places.0; permutes = places.1; each = zip_map (IsOrderedFrom type) (IsSame type) (λ x y o. o.same) places.0 (map views sorted) each };
       each = all_zip (IsOrderedFrom type) (IsOrdered type) (λ x y o. o.ordered) places.0 (map views sorted) each;
-      order = inr record { encodings = map (λ (p : Placed). part_of buffer p.span) sorted; each = values_encode type buffer places.0 sorted places.2; ascends = up };
+      order = inr record { encodings = map (λ (p : Placed). part_of buffer p.keyed.span) sorted; each = values_encode type buffer places.0 sorted places.2; ascends = up };
     } in
     subst (AreItemsOrderedFrom type vs) (sym (ap (map value_view) is ∙ map-map value_view (λ (p : Placed). p.value) sorted)) whole
 

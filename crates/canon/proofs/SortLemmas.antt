@@ -1,6 +1,6 @@
 -- Lemmas on lists in order: those that a sort made, and that each list has one in order.
 use Rattle.std.proofs.Common.{◌≡◌, ◌⊎◌, inl, inr, ◌+◌, ◌<◌, ℕ, zero, suc, Bool, true, false, List, [], ◌∷◌, length, get_or, map, refl, sym, ap, subst, arith, All, AllPairs, Contains, IsPermutation}
-use Rattle.std.specs.Prelude.{⊤, not, MatchBool, slice_index_or}
+use Rattle.std.specs.Prelude.{not, MatchBool, slice_index_or}
 use Rattle.std.specs.List.{AllAdjacentBelow, IsAllAdjacentAnswer}
 use Rattle.std.specs.Ordering.{nat_cmp, is_lt, ordering_then, MatchOrdering}
 use Rattle.std.specs.declared.cmp.Ordering.{Ordering}
@@ -10,6 +10,7 @@ use Rattle.std.specs.Cmp.Lexicographic.{slice_cmp, nat_list_cmp_total}
 use Rattle.std.specs.List.Sorted.{IsSortedBy}
 use Rattle.std.specs.Fn.{Called, ComparesAs, ComputesOnPairs}
 use Rattle.std.proofs.lemmas.Fn.{always_returns_same}
+use Rattle.std.proofs.lemmas.List.{get_or-map, length-map}
 use Rattle.std.proofs.lemmas.List.Elements.{All-nil, All-cons}
 use Rattle.std.proofs.lemmas.List.Kept.{AllPairs-cons}
 use Rattle.std.proofs.lemmas.List.Sorted.{ranks_by, sorted_far, IsPermutation-refl, IsPermutation-sym, IsPermutation-trans, IsPermutation-cons, IsPermutation-middle, Contains-permutation}
@@ -81,17 +82,15 @@ module _ {X : Type 0} (f : X → List ℕ) where
       → ((a : Bor X × (Bor X × Unit {0})) (r : Ordering) (s' : F) → Called g s a r s' → (r ≡ slice_cmp nat_cmp (f a.0.now) (f a.1.0.now)) × (s' ≡ s)) → IsSortedBy rises xs
   sorted_by_calls {g = g} {s = s} xs up h = up rises rises_order (always_returns_same g (λ a r. is_lt r ≡ rises a.0.now a.1.0.now) s (λ a r s' k. (ap is_lt (h a r s' k).0, (h a r s' k).1)))
 
-  -- what `sort_unstable_by` ensures, where each call compares what f gives of the two
-  pub ascends_from_sort : {F : Type 0} {g : Mut F (Bor X × (Bor X × Unit {0})) Ordering} {s : F} (xs : List X)
-      → ((lt : X → X → Bool) → IsStrictWeakOrder lt → ComparesAs g lt s → IsSortedBy lt xs)
-      → ((a : Bor X × (Bor X × Unit {0})) (r : Ordering) (s' : F) → Called g s a r s' → (r ≡ slice_cmp nat_cmp (f a.0.now) (f a.1.0.now)) × (s' ≡ s)) → Ascends (map f xs)
-  ascends_from_sort xs up h = ascends_by f (λ x. ⊤) xs (λ a b g k m. m) (λ j d below. tt) (sorted_by_calls xs up h)
-
-  -- the same, where the order of what f gives is that of some octets
+  -- what `sort_unstable_by` ensures, where each call compares what f gives of the two, whose order is that of some octets
   pub ascends_from_sort_by : {F : Type 0} {g : Mut F (Bor X × (Bor X × Unit {0})) Ordering} {s : F} (octets : X → List ℕ) (Good : X → Type 0) (xs : List X)
       → ((a b : X) → Good a → Good b → IsPaddedAtMost (f a) (f b) → IsPaddedAtMost (octets a) (octets b)) → All Good xs → ((lt : X → X → Bool) → IsStrictWeakOrder lt → ComparesAs g lt s → IsSortedBy lt xs)
       → ((a : Bor X × (Bor X × Unit {0})) (r : Ordering) (s' : F) → Called g s a r s' → (r ≡ slice_cmp nat_cmp (f a.0.now) (f a.1.0.now)) × (s' ≡ s)) → Ascends (map octets xs)
   ascends_from_sort_by octets Good xs decides good up h = ascends_by octets Good xs decides good (sorted_by_calls xs up h)
+
+-- what holds of all that f gives
+pub all_from_map : {X Y : Type 0} (P : Y → Type 0) (f : X → Y) (xs : List X) → All P (map f xs) → All (λ x. P (f x)) xs
+all_from_map P f xs h = λ i d below. subst P (get_or-map f xs i d (f d) below) (h i (f d) (omega (arith, below, length-map xs f)))
 
 not_before : (a b : Tag) (o : Ordering) → MatchOrdering o (ComesBefore a b) (a ≡ b) (ComesBefore b a) → is_lt o ≡ false → ComesBefore a b → ⊥
 not_before a b Less h test before = cc

@@ -1,6 +1,6 @@
 //! The items of a SET OF in the order of their encodings (X.690 11.6).
 
-ghost use Rattle.std.specs.Prelude.{◌≡◌, map, IfOk, IsPermutation};
+ghost use Rattle.std.specs.Prelude.{◌≡◌, map, All, IfOk, IsPermutation};
 ghost use Rattle.std.specs.List.{AllByRecursion, AllZip};
 ghost use Rattle.std.specs.Ordering.{nat_cmp};
 ghost use Rattle.std.specs.Cmp.Lexicographic.{slice_cmp};
@@ -9,12 +9,13 @@ ghost use Rattle.types.specs.Order.{Ascends};
 ghost use Rattle.types.specs.Same.{IsSame};
 ghost use Rattle.types.specs.View.{ty_view, value_view, components_view, slots_view};
 ghost use Rattle.canon.specs.Ordered.{IsOrdered, IsOrderedFrom, AreOrderedFrom, AreItemsOrderedFrom, IsSound, AreSound};
+ghost use Rattle.canon.specs.Keyed.{HasKey, compared};
 ghost use Rattle.canon.specs.Span.{part_of};
 
 use crate::copying::copy_leaf;
 use crate::parts::{chosen_in, items_in, slots_in};
 use crate::rule::CanonicalRule;
-use crate::spans::{Span, part};
+use crate::spans::{Keyed, compare, with_key_of};
 use crate::writing::put_span;
 use octets::NoMemory;
 use std::alloc::Global;
@@ -42,8 +43,8 @@ pub fn order(alloc: Global, ty: &WellTyped, value: &Value) -> Result<Value, NoMe
 pub(crate) struct Placed {
     // The item.
     pub value: Value,
-    // Its encoding.
-    pub span: Span,
+    // Where its encoding stands, with the key of that.
+    pub keyed: Keyed<u128>,
 }
 
 // Orders a value whose type is known, at each node, to be as `order` asks.
@@ -132,7 +133,8 @@ fn sort_items(alloc: Global, ty: &Ty, items: &[Value]) -> Result<Vec<Value>, NoM
     for item in items {
         let value = order_value(alloc, ty, item)?;
         let span = put_span(alloc, CanonicalRule::Der, ty, &value, &mut octets)?;
-        placed.push(Placed { value, span })?;
+        let keyed = with_key_of(&octets, span);
+        placed.push(Placed { value, keyed })?;
     }
     sort_up(&octets, &mut placed);
     values_of(alloc, placed)
@@ -147,12 +149,13 @@ fn values_of(alloc: Global, items: Vec<Placed>) -> Result<Vec<Value>, NoMemory>
 
 // Puts items in ascending order of their encodings.
 fn sort_up(buffer: &[u8], items: &mut Vec<Placed>)
+    requires keys { All (HasKey buffer.now) (map (λ item. item.keyed) items.old.items) }
     ensures permutation { IsPermutation items.old.items items.new.items }
-    ensures ascends { Ascends (map (λ item. part_of buffer.now item.span) items.new.items) }
+    ensures ascends { Ascends (map (λ item. part_of buffer.now item.keyed.span) items.new.items) }
 {
     items.sort_unstable_by(
         |a, b| -> Ordering
-            ensures { result ≡ slice_cmp nat_cmp (part_of buffer.entry.now a.now.span) (part_of buffer.entry.now b.now.span) }
-        { part(buffer, a.span).cmp(&part(buffer, b.span)) },
+            ensures { result ≡ slice_cmp nat_cmp (compared buffer.entry.now a.now.keyed) (compared buffer.entry.now b.now.keyed) }
+        { compare(buffer, a.keyed, b.keyed) },
     );
 }

@@ -149,7 +149,7 @@ fn sort_by_keys(buffer: &[u8], keyed: &mut Vec<Keyed<u128>>)
 }
 
 // Compares keys, and then what is behind them, if anything is.
-fn compare(buffer: &[u8], a: Keyed<u128>, b: Keyed<u128>) -> Ordering
+pub(crate) fn compare(buffer: &[u8], a: Keyed<u128>, b: Keyed<u128>) -> Ordering
     ensures { result ≡ slice_cmp nat_cmp (compared buffer.now a) (compared buffer.now b) }
 {
     if a.key != b.key {

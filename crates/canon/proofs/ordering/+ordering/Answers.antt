@@ -1,5 +1,5 @@
 use Rattle.std.specs.List.{AllByRecursion, AllZip}
-use Rattle.std.proofs.Common.{◌≡◌, ◌∙◌, ◌+◌, ◌<◌, ℕ, List, Option, Some, None, Vec, Global, inl, inr, length, take, get_or, map, sym, ap, subst, subst₂, arith, rules}
+use Rattle.std.proofs.Common.{◌≡◌, ◌∙◌, ◌+◌, ◌<◌, ◌++◌, ◌∷◌, [], ℕ, List, All, Option, Some, None, Vec, Global, inl, inr, length, take, get_or, map, refl, sym, ap, subst, subst₂, arith, rules}
 use Rattle.std.proofs.lemmas.List.{length-map, take_all}
 use Rattle.types.specs.declared.ty.Ty.{Ty}
 use Rattle.types.specs.declared.ty.Ty as node
@@ -15,12 +15,14 @@ use Rattle.types.specs.Order.{Ascends}
 use Rattle.types.specs.WellFormed.{nodes_of, HasGoodDefaults}
 use Rattle.types.proofs.ViewLemmas.{ty-SequenceOf, ty-SetOf, ty-Choice, value-Fields, value-Items, value-Chosen, listed-items_view}
 use Rattle.canon.specs.declared.ordering.Placed.{Placed}
+use Rattle.canon.specs.declared.spans.Keyed.{Keyed}
+use Rattle.canon.specs.Keyed.{with_key, HasKey}
 use Rattle.canon.specs.Node.{HasGoodNodes}
 use Rattle.canon.specs.Ordered.{IsOrderedFrom, AreOrderedFrom, AreItemsOrderedFrom, IsSound}
 use Rattle.canon.specs.Span.{part_of}
 use Rattle.canon.proofs.NodeLemmas.{choice_parts, has_items, has_slots}
 use Rattle.octets.proofs.ResultLemmas.{IfOk-map}
-use Rattle.canon.proofs.OrderedLemmas.{slotted_view, OrderedUpTo, IsPlaced, alternative_defaults, field_defaults, chosen_ordered, record_ordered, list_ordered, set_list_ordered, present_ordered, absent_ordered, slots_ordered, item_ordered, item_placed, items_sorted, few_sorted}
+use Rattle.canon.proofs.OrderedLemmas.{slotted_view, OrderedUpTo, IsPlaced, alternative_defaults, field_defaults, chosen_ordered, record_ordered, list_ordered, set_list_ordered, present_ordered, absent_ordered, slots_ordered, item_ordered, item_placed, placed_keys, items_sorted, few_sorted}
 use Rattle.canon.proofs.SameValueLemmas.{same_conforms}
 use Rattle.canon.proofs.StepLemmas.{item_conforms, as_many_slots, present_at}
 use Rattle.canon.proofs.WritableLemmas.{stands_at}
@@ -184,8 +186,18 @@ sort_items-loop-item-preserved t c =
     let i = c.loop-item.item-index in
     let type = ty_view c.args.ty.now in
     let new = c.put_span.new.out.items in
-    let more = item_placed type xs c.loop-item.placed.items i c.item-item.result c.in_ok-value.value c.in_ok-span.span c.loop-item.octets.items new (omega arith) c.item-item.is c.loop-item.invariant c.in_ok-value.ensures c.in_ok-span.ensures.put in
-    subst (λ (done : List Placed). AllZip (IsPlaced type new) (map value_view (take (i + 1) xs)) done) (sym c.in_ok-push.ensures.items) more
+    let span = c.in_ok-span.span in
+    let one : c.with_key_of-keyed.result ≡ with_key new span = c.with_key_of-keyed.ensures ∙ ap (λ (b : List ℕ). with_key b span) c.deref.ensures.value in
+    let more = item_placed type xs c.loop-item.placed.items i c.item-item.result c.in_ok-value.value (with_key new span) c.loop-item.octets.items new (omega arith) c.item-item.is c.loop-item.invariant c.in_ok-value.ensures c.in_ok-span.ensures.put refl in
+    subst (λ (done : List Placed). AllZip (IsPlaced type new) (map value_view (take (i + 1) xs)) done) (sym (c.in_ok-push.ensures.items ∙ ap (λ (k : Keyed ℕ). c.loop-item.placed.items ++ record { value = c.in_ok-value.value; keyed = k } ∷ []) one)) more
+
+pub sort_items-sort_up-requires : goal.sort_items-sort_up-requires
+sort_items-sort_up-requires t c =
+    let xs = c.args.items.now in
+    let type = ty_view c.args.ty.now in
+    let buffer = c.loop-item.octets.items in
+    let keys : All (HasKey buffer) (map (λ (p : Placed). p.keyed) c.loop-item.placed.items) = placed_keys type buffer (map value_view (take c.loop-item.item-index xs)) c.loop-item.placed.items c.loop-item.invariant in
+    record { keys = subst (λ (b : List ℕ). All (HasKey b) (map (λ (p : Placed). p.keyed) c.loop-item.placed.items)) (sym c.deref-2.ensures.value) keys }
 
 pub sort_items-returns : goal.sort_items-returns
 sort_items-returns t c =
@@ -193,7 +205,7 @@ sort_items-returns t c =
     let type = ty_view c.args.ty.now in
     let buffer = c.loop-item.octets.items in
     let sorted = c.sort_up.new.items.items in
-    let up : Ascends (map (λ (p : Placed). part_of buffer p.span) sorted) = subst (λ (b : List ℕ). Ascends (map (λ (p : Placed). part_of b p.span) sorted)) c.deref.ensures.value c.sort_up.ensures.ascends in
+    let up : Ascends (map (λ (p : Placed). part_of buffer p.keyed.span) sorted) = subst (λ (b : List ℕ). Ascends (map (λ (p : Placed). part_of b p.keyed.span) sorted)) c.deref-2.ensures.value c.sort_up.ensures.ascends in
     let all : take c.loop-item.item-index xs ≡ xs = take_all c.loop-item.item-index xs (omega arith) in
     let placed : AllZip (IsPlaced type buffer) (map value_view xs) c.loop-item.placed.items = subst (λ (vs : List Value). AllZip (IsPlaced type buffer) (map value_view vs) c.loop-item.placed.items) all c.loop-item.invariant in
     IfOk-map c.values_of.result _ _ (λ values is. items_sorted type buffer (map value_view xs) c.loop-item.placed.items sorted values.items placed c.sort_up.ensures.permutation up is) c.values_of.ensures
