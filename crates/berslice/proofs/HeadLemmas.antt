@@ -1,5 +1,5 @@
 -- Lemmas on identifier octets and length octets at the front of some octets.
-use Rattle.std.proofs.Common.{◌≡◌, inl, inr, ℕ, ◌+◌, ◌<◌, ◌≤◌, List, [], ◌∷◌, ◌++◌, Bool, true, false, Bor, length, take, drop, get_or, refl, sym, ◌∙◌, ap, subst, subst₂, arith, append_assoc, append-nil, length-append}
+use Rattle.std.proofs.Common.{◌≡◌, inl, inr, ℕ, zero, suc, ◌+◌, ◌<◌, ◌≤◌, List, [], ◌∷◌, ◌++◌, Bool, true, false, Bor, length, take, drop, get_or, refl, sym, ◌∙◌, ap, subst, subst₂, arith, append_assoc, append-nil, length-append}
 use Rattle.std.specs.Prelude.{slice_range}
 use Rattle.std.proofs.Math.Seq.{take-add, take-append_seam}
 use Rattle.std.proofs.lemmas.List.{take-append-drop, length-take-le, length-drop, take_all}
@@ -11,23 +11,19 @@ use Rattle.types.specs.Form.{IsConstructed}
 use Rattle.berslice.specs.Heads.{Completes, IsOpened}
 use Rattle.berslice.specs.declared.heads.Inside.{Inside}
 
--- the first two of some octets
-pub first_octet : (octets : List ℕ) → 2 ≤ length octets → take 1 octets ≡ get_or octets 0 0 ∷ []
-first_octet [] there = absurd (omega (arith, there))
-first_octet (a ∷ octets) there = refl
-
-pub second_octet : (octets : List ℕ) → 2 ≤ length octets → take 1 (drop 1 octets) ≡ get_or octets 1 0 ∷ []
-second_octet [] there = absurd (omega (arith, there))
-second_octet (a ∷ []) there = absurd (omega (arith, there))
-second_octet (a ∷ b ∷ octets) there = refl
+-- one of some octets
+pub octet_at : (i : ℕ) (octets : List ℕ) → i < length octets → take 1 (drop i octets) ≡ get_or octets i 0 ∷ []
+octet_at i [] there = absurd (omega (arith, there))
+octet_at zero (a ∷ octets) there = refl
+octet_at (suc i) (a ∷ octets) there = octet_at i octets (omega (arith, there))
 
 -- one identifier octet
-pub low_identifier : (tag : Tag) (constructed : Bool) (octets : List ℕ) → tag.number < 31 → 2 ≤ length octets → get_or octets 0 0 ≡ class_bits tag.class + form_bit constructed + tag.number → IsIdentifier tag constructed (take 1 octets)
-low_identifier tag constructed octets low there is = inl record { low = omega (arith, low); spelt = first_octet octets there ∙ ap (λ octet. octet ∷ []) is }
+pub low_identifier : (tag : Tag) (constructed : Bool) (octets : List ℕ) → tag.number < 31 → 0 < length octets → get_or octets 0 0 ≡ class_bits tag.class + form_bit constructed + tag.number → IsIdentifier tag constructed (take 1 octets)
+low_identifier tag constructed octets low there is = inl record { low = omega (arith, low); spelt = octet_at 0 octets there ∙ ap (λ octet. octet ∷ []) is }
 
 -- one length octet
-pub short_length : (n : ℕ) (octets : List ℕ) → 2 ≤ length octets → get_or octets 1 0 < 128 → n ≡ get_or octets 1 0 → IsLength n (take 1 (drop 1 octets))
-short_length n octets there low is = inl record { low = omega (arith, low, is); spelt = second_octet octets there ∙ ap (λ octet. octet ∷ []) (sym is) }
+pub short_length : (n i : ℕ) (octets : List ℕ) → i < length octets → get_or octets i 0 < 128 → n ≡ get_or octets i 0 → IsLength n (take 1 (drop i octets))
+short_length n i octets there low is = inl record { low = omega (arith, low, is); spelt = octet_at i octets there ∙ ap (λ octet. octet ∷ []) (sym is) }
 
 -- the identifier octets and length octets of the definite form, and what stands behind them
 pub opened_definite : (tag : Tag) (i used n : ℕ) (octets : List ℕ) (inside : Bor (List ℕ)) → IsIdentifier tag true (take i octets) → IsLength n (take used (drop i octets)) → i + used + n ≤ length octets

@@ -1,8 +1,10 @@
 -- Lemmas on encodings of types without parts.
-use Rattle.std.proofs.Common.{◌≡◌, ◌+◌, ◌-◌, ◌<◌, ◌≤◌, ℕ, true, List, [], Some, Result, Ok, Err, IfOk, length, take, drop, sym, ap, ◌∙◌, subst, arith}
+use Rattle.std.proofs.Common.{◌≡◌, ◌+◌, ◌-◌, ◌<◌, ◌≤◌, ℕ, Bool, true, false, IsTrue, List, [], Option, Some, IfSome, Result, Ok, Err, IfOk, length, take, drop, refl, sym, ap, ◌∙◌, subst, arith}
+use Rattle.std.specs.Bool.{then_some}
 use Rattle.std.specs.Result.{result_ok}
 use Rattle.std.proofs.Math.Seq.{take-add}
 use Rattle.std.proofs.lemmas.List.{length-drop, length-take-le, take-append-le, take-take, take_rest}
+use Rattle.octets.specs.declared.tag.Tag.{Tag}
 use Rattle.octets.specs.Identifier.{IsIdentifier}
 use Rattle.octets.specs.Rule.{ber}
 use Rattle.octets.proofs.FrontLemmas.{whole_front}
@@ -22,11 +24,22 @@ use Rattle.encoding_parts.specs.Segments.{stack, IsBegun, IsPassed, IsSound, IsT
 use Rattle.encoding_parts.proofs.ReadingLemmas.{passed_more, passed_read}
 use Rattle.encoding_parts.proofs.TypedLemmas.{part_of_joined}
 use Rattle.encoding_parts.proofs.WithinLemmas.{part_of_contents, usable_tag}
+use Rattle.berslice.specs.Heads.{IsPrimitiveAt}
 use Rattle.berslice.specs.Reading.{IsRead}
 
 -- what the contents octets hold is what they encode
 pub part_held : (levels : ℕ) (type : Shape) (contents octets : List ℕ) (v : Val) → IsUsable (tag_of type) → HoldsValue ber type v contents → IsPrimitive ber (tag_of type) contents octets → IsPartOf levels type v octets
 part_held levels type contents octets v usable held primitive = part_of_contents levels type v contents octets usable held.0 held.1 primitive
+
+-- a leaf whose contents octets its value was made of, where it was made
+pub leaf_filled : (levels : ℕ) (type : Shape) (tag : Tag) (contents octets : List ℕ) (value : Value) (used : ℕ) (made : Bool) (answer : Option ℕ) → IsLeaf type → tag_of type ≡ tag → IsGoodType type → IsPrimitiveAt tag octets contents used
+    → (IsTrue made → HoldsValue ber type (value_view value) contents) → answer ≡ then_some made used → IfSome answer (λ n. IsRead levels type octets value n)
+leaf_filled levels type tag contents octets value used false answer leaf same good at held is = subst (λ a. IfSome a (λ n. IsRead levels type octets value n)) (sym is) tt
+leaf_filled levels type tag contents octets value used true answer leaf same good at held is =
+    let front = take used octets in
+    let whole = subst (λ (t : Tag). IsPrimitive ber t contents front) (sym same) at.whole in
+    let read : IsRead levels type octets value used = (at.there, part_held levels type contents front (value_view value) (usable_tag type leaf good) (held refl) whole) in
+    subst (λ a. IfSome a (λ n. IsRead levels type octets value n)) (sym is) read
 
 -- so many octets of a constructed string have been taken, of which so many had been at first
 pub record IsTakenSoFar (kind : Kind) (old new : Segments) (octets : List ℕ) (start at : ℕ) : Type 0 where

@@ -1,9 +1,15 @@
 -- What stands at the front of some octets, by its identifier octets and length octets (X.690 8.1).
 use Rattle.std.specs.Prelude.{◌≡◌, ◌≤◌, ℕ, Bool, true, false, List, [], ◌∷◌, ◌++◌, length, take}
 use Rattle.octets.specs.declared.tag.Tag.{Tag}
+use Rattle.octets.specs.Identifier.{IsReadIdentifier}
 use Rattle.octets.specs.Rule.{ber}
 use Rattle.types.specs.Form.{IsPrimitive, IsConstructed}
+use Rattle.berslice.specs.declared.heads.Identifier.{Identifier}
 use Rattle.berslice.specs.declared.heads.Inside.{Inside}
+
+-- identifier octets (8.1.2)
+abbrev pub IsIdentifierOf : Identifier → List ℕ → Type 0
+IsIdentifierOf identifier octets = IsReadIdentifier octets identifier.tag identifier.constructed identifier.octets
 
 -- a primitive encoding of these contents octets
 pub record IsPrimitiveAt (tag : Tag) (octets contents : List ℕ) (used : ℕ) : Type 0 where

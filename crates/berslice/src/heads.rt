@@ -5,7 +5,7 @@ ghost use Rattle.octets.specs.declared.tag.Tag.{Tag};
 ghost use Rattle.octets.specs.Identifier.{class_bits, IsIdentifier};
 ghost use Rattle.octets.specs.Rule.{ber};
 ghost use Rattle.types.specs.Form.{IsConstructed};
-ghost use Rattle.berslice.specs.Heads.{IsOpened, IsPrimitiveAt, StartsWithEnd};
+ghost use Rattle.berslice.specs.Heads.{IsIdentifierOf, IsOpened, IsPrimitiveAt, StartsWithEnd};
 
 use octets::{Class, Head, Length, Tag, read_identifier, read_length};
 
@@ -18,6 +18,36 @@ pub struct Inside<'a> {
     pub start: usize,
     /// Whether the encoding has the definite form.
     pub definite: bool,
+}
+
+/// Identifier octets that stand at the front of some octets (X.690 8.1.2).
+#[derive(Clone, Copy)]
+pub struct Identifier {
+    /// The tag.
+    pub tag: Tag,
+    /// Whether the encoding is constructed.
+    pub constructed: bool,
+    /// How many identifier octets there are.
+    pub octets: usize,
+}
+
+// The identifier octets at the front.
+#[inline(always)]
+pub fn identifier_of(octets: &[u8]) -> Option<Identifier>
+    ensures { IfSome result (λ found. IsIdentifierOf found octets.now) }
+{
+    match read_identifier(octets) {
+        Head::Done {
+            tag,
+            constructed,
+            used,
+        } => Some(Identifier {
+            tag,
+            constructed,
+            octets: used,
+        }),
+        Head::More | Head::Bad => None,
+    }
 }
 
 // The contents octets of the primitive encoding at the front, if it has the tag, and how many octets it has. Mostly
@@ -37,6 +67,25 @@ pub fn primitive(tag: Tag, octets: &[u8]) -> Option<(&[u8], usize)>
         return Some((&octets[2..stop], stop));
     }
     long_primitive(tag, octets)
+}
+
+// The contents octets of the encoding at the front, of which these are the identifier octets, if it is primitive, and
+// how many octets it has. Mostly one octet stands between.
+#[inline(always)]
+pub fn behind(identifier: Identifier, octets: &[u8]) -> Option<(&[u8], usize)>
+    requires { IsIdentifierOf identifier octets.now }
+    ensures { IfSome result (λ p. IsPrimitiveAt identifier.tag octets.now p.0.now p.1) }
+{
+    let at = identifier.octets;
+    if !identifier.constructed && at < octets.len() && octets[at] < 0x80 {
+        let start = at + 1;
+        let stop = start + usize::from(octets[at]);
+        if stop > octets.len() {
+            return None;
+        }
+        return Some((&octets[start..stop], stop));
+    }
+    long_primitive(identifier.tag, octets)
 }
 
 // The contents octets of a primitive encoding and its end, whatever its identifier and length are.
@@ -114,8 +163,23 @@ fn long_opened(tag: Tag, octets: &[u8]) -> Option<Inside<'_>>
     }
 }
 
-// How many identifier octets the encoding at the front has, if they are those of the tag and the form.
+// How many identifier octets the encoding at the front has, if they are those of the tag and the form: mostly one.
+#[inline(always)]
 pub fn begun(tag: Tag, constructed: bool, octets: &[u8]) -> Option<usize>
+    ensures { IfSome result (λ used. (used ≤ length octets.now) × IsIdentifier tag constructed (take used octets.now)) }
+{
+    if tag.number >= 31 {
+        return long_begun(tag, constructed, octets);
+    }
+    let form = if constructed { 0x20 } else { 0x00 };
+    if octets.is_empty() || octets[0] != leading_octet(tag) + form {
+        return None;
+    }
+    Some(1)
+}
+
+// How many identifier octets it has, of any tag.
+fn long_begun(tag: Tag, constructed: bool, octets: &[u8]) -> Option<usize>
     ensures { IfSome result (λ used. (used ≤ length octets.now) × IsIdentifier tag constructed (take used octets.now)) }
 {
     match read_identifier(octets) {

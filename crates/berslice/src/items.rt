@@ -8,7 +8,7 @@ ghost use Rattle.encoding_parts.specs.Parts.{IsGoodType};
 ghost use Rattle.encoding_parts.specs.Renewed.{new_items};
 ghost use Rattle.berslice.specs.Reading.{IsRead, IsItemRead, AreMoreItemsRead};
 
-use crate::heads::{ends_at, opened};
+use crate::heads::{ends_at, identifier_of, opened};
 use crate::places::Places;
 use crate::reading::{read_alternative, read_one};
 use encoding_parts::Renewed;
@@ -164,8 +164,17 @@ fn read_among(
 {
     if let Some(places) = places {
         if let Ty::Choice(alternatives) = ty {
-            let which = places.place_of(alternatives, octets)?;
-            return read_alternative(alloc, alternatives, which, levels, octets, value);
+            let identifier = identifier_of(octets)?;
+            let which = places.place_of(alternatives, identifier.tag)?;
+            return read_alternative(
+                alloc,
+                alternatives,
+                which,
+                identifier,
+                levels,
+                octets,
+                value,
+            );
         }
     }
     read_one(alloc, ty, levels, octets, value)

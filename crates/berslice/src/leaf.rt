@@ -1,42 +1,78 @@
 //! Encodings of types without parts: primitive ones, and constructed strings (X.690 8.6.4, 8.7.3 and 8.23).
 
-ghost use Rattle.std.specs.Prelude.{◌≡◌, ◌≤◌, ℕ, [], length, take, IfSome};
+ghost use Rattle.std.specs.Prelude.{◌≡◌, ◌≤◌, ℕ, [], length, take, IsTrue, IfSome};
+ghost use Rattle.octets.specs.Rule.{ber};
 ghost use Rattle.types.specs.Leaf.{tag_of, IsLeaf};
-ghost use Rattle.types.specs.View.{ty_view};
+ghost use Rattle.types.specs.View.{ty_view, value_view};
+ghost use Rattle.encoding_parts.specs.Contents.{HoldsValue};
 ghost use Rattle.encoding_parts.specs.Parts.{IsGoodType};
 ghost use Rattle.encoding_parts.specs.Segments.{IsPassed, IsSound};
+ghost use Rattle.berslice.specs.Heads.{IsIdentifierOf};
 ghost use Rattle.berslice.specs.Reading.{IsRead};
 
-use crate::heads::{begun, primitive};
+use crate::heads::{Identifier, begun, behind, primitive};
 use encoding_parts::{Kind, Segments, begin_string, fill};
 use octets::{MAX_ENCODING, Tag};
 use std::alloc::Global;
 use types::{Ty, Value};
 
-// Reads the primitive encoding at the front, of a type without parts.
-#[inline(never)]
+// Reads the encoding at the front, of a type without parts: mostly a primitive one.
+#[inline(always)]
 pub fn read_leaf(
     alloc: Global,
     ty: &Ty,
     tag: Tag,
+    levels: usize,
     octets: &[u8],
     value: &mut Value,
 ) -> Option<usize>
     requires leaf { IsLeaf (ty_view ty.now) }
     requires tag { tag_of (ty_view ty.now) ≡ tag }
     requires good { IsGoodType (ty_view ty.now) }
-    ensures { IfSome result (λ used. (levels : ℕ) → IsRead levels (ty_view ty.now) octets.now value.new used) }
+    ensures { IfSome result (λ used. IsRead levels (ty_view ty.now) octets.now value.new used) }
 {
-    let (contents, used) = primitive(tag, octets)?;
-    if fill(alloc, ty, contents, value) {
-        Some(used)
-    } else {
-        None
+    match primitive(tag, octets) {
+        Some((contents, used)) => fill_leaf(alloc, ty, contents, value).then_some(used),
+        None if is_constructed(octets) => read_string(alloc, ty, tag, levels, octets, value),
+        None => None,
     }
 }
 
-// Reads the constructed string at the front. Mostly another component stands there, or a primitive encoding that is
-// cut, as the first octet says.
+// Reads the encoding at the front, of a type without parts, which has these identifier octets and the type's tag.
+#[inline(always)]
+pub fn read_leaf_behind(
+    alloc: Global,
+    ty: &Ty,
+    identifier: Identifier,
+    levels: usize,
+    octets: &[u8],
+    value: &mut Value,
+) -> Option<usize>
+    requires leaf { IsLeaf (ty_view ty.now) }
+    requires tag { tag_of (ty_view ty.now) ≡ identifier.tag }
+    requires good { IsGoodType (ty_view ty.now) }
+    requires front { IsIdentifierOf identifier octets.now }
+    ensures { IfSome result (λ used. IsRead levels (ty_view ty.now) octets.now value.new used) }
+{
+    let tag = identifier.tag;
+    match behind(identifier, octets) {
+        Some((contents, used)) => fill_leaf(alloc, ty, contents, value).then_some(used),
+        None if identifier.constructed => read_string(alloc, ty, tag, levels, octets, value),
+        None => None,
+    }
+}
+
+// Makes the value that of the contents octets of a primitive encoding, and says whether it has. Of the readers that
+// call it each looks at the head itself, so that only what has the tag costs a call.
+#[inline(never)]
+fn fill_leaf(alloc: Global, ty: &Ty, contents: &[u8], value: &mut Value) -> bool
+    requires { IsLeaf (ty_view ty.now) }
+    ensures { IsTrue result → HoldsValue ber (ty_view ty.now) (value_view value.new) contents.now }
+{
+    fill(alloc, ty, contents, value)
+}
+
+// Reads the constructed string at the front.
 #[inline(never)]
 pub fn read_string(
     alloc: Global,
@@ -51,9 +87,6 @@ pub fn read_string(
     requires good { IsGoodType (ty_view ty.now) }
     ensures { IfSome result (λ used. IsRead levels (ty_view ty.now) octets.now value.new used) }
 {
-    if octets.is_empty() || octets[0] & 0x20 == 0 {
-        return None;
-    }
     let front = &octets[..octets.len().min(MAX_ENCODING)];
     let identifier = begun(tag, true, front)?;
     let (kind, mut string, start) = begin_string(
@@ -68,6 +101,13 @@ pub fn read_string(
     let used = pass_segments(&mut string, kind, front, start)?;
     *value = string.joined.into_value(ty).ok()?;
     Some(used)
+}
+
+// Whether bit 6 of the first octet says that a constructed encoding stands at the front. Where no primitive one was
+// read, mostly another component stands there, or one that is cut.
+#[inline(always)]
+pub fn is_constructed(octets: &[u8]) -> bool {
+    !octets.is_empty() && octets[0] & 0x20 != 0
 }
 
 // Takes the segments of a constructed string of which the first `start` octets have been taken, up to its last end, and

@@ -6,6 +6,7 @@
 #![tactic(auto)]
 
 mod components;
+mod explicit;
 mod heads;
 mod items;
 mod leaf;

@@ -9,10 +9,9 @@ ghost use Rattle.encoding_parts.specs.HeldParts.{come_view};
 ghost use Rattle.encoding_parts.specs.Parts.{IsGoodComponent, Parts};
 ghost use Rattle.berslice.specs.Reading.{AreContentsRead, AreSetComponentsOf, IsMemberRead};
 
-use crate::heads::ends_at;
-use crate::reading::read_one;
+use crate::heads::{ends_at, identifier_of};
+use crate::reading::read_begun;
 use encoding_parts::{SetComponents, emptied_slots};
-use octets::{Head, read_identifier};
 use std::alloc::Global;
 use types::{Field, Value};
 
@@ -63,16 +62,14 @@ fn read_member(
     requires set_components { AreSetComponentsOf (map field_view fields.now) (Parts.set (come_view set_components.old)) }
     ensures { IfSome result (λ used. IsMemberRead levels octets.now (Parts.set (come_view set_components.old)) (Parts.set (come_view set_components.new)) used) }
 {
-    let Head::Done { tag, .. } = read_identifier(octets) else {
-        return None;
-    };
-    let Ok((place, _)) = set_components.due(tag) else {
+    let identifier = identifier_of(octets)?;
+    let Ok((place, _)) = set_components.due(identifier.tag) else {
         return None;
     };
     let field = &fields[place];
     let slot = &mut set_components.slots[place];
     let value = slot.get_or_insert_with(|| Value::Null);
-    let used = read_one(alloc, &field.ty, levels, octets, value)?;
+    let used = read_begun(alloc, &field.ty, identifier, levels, octets, value)?;
     set_components.behind = place + 1;
     Some(used)
 }

@@ -3,7 +3,7 @@
 ghost use Rattle.std.specs.Prelude.{◌<◌, length, IfSome};
 
 use encoding_parts::{begins, by_tag};
-use octets::{Head, read_identifier};
+use octets::Tag;
 use types::{Alternative, Ty};
 
 /// The place of the alternative that came last of each number of a tag, by the number's last eight bits. A place is a
@@ -23,14 +23,11 @@ impl Places {
         }
     }
 
-    // The place of the alternative that begins with the identifier at the front. Those that have come are not searched
+    // The place of the alternative that begins with the tag. Those that have come are not searched
     // for.
-    pub fn place_of(&mut self, alternatives: &[Alternative], octets: &[u8]) -> Option<usize>
+    pub fn place_of(&mut self, alternatives: &[Alternative], tag: Tag) -> Option<usize>
         ensures { IfSome result (λ which. which < length alternatives.now) }
     {
-        let Head::Done { tag, .. } = read_identifier(octets) else {
-            return None;
-        };
         let number = (tag.number % 256) as usize;
         let guess = usize::from(self.each[number]);
         if guess < alternatives.len() && begins(&alternatives[guess].ty, tag) {

@@ -6,16 +6,18 @@ ghost use Rattle.types.specs.Encoding.{IsAccepted};
 ghost use Rattle.types.specs.Shape.{Shape};
 ghost use Rattle.types.specs.View.{ty_view, value_view, alternatives_view};
 ghost use Rattle.encoding_parts.specs.Parts.{IsGoodType};
+ghost use Rattle.berslice.specs.Heads.{IsIdentifierOf};
 ghost use Rattle.berslice.specs.Reading.{AreContentsRead, IsRead};
 
 use crate::MAX_NESTED;
 use crate::components::read_components;
-use crate::heads::{Inside, opened};
+use crate::explicit::read_under_tag;
+use crate::heads::{Identifier, Inside, identifier_of, opened};
 use crate::items::read_list;
-use crate::leaf::{read_leaf, read_string};
+use crate::leaf::{read_leaf, read_leaf_behind};
 use crate::members::read_members;
 use encoding_parts::{by_tag, choose, clear, take_list};
-use octets::{Head, MAX_ENCODING, read_identifier};
+use octets::MAX_ENCODING;
 use std::alloc::Global;
 use types::{Alternative, Ty, Value};
 
@@ -68,21 +70,42 @@ pub fn read_one(
     ensures { IfSome result (λ used. IsRead levels (ty_view ty.now) octets.now value.new used) }
 {
     if let Some(tag) = ty.leaf_tag() {
-        return match read_leaf(alloc, ty, tag, octets, value) {
-            Some(used) => Some(used),
-            None => read_string(alloc, ty, tag, levels, octets, value),
-        };
+        return read_leaf(alloc, ty, tag, levels, octets, value);
     }
     match ty {
         Ty::SequenceOf(tag, inner) | Ty::SetOf(tag, inner) => {
             read_list(alloc, *tag, inner, levels, octets, value)
         }
         Ty::Choice(alternatives) => read_chosen(alloc, alternatives, levels, octets, value),
+        Ty::Explicit(tag, inner) => read_under_tag(alloc, *tag, inner, levels, octets, value),
         _ => read_constructed(alloc, ty, levels, octets, value),
     }
 }
 
-// Reads a SEQUENCE or SET at the front, or an encoding under an explicit tag, into the value.
+// Reads the encoding at the front, which has these identifier octets, into the value.
+#[cycle(reading)]
+#[inline(always)]
+pub fn read_begun(
+    alloc: Global,
+    ty: &Ty,
+    identifier: Identifier,
+    levels: usize,
+    octets: &[u8],
+    value: &mut Value,
+) -> Option<usize>
+    requires good { IsGoodType (ty_view ty.now) }
+    requires front { IsIdentifierOf identifier octets.now }
+    ensures { IfSome result (λ used. IsRead levels (ty_view ty.now) octets.now value.new used) }
+{
+    match ty.leaf_tag() {
+        Some(tag) if tag == identifier.tag => {
+            read_leaf_behind(alloc, ty, identifier, levels, octets, value)
+        }
+        _ => read_one(alloc, ty, levels, octets, value),
+    }
+}
+
+// Reads a SEQUENCE or SET at the front into the value.
 #[cycle(reading)]
 #[inline(never)]
 fn read_constructed(
@@ -126,7 +149,6 @@ fn read_inside(
             inside.definite,
             value,
         ),
-        Ty::Explicit(_, inner) => read_one(alloc, inner, levels, inside.octets, value),
         _ => None,
     }
 }
@@ -144,26 +166,34 @@ fn read_chosen(
     requires { IsGoodType (Shape.choice (alternatives_view alternatives.now)) }
     ensures { IfSome result (λ used. IsRead levels (Shape.choice (alternatives_view alternatives.now)) octets.now value.new used) }
 {
-    let Head::Done { tag, .. } = read_identifier(octets) else {
-        return None;
-    };
-    let (which, _) = by_tag(alternatives, tag)?;
-    read_alternative(alloc, alternatives, which, levels, octets, value)
+    let identifier = identifier_of(octets)?;
+    let (which, _) = by_tag(alternatives, identifier.tag)?;
+    read_alternative(
+        alloc,
+        alternatives,
+        which,
+        identifier,
+        levels,
+        octets,
+        value,
+    )
 }
 
-// Reads an encoding of the alternative at this place at the front into the value.
+// Reads an encoding of the alternative at this place, which has these identifier octets, into the value.
 #[cycle(reading)]
 #[inline(always)]
 pub fn read_alternative(
     alloc: Global,
     alternatives: &[Alternative],
     which: usize,
+    identifier: Identifier,
     levels: usize,
     octets: &[u8],
     value: &mut Value,
 ) -> Option<usize>
     requires there { which < length alternatives.now }
     requires good { IsGoodType (Shape.choice (alternatives_view alternatives.now)) }
+    requires front { IsIdentifierOf identifier octets.now }
     ensures { IfSome result (λ used. IsRead levels (Shape.choice (alternatives_view alternatives.now)) octets.now value.new used) }
 {
     let alternative = &alternatives[which];
@@ -173,5 +203,5 @@ pub fn read_alternative(
     let Value::Chosen(_, boxed) = value else {
         return None;
     };
-    read_one(alloc, &alternative.ty, levels, octets, boxed)
+    read_begun(alloc, &alternative.ty, identifier, levels, octets, boxed)
 }

@@ -19,13 +19,13 @@ use Rattle.encoding_parts.specs.Renewed.{new_items}
 use Rattle.berslice.proofs.ReadingLemmas.{both_of, IfSome-map, read_some, explicit_contents, sequence_contents, constructed_read, sequence_of_read, set_of_read, no_more_items, one_item_more, item_behind, all_items, no_components, component_read, all_components, component_stands, good_components, good_component, good_alternative, place_chosen, chosen_read, no_members, member_behind, member_come, member_read, member_some, field_type, due_field, set_contents, good_members}
 use Rattle.berslice.proofs.+reading.Goals as goal
 
-pub reading::read_alternative-read_one-requires : goal.reading::read_alternative-read_one-requires
-reading::read_alternative-read_one-requires t c =
+pub reading::read_alternative-read_begun-requires : goal.reading::read_alternative-read_begun-requires
+reading::read_alternative-read_begun-requires t c =
     let xs = c.args.alternatives.now in
     let a = c.index-alternatives-which.result in
     let bound = c.requires.there in
     let at = c.index-alternatives-which.is in
-    (search (rules, node.the_lemmas, alternative.the_lemmas, bound, at), good_alternative xs c.args.which a bound at c.requires.good)
+    (search (rules, node.the_lemmas, alternative.the_lemmas, bound, at), (good_alternative xs c.args.which a bound at c.requires.good, c.requires.front))
 
 pub reading::read_alternative-returns : goal.reading::read_alternative-returns
 unfolding value.out-Value denote.Hole.Carrier.out
@@ -35,10 +35,10 @@ reading::read_alternative-returns t c =
     let xs = c.args.alternatives.now in
     let which = c.args.which in
     let a = c.index-alternatives-which.result in
-    let v = c.read_one.new.value in
+    let v = c.read_begun.new.value in
     let place : c.in-Chosen.field-0 ≡ which = place_chosen which c.in-Chosen.field-0 c.in-Chosen.boxed c.choose.new.value (c.choose.ensures c.if-not-choose.false) c.in-Chosen.is in
-    IfSome-map c.read_one.result _ (λ used. IsRead levels (Shape.choice (alternatives_view xs)) octets _ used)
-    (λ used h. chosen_read levels xs which a octets v _ used c.requires.there c.index-alternatives-which.is (search (rules, value.the_lemmas) ∙ ap (λ p. Val.chosen p (value_view v)) place) h) c.read_one.ensures
+    IfSome-map c.read_begun.result _ (λ used. IsRead levels (Shape.choice (alternatives_view xs)) octets _ used)
+    (λ used h. chosen_read levels xs which a octets v _ used c.requires.there c.index-alternatives-which.is (search (rules, value.the_lemmas) ∙ ap (λ p. Val.chosen p (value_view v)) place) h) c.read_begun.ensures
 
 pub components::read_component-returns-in-Some-read_one : goal.components::read_component-returns-in-Some-read_one
 components::read_component-returns-in-Some-read_one t c =
@@ -164,12 +164,12 @@ items::read_list-returns-clause-set t c =
 
 pub members::read_member-bounds-fields-place : goal.members::read_member-bounds-fields-place
 members::read_member-bounds-fields-place t c =
-    let place = due_field c.in-Done.tag c.args.fields.now (come_view c.args.set_components.now) c.in-Ok.place (ty_view c.in-Ok.field-0-1.now) c.requires.set_components c.in-Ok.ensures.value.0 in
+    let place = due_field c.in_ok-identifier.identifier.tag c.args.fields.now (come_view c.args.set_components.now) c.in-Ok.place (ty_view c.in-Ok.field-0-1.now) c.requires.set_components c.in-Ok.ensures.value.0 in
     place.below
 
 pub members::read_member-offset_bounds-fields-place : goal.members::read_member-offset_bounds-fields-place
 members::read_member-offset_bounds-fields-place t c =
-    let place = due_field c.in-Done.tag c.args.fields.now (come_view c.args.set_components.now) c.in-Ok.place (ty_view c.in-Ok.field-0-1.now) c.requires.set_components c.in-Ok.ensures.value.0 in
+    let place = due_field c.in_ok-identifier.identifier.tag c.args.fields.now (come_view c.args.set_components.now) c.in-Ok.place (ty_view c.in-Ok.field-0-1.now) c.requires.set_components c.in-Ok.ensures.value.0 in
     let bound = place.below in
     search (rules, bound)
 
@@ -182,18 +182,18 @@ members::read_member-index_mut-slot-requires t c =
 
 pub members::read_member-overflow_add-set_components : goal.members::read_member-overflow_add-set_components
 members::read_member-overflow_add-set_components t c =
-    let place = due_field c.in-Done.tag c.args.fields.now (come_view c.args.set_components.now) c.in-Ok.place (ty_view c.in-Ok.field-0-1.now) c.requires.set_components c.in-Ok.ensures.value.0 in
+    let place = due_field c.in_ok-identifier.identifier.tag c.args.fields.now (come_view c.args.set_components.now) c.in-Ok.place (ty_view c.in-Ok.field-0-1.now) c.requires.set_components c.in-Ok.ensures.value.0 in
     let bound = place.below in
     search (rules, bound)
 
-pub members::read_member-read_one-requires : goal.members::read_member-read_one-requires
-members::read_member-read_one-requires t c =
+pub members::read_member-read_begun-requires : goal.members::read_member-read_begun-requires
+members::read_member-read_begun-requires t c =
     let fields = c.args.fields.now in
     let f = c.index-fields-place.result in
     let at = c.index-fields-place.is in
-    let place = due_field c.in-Done.tag c.args.fields.now (come_view c.args.set_components.now) c.in-Ok.place (ty_view c.in-Ok.field-0-1.now) c.requires.set_components c.in-Ok.ensures.value.0 in
+    let place = due_field c.in_ok-identifier.identifier.tag c.args.fields.now (come_view c.args.set_components.now) c.in-Ok.place (ty_view c.in-Ok.field-0-1.now) c.requires.set_components c.in-Ok.ensures.value.0 in
     let bound = place.below in
-    (search (rules, node.the_lemmas, field.the_lemmas, bound, at), subst IsGoodType (field_type f) (good_component fields c.in-Ok.place f bound at c.requires.good).type)
+    (search (rules, node.the_lemmas, field.the_lemmas, bound, at), (subst IsGoodType (field_type f) (good_component fields c.in-Ok.place f bound at c.requires.good).type, c.in_ok-identifier.ensures))
 
 pub members::read_member-returns : goal.members::read_member-returns
 members::read_member-returns t c =
@@ -203,10 +203,10 @@ members::read_member-returns t c =
     let which = c.in-Ok.place in
     let type = ty_view c.in-Ok.field-0-1.now in
     let f = c.index-fields-place.result in
-    let v = c.read_one.new.value in
+    let v = c.read_begun.new.value in
     let used = c.in_ok-used.used in
     let vacant : IsVacant (come_view own) which type = c.in-Ok.ensures.value.0 in
-    let place = due_field c.in-Done.tag c.args.fields.now (come_view own) which type c.requires.set_components vacant in
+    let place = due_field c.in_ok-identifier.identifier.tag c.args.fields.now (come_view own) which type c.requires.set_components vacant in
     let read : IsRead levels type octets v used = subst (λ shape. IsRead levels shape octets v used) (place.types f c.index-fields-place.is) c.in_ok-used.ensures in
     member_come levels own.fields.now octets own.slots.items v which type used vacant read
 
@@ -269,10 +269,14 @@ reading::read_inside-returns-in-Set t c =
     IfSome-map c.read_members.result _ (λ used. AreContentsRead c.args.levels (ty_view c.args.ty.now) octets v used)
     (λ used h. subst (λ shape. AreContentsRead c.args.levels shape octets v used) (sym same) (h c.in-Set.field-0)) c.read_members.ensures
 
-pub reading::read_inside-returns-in-Explicit : goal.reading::read_inside-returns-in-Explicit
-reading::read_inside-returns-in-Explicit t c =
-    let octets = c.args.inside.now.octets.now in
-    let v = c.read_one.new.value in
-    let same : ty_view c.args.ty.now ≡ Shape.explicit c.in-Explicit.field-0 (ty_view c.deref-in-Explicit.result.now) = ap ty_view c.in-Explicit.is ∙ (ty-Explicit c.in-Explicit.field-0 c.in-Explicit.inner ∙ ap (λ l. Shape.explicit c.in-Explicit.field-0 (ty_view l)) (sym c.deref-in-Explicit.ensures)) in
-    IfSome-map c.read_one.result _ (λ used. AreContentsRead c.args.levels (ty_view c.args.ty.now) octets v used)
-    (λ used h. subst (λ shape. AreContentsRead c.args.levels shape octets v used) (sym same) (explicit_contents c.args.levels c.in-Explicit.field-0 (ty_view c.deref-in-Explicit.result.now) octets v used h)) c.read_one.ensures
+pub explicit::read_under_tag-returns : goal.explicit::read_under_tag-returns
+explicit::read_under_tag-returns t c =
+    let octets = c.args.octets.now in
+    let type = Shape.explicit c.args.tag (ty_view c.args.ty.now) in
+    let inside = c.in_ok-inside.inside in
+    let used = c.in_ok-used.used in
+    let v = c.read_tagged.new.value in
+    let come = explicit_contents (c.args.levels - 1) c.args.tag (ty_view c.args.ty.now) inside.octets.now v used c.in_ok-used.ensures in
+    both_of (λ n. n ≤ length octets) (λ n. (tag : Tag) → IsOpened tag octets inside → IsConstructed ber tag (take used inside.octets.now) (take n octets)) (λ n. IsRead c.args.levels type octets v n)
+    c.close.result c.close.ensures.there c.close.ensures.value
+    (λ n there whole. constructed_read c.args.levels c.args.tag type octets inside.octets.now v used n c.requires (search rules) refl come there (whole c.args.tag c.in_ok-inside.ensures))
