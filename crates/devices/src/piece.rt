@@ -8,7 +8,7 @@ use crate::{Failed, Source};
 use std::marker::Model;
 
 /// The most octets of a piece.
-pub const PIECE_OCTETS: usize = 65_536;
+pub const PIECE_OCTETS: usize = 131_072;
 
 /// The octets that one read of a source gave, in room that every read uses again.
 #[derive(Drop)]
@@ -23,7 +23,7 @@ impl Model for Piece {
 
     ghost view = { λ piece. take piece.count piece.room };
 
-    ghost invariant = { λ piece. piece.count ≤ 65_536 };
+    ghost invariant = { λ piece. piece.count ≤ 131_072 };
 }
 
 impl Piece {
@@ -50,7 +50,7 @@ impl Piece {
         requires { S.failures source.old ≡ 0 }
         ensures given { OnOk result (Consumes (S.left source.old) (S.left source.new) self.new) }
         ensures end { OnOk result (self.new ≡ [] → IsAtEnd (S.left source.new)) }
-        ensures size { length self.new ≤ 65_536 }
+        ensures size { length self.new ≤ 131_072 }
         ensures empty { OnErr result (self.new ≡ []) }
         ensures unmoved { OnErr result (Keeps (S.left source.old) (S.left source.new)) }
         ensures count { CountsFailure result (S.failures source.new) }

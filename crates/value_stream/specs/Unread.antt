@@ -9,6 +9,6 @@ unread at piece left = prepend_known (drop at piece) left
 
 -- so many octets of the piece were read, and so many of the source; with those at hand they are no more than a stream has
 pub record IsWithin (at : ℕ) (piece : List ℕ) (read : ℕ) : Type 0 where
-  pub size : length piece ≤ 65_536
+  pub size : length piece ≤ 131_072
   pub there : at ≤ length piece
   pub few : read + (length piece - at) ≤ most_streamed
