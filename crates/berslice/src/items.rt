@@ -36,7 +36,7 @@ pub fn read_list(
     if levels == 0 {
         return None;
     }
-    let mut list = Renewed::over(alloc, inner, value);
+    let mut list = Renewed::over(alloc, value);
     let used = fill_list(
         alloc,
         inner,

@@ -5,7 +5,7 @@ ghost use Rattle.encoding_parts.specs.Renewed.{new_items};
 
 use crate::slots::take_list;
 use std::alloc::Global;
-use types::{Ty, Value};
+use types::Value;
 
 /// A list of so many items is a long one.
 const LONG: usize = 4096;
@@ -20,15 +20,11 @@ pub struct Renewed {
 }
 
 impl Renewed {
-    /// A list without new items, in the room of the list that the value holds. Its old items are of the type, and are
-    /// dropped where values of it have no room to give. Takes no memory.
-    pub fn over(alloc: Global, ty: &Ty, value: &mut Value) -> Renewed
+    /// A list without new items, in the room of the list that the value holds. Takes no memory.
+    pub fn over(alloc: Global, value: &mut Value) -> Renewed
         ensures { new_items result ≡ [] }
     {
-        let mut items = take_list(alloc, value);
-        if let Ty::Boolean(_) | Ty::Integer(_) | Ty::Enumerated(_, _) | Ty::Null(_) = ty {
-            items.clear();
-        }
+        let items = take_list(alloc, value);
         let count = 0;
         Renewed { items, count }
     }

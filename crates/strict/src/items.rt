@@ -45,7 +45,7 @@ pub fn read_items(
     ensures value { IfOk result (λ used. (tag : Tag) → IsInsideRead (rule_of rule) (list_of ordered tag (ty_view inner.now)) inside.now.definite inside.now.room octets.now value.new used) }
     ensures refused { IfErr result (RefusesStrictly (HasItems (rule_of rule) (ty_view inner.now) ordered inside.now.definite inside.now.room []) (AreFewer inside.now.definite inside.now.room) octets.now) }
 {
-    let mut list = Renewed::over(alloc, inner, value);
+    let mut list = Renewed::over(alloc, value);
     let mut at = 0;
     let mut before = 0;
     while !ends(inside.definite, inside.room - at, &octets[at..])? {
