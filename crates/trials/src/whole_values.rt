@@ -76,6 +76,8 @@ const WITH_PARTS: &str = "\
 [1]{ INTEGER } | A1 03 02 01 05 00 00 | 5 5
 [1]{ INTEGER } | A1 80 02 01 05 00 00 00 00 | 7 5
 [1]{ INTEGER } | A1 81 03 02 01 05 00 00 | 6 5
+[31]{ INTEGER } | BF 1F 03 02 01 05 00 00 | 6 5
+[1]{ [2]{ INTEGER } } | A1 80 A2 03 02 01 05 00 00 00 00 | 9 5
 SEQUENCE{ INTEGER BOOLEAN? [0]INTEGER=5 } | 30 03 02 01 07 00 00 | 5 fields( 7 - - )
 SEQUENCE{ INTEGER BOOLEAN? [0]INTEGER=5 } | 30 80 02 01 07 01 01 FF 80 01 06 00 00 00 00 | 13 fields( 7 TRUE 6 )
 SEQUENCE{ INTEGER BOOLEAN? [0]INTEGER=5 } | 30 06 02 01 07 80 01 05 00 00 | 8 fields( 7 - - )
@@ -89,6 +91,10 @@ SEQUENCE-OF{ INTEGER } | 30 00 00 00 | 2 items( )
 SEQUENCE{ OCTETS BOOLEAN? } | 30 80 24 80 04 01 41 00 00 01 01 FF 00 00 00 00 | 14 fields( octets:41 TRUE )
 SEQUENCE-OF{ OCTETS } | 30 80 24 03 04 01 41 04 01 42 00 00 00 00 | 12 items( octets:41 octets:42 )
 SET-OF{ INTEGER } | 31 80 02 01 02 02 01 01 00 00 00 00 | 10 items( 2 1 )
+SET{ [31]INTEGER OCTETS? } | 31 0A 24 03 04 01 41 9F 1F 81 01 05 00 00 | 12 fields( 5 octets:41 )
+CHOICE{ [31]INTEGER OCTETS } | 9F 1F 81 01 05 00 00 | 5 0( 5 )
+CHOICE{ [31]INTEGER OCTETS } | 24 03 04 01 41 00 00 | 5 1( octets:41 )
+SEQUENCE-OF{ CHOICE{ [31]INTEGER OCTETS } } | 30 80 9F 1F 01 05 04 01 41 24 03 04 01 42 9F 1F 01 06 00 00 00 00 | 20 items( 0( 5 ) 1( octets:41 ) 1( octets:42 ) 0( 6 ) )
 CHOICE{ INTEGER CHOICE{ BOOLEAN SEQUENCE-OF{ INTEGER } } } | 02 01 03 00 00 | 3 0( 3 )
 CHOICE{ INTEGER CHOICE{ BOOLEAN SEQUENCE-OF{ INTEGER } } } | 01 01 FF 00 00 | 3 1( 0( TRUE ) )
 CHOICE{ INTEGER CHOICE{ BOOLEAN SEQUENCE-OF{ INTEGER } } } | 30 03 02 01 09 00 00 | 5 1( 1( items( 9 ) ) )
@@ -118,6 +124,10 @@ PrintableString | 13 01 2A | none: contents octets of no value
 BITS | 03 01 08 | none: contents octets of no value
 [1]{ INTEGER } | A1 00 | none: no encoding inside
 [1]{ INTEGER } | A1 06 02 01 05 02 01 06 | none: two encodings inside
+[1]{ [2]{ INTEGER } } | A1 80 A2 03 02 01 05 00 01 | none: octets that are no end
+CHOICE{ [31]INTEGER OCTETS } | 9F 1F 02 05 | none: octets are missing
+CHOICE{ [31]INTEGER OCTETS } | BF 1F 03 02 01 05 | none: a type that has no segments
+SET{ [31]INTEGER OCTETS? } | 31 06 BF 1F 03 02 01 05 | none: a type that has no segments
 SEQUENCE{ INTEGER BOOLEAN? [0]INTEGER=5 } | 30 00 | none: a component is missing
 SEQUENCE{ INTEGER BOOLEAN? [0]INTEGER=5 } | 30 80 00 00 | none: a component is missing
 SEQUENCE{ INTEGER BOOLEAN? [0]INTEGER=5 } | 30 06 02 01 07 02 01 07 | none: a component stands where none may
