@@ -5,7 +5,7 @@
 //! digits of the year are divisible by 4.
 
 ghost use Rattle.std.specs.Prelude.{◌≡◌, ℕ, ◌≤◌, ◌↔◌, List, ◌++◌, IsTrue, IfSome, IfNone};
-ghost use Rattle.strings.specs.Time.{IsTime, IsMoment, AreFractionDigits, IsDate, IsTimeOfDay, IsEnd, IsLeapYear, Spells, year_digits};
+ghost use Rattle.strings.specs.Time.{IsTime, IsMoment, AreFractionDigits, IsDate, IsEnd, IsLeapYear, Spells, year_digits};
 
 /// A type of times.
 #[derive(Clone, Copy, Debug, PartialEq, Eq)]
@@ -15,6 +15,9 @@ pub enum TimeKind {
     /// GeneralizedTime: four digits of the year, and perhaps a fraction of a second.
     Generalized,
 }
+
+// What two digits 0 add up to as octets, the first of them ten times.
+const ZEROS: u32 = 528;
 
 /// Whether these are the contents octets of some time of the type. Takes no memory.
 pub fn is_time(kind: TimeKind, contents: &[u8]) -> bool
@@ -33,61 +36,77 @@ fn split_moment(kind: TimeKind, octets: &[u8]) -> Option<&[u8]>
     ensures none { IfNone result
         ((moment rest : List ℕ) → IsMoment kind moment → ¬ (octets.now ≡ moment ++ rest)) }
 {
-    let (year, rest) = split_number(octets, count_of_year_digits(kind))?;
-    let (month, rest) = split_number(rest, 2)?;
-    let (day, rest) = split_number(rest, 2)?;
-    let (hour, rest) = split_number(rest, 2)?;
-    let (minute, rest) = split_number(rest, 2)?;
-    let (second, rest) = split_number(rest, 2)?;
-    if is_date(kind, year, month, day) && is_time_of_day(hour, minute, second) {
+    let (year, rest) = split_year(kind, octets)?;
+    // Asked once, so that none of the five pairs asks again.
+    if rest.len() < 10 {
+        return None;
+    }
+    let (month, rest) = split_pair(rest, 1, 12)?;
+    let (day, rest) = split_pair(rest, 1, 31)?;
+    let (hour, rest) = split_pair(rest, 0, 23)?;
+    let (minute, rest) = split_pair(rest, 0, 59)?;
+    let (second, rest) = split_pair(rest, 0, 59)?;
+    if is_date(kind, year, month, day) {
         Some(rest)
     } else {
         None
     }
 }
 
-// How many digits the year has.
-fn count_of_year_digits(kind: TimeKind) -> usize
-    ensures { result ≡ year_digits kind }
+// The year at the front of the octets, and the octets after it.
+#[inline(always)]
+fn split_year(kind: TimeKind, octets: &[u8]) -> Option<(u32, &[u8])>
+    ensures found { IfSome result (λ found. Spells (year_digits kind) found.0 octets.now found.1.now) }
+    ensures none { IfNone result
+        ((number : ℕ) (rest : List ℕ) → ¬ Spells (year_digits kind) number octets.now rest) }
 {
+    let (first, rest) = split_pair(octets, 0, 99)?;
     match kind {
-        TimeKind::Utc => 2,
-        TimeKind::Generalized => 4,
+        TimeKind::Utc => Some((first, rest)),
+        TimeKind::Generalized => {
+            let (last, rest) = split_pair(rest, 0, 99)?;
+            Some((first * 100 + last, rest))
+        }
     }
 }
 
-// The number that the first octets spell, as many digits as `count`, and the octets after them.
-fn split_number(octets: &[u8], count: usize) -> Option<(u32, &[u8])>
-    requires { count ≤ 4 }
-    ensures found { IfSome result (λ found. Spells count found.0 octets.now found.1.now) }
-    ensures none { IfNone result ((number : ℕ) (rest : List ℕ) → ¬ Spells count number octets.now rest) }
+// The number from `least` to `most` that the first two octets spell, and the octets after them.
+#[inline(always)]
+fn split_pair(octets: &[u8], least: u32, most: u32) -> Option<(u32, &[u8])>
+    requires { most ≤ 99 }
+    ensures found { IfSome result (λ found.
+        (least ≤ found.0) × (found.0 ≤ most) × Spells 2 found.0 octets.now found.1.now) }
+    ensures none { IfNone result
+        ((number : ℕ) (rest : List ℕ) → least ≤ number → number ≤ most → ¬ Spells 2 number octets.now rest) }
 {
-    if octets.len() < count {
-        return None;
-    }
-    let (digits, rest) = octets.split_at(count);
-    let mut number = 0u32;
-    for digit in digits {
-        if !digit.is_ascii_digit() {
-            return None;
+    match octets {
+        [tens, ones @ b'0'..=b'9', rest @ ..] => {
+            // In place of the tens, what is no digit puts the number out of its bounds.
+            let number = (u32::from(*tens) * 10 + u32::from(*ones)).wrapping_sub(ZEROS);
+            if least <= number && number <= most {
+                Some((number, rest))
+            } else {
+                None
+            }
         }
-        number = number * 10 + u32::from(*digit - b'0');
+        _ => None,
     }
-    Some((number, rest))
 }
 
 // Whether the year has the day.
+#[inline(always)]
 fn is_date(kind: TimeKind, year: u32, month: u32, day: u32) -> bool
     ensures { IsTrue result ↔ IsDate kind year month day }
 {
-    let last = match month {
-        2 if is_leap_year(kind, year) => 29,
-        2 => 28,
-        4 | 6 | 9 | 11 => 30,
-        1..=12 => 31,
-        _ => return false,
-    };
-    (1..=last).contains(&day)
+    if day <= 28 {
+        return 1 <= day && matches!(month, 1..=12);
+    }
+    match day {
+        29 if month == 2 => is_leap_year(kind, year),
+        29 | 30 => matches!(month, 1 | 3..=12),
+        31 => matches!(month, 1 | 3 | 5 | 7 | 8 | 10 | 12),
+        _ => false,
+    }
 }
 
 // Whether the year has a 29 February.
@@ -98,13 +117,6 @@ fn is_leap_year(kind: TimeKind, year: u32) -> bool
         TimeKind::Utc => year % 4 == 0,
         TimeKind::Generalized => (year % 4 == 0 && year % 100 != 0) || year % 400 == 0,
     }
-}
-
-// Whether a day has the time.
-fn is_time_of_day(hour: u32, minute: u32, second: u32) -> bool
-    ensures { IsTrue result ↔ IsTimeOfDay hour minute second }
-{
-    hour < 24 && minute < 60 && second < 60
 }
 
 // Whether the octets may follow the seconds.
