@@ -2,7 +2,7 @@
 //!
 //! That a BMPString has no surrogates is this project's own rule (`docs/PROFILE.md`).
 
-ghost use Rattle.std.specs.Prelude.{◌↔◌, IsTrue};
+ghost use Rattle.std.specs.Prelude.{◌↔◌, IsTrue, IsUtf8};
 ghost use Rattle.strings.specs.Alphabet.{IsText, IsNumericOctet, IsPrintableOctet, IsVisibleOctet, IsBmp, BeginsCharacter};
 
 /// A character string type.
@@ -27,12 +27,26 @@ pub fn allowed(kind: TextKind, contents: &[u8]) -> bool
     ensures { IsTrue result ↔ IsText kind contents.now }
 {
     match kind {
-        TextKind::Utf8 => simdutf8::basic::from_utf8(contents).is_ok(),
+        TextKind::Utf8 => is_utf8(contents),
         TextKind::Numeric => contents.iter().all(|octet| is_numeric(*octet)),
         TextKind::Printable => contents.iter().all(|octet| is_printable(*octet)),
         TextKind::Ia5 => contents.iter().all(|octet| *octet < 0x80),
         TextKind::Visible => contents.iter().all(|octet| is_visible(*octet)),
         TextKind::Bmp => is_bmp(contents),
+    }
+}
+
+// Whether a UTF8String may have the octets. A function of its own, since the results of its two calls
+// take room on the stack.
+#[inline(never)]
+fn is_utf8(contents: &[u8]) -> bool
+    ensures { IsTrue result ↔ IsUtf8 contents.now }
+{
+    // Below this `simdutf8` calls the other too, behind a frame for its blocks.
+    if contents.len() < 64 {
+        std::str::from_utf8(contents).is_ok()
+    } else {
+        simdutf8::basic::from_utf8(contents).is_ok()
     }
 }
 
