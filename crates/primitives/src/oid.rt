@@ -2,9 +2,10 @@
 //!
 //! The limits on the number and the size of subidentifiers are this project's own (`docs/PROFILE.md`).
 
-ghost use Rattle.std.specs.Prelude.{◌≡◌, ◌≤◌, ◌+◌, ℕ, List, [], ◌∷◌, ◌++◌, length, IfOk, OnOk, OnErr, IsErrOf};
-ghost use Rattle.octets.specs.Front.{Appends};
-ghost use Rattle.primitives.specs.Oid.{AreSubidentifiers, AreSmallSubidentifiers, IsFirstArc, IsOid, IsOidValue, IsRelativeOid, IsRelativeOidValue};
+ghost use Rattle.std.specs.Prelude.{◌≡◌, ◌≤◌, ◌<◌, ◌+◌, ◌-◌, ◌*◌, ◌^◌, ℕ, min, List, [], ◌∷◌, ◌++◌, length, vec_len, vec_capacity, IfOk, OnOk, OnErr, IsErrOf};
+ghost use Rattle.octets.specs.Base128.{IsBase128};
+ghost use Rattle.octets.specs.Front.{Appends, HasFront};
+ghost use Rattle.primitives.specs.Oid.{AreSubidentifiers, AreSmallSubidentifiers, AreTwoRead, IsFirstArc, IsOneRead, IsOid, IsOidValue, IsRelativeOid, IsRelativeOidValue};
 
 use crate::subidentifier::read_subidentifier;
 use crate::{Fault, MAX_SUBIDENTIFIERS};
@@ -29,27 +30,73 @@ pub fn read_oid_into(contents: &[u8], arcs: &mut Vec<u128>) -> Result<(), Fault>
     ensures within { OnOk result (IsOidValue arcs.new.items) }
     ensures none { IsErrOf result Fault.Contents → (arcs : List ℕ) → IsOidValue arcs → ¬ IsOid arcs contents.now }
 {
-    let Some((shared, used)) = read_subidentifier(contents) else {
+    clear_for_two(arcs)?;
+    let used = put_two_arcs(contents, arcs);
+    if used == 0 {
         return Err(Fault::Contents);
-    };
-    let first = first_arc(shared);
-    arcs.clear();
-    put_number(first, arcs)?;
-    put_number(shared - 40 * first, arcs)?;
+    }
     // One arc more than subidentifiers.
     read_subidentifiers(&contents[used..], MAX_SUBIDENTIFIERS + 1, arcs)
 }
 
-// The first arc of the two that share a subidentifier.
-fn first_arc(shared: u128) -> u128
-    ensures { IsFirstArc shared result }
+// Empties the vector, and makes room for two numbers where there is none.
+#[inline(always)]
+fn clear_for_two(numbers: &mut Vec<u128>) -> Result<(), AllocError>
+    ensures items { OnOk result (numbers.new.items ≡ []) }
+    ensures room { OnOk result (vec_len numbers.new + 2 ≤ vec_capacity numbers.new) }
+{
+    numbers.clear();
+    if numbers.capacity() < 2 {
+        numbers.reserve(2)?;
+    }
+    Ok(())
+}
+
+// Appends the two arcs of the subidentifier at the front of `octets`, and says how many octets it has: mostly one.
+// None where there is no subidentifier within the limit.
+#[inline(always)]
+fn put_two_arcs(octets: &[u8], arcs: &mut Vec<u128>) -> usize
+    requires { vec_len arcs.old + 2 ≤ vec_capacity arcs.old }
+    ensures value { 1 ≤ result → AreTwoRead octets.now arcs.old.items arcs.new.items result }
+    ensures none { result ≡ 0 → (number : ℕ) → number < 2 ^ 128 → ¬ HasFront (IsBase128 number) octets.now }
+{
+    if !octets.is_empty() && octets[0] < 0x80 {
+        let (first, second) = two_arcs(u128::from(octets[0]));
+        arcs.push_reserved(first);
+        arcs.push_reserved(second);
+        return 1;
+    }
+    put_long_two_arcs(octets, arcs)
+}
+
+// Appends the two arcs of a subidentifier of any size.
+#[inline(never)]
+fn put_long_two_arcs(octets: &[u8], arcs: &mut Vec<u128>) -> usize
+    requires { vec_len arcs.old + 2 ≤ vec_capacity arcs.old }
+    ensures value { 1 ≤ result → AreTwoRead octets.now arcs.old.items arcs.new.items result }
+    ensures none { result ≡ 0 → (number : ℕ) → number < 2 ^ 128 → ¬ HasFront (IsBase128 number) octets.now }
+{
+    let Some((shared, used)) = read_subidentifier(octets) else {
+        return 0;
+    };
+    let (first, second) = two_arcs(shared);
+    arcs.push_reserved(first);
+    arcs.push_reserved(second);
+    used
+}
+
+// The two arcs that share a subidentifier.
+#[inline(always)]
+fn two_arcs(shared: u128) -> (u128, u128)
+    ensures first { IsFirstArc shared result.0 }
+    ensures second { result.1 ≡ shared - 40 * result.0 }
 {
     if shared < 40 {
-        0
+        (0, shared)
     } else if shared < 80 {
-        1
+        (1, shared - 40)
     } else {
-        2
+        (2, shared - 80)
     }
 }
 
@@ -68,6 +115,7 @@ pub fn read_relative_oid(alloc: Global, contents: &[u8]) -> Result<Vec<u128>, Fa
 }
 
 // Appends the subidentifiers of contents octets to the vector, which gets no longer than `most`.
+#[inline(always)]
 fn read_subidentifiers(contents: &[u8], most: usize, arcs: &mut Vec<u128>) -> Result<(), Fault>
     requires { length arcs.old.items ≤ most }
     ensures appended { OnOk result (Appends (λ numbers. AreSmallSubidentifiers numbers contents.now) arcs.old.items arcs.new.items) }
@@ -75,37 +123,74 @@ fn read_subidentifiers(contents: &[u8], most: usize, arcs: &mut Vec<u128>) -> Re
     ensures none { IsErrOf result Fault.Contents → (numbers : List ℕ) → length arcs.old.items + length numbers ≤ most → ¬ AreSmallSubidentifiers numbers contents.now }
 {
     let mut start = 0usize;
+    let mut room = room_within(most, arcs);
     while start < contents.len() {
-        if arcs.len() == most {
+        if arcs.len() >= room {
+            if arcs.len() == most {
+                return Err(Fault::Contents);
+            }
+            arcs.reserve(1)?;
+            room = room_within(most, arcs);
+        }
+        let used = put_number(&contents[start..], arcs);
+        if used == 0 {
             return Err(Fault::Contents);
         }
-        let Some((number, used)) = read_subidentifier(&contents[start..]) else {
-            return Err(Fault::Contents);
-        };
-        put_number(number, arcs)?;
         start += used;
     }
     Ok(())
 }
 
-// Appends a number: mostly there is room for it.
+// Appends the subidentifier at the front of `octets`, and says how many octets it has: mostly one to three. None
+// where there is no subidentifier within the limit.
 #[inline(always)]
-fn put_number(number: u128, numbers: &mut Vec<u128>) -> Result<(), AllocError>
-    ensures { OnOk result (numbers.new.items ≡ numbers.old.items ++ number ∷ []) }
+fn put_number(octets: &[u8], numbers: &mut Vec<u128>) -> usize
+    requires { vec_len numbers.old < vec_capacity numbers.old }
+    ensures value { 1 ≤ result → IsOneRead octets.now numbers.old.items numbers.new.items result }
+    ensures none { result ≡ 0 → (number : ℕ) → number < 2 ^ 128 → ¬ HasFront (IsBase128 number) octets.now }
+    ensures capacity { vec_capacity numbers.new ≡ vec_capacity numbers.old }
 {
-    if numbers.len() < numbers.capacity() {
-        numbers.push_reserved(number);
-        return Ok(());
+    if !octets.is_empty() && octets[0] < 0x80 {
+        numbers.push_reserved(u128::from(octets[0]));
+        return 1;
     }
-    grow_by_number(number, numbers)
+    // Octet 80 would be a leading zero.
+    if octets.len() > 1 && octets[0] > 0x80 && octets[1] < 0x80 {
+        let number = u32::from(octets[0] - 0x80) * 128 + u32::from(octets[1]);
+        numbers.push_reserved(u128::from(number));
+        return 2;
+    }
+    if octets.len() > 2 && octets[0] > 0x80 && octets[1] >= 0x80 && octets[2] < 0x80 {
+        let front = u32::from(octets[0] - 0x80) * 128 + u32::from(octets[1] - 0x80);
+        numbers.push_reserved(u128::from(front * 128 + u32::from(octets[2])));
+        return 3;
+    }
+    put_long_number(octets, numbers)
 }
 
-// Appends a number, and makes room for it where there is none.
+// Appends the subidentifier at the front of `octets`, of any size.
 #[inline(never)]
-fn grow_by_number(number: u128, numbers: &mut Vec<u128>) -> Result<(), AllocError>
-    ensures { OnOk result (numbers.new.items ≡ numbers.old.items ++ number ∷ []) }
+fn put_long_number(octets: &[u8], numbers: &mut Vec<u128>) -> usize
+    requires { vec_len numbers.old < vec_capacity numbers.old }
+    ensures value { 1 ≤ result → IsOneRead octets.now numbers.old.items numbers.new.items result }
+    ensures none { result ≡ 0 → (number : ℕ) → number < 2 ^ 128 → ¬ HasFront (IsBase128 number) octets.now }
+    ensures capacity { vec_capacity numbers.new ≡ vec_capacity numbers.old }
 {
-    Ok(numbers.push(number)?)
+    let Some((number, used)) = read_subidentifier(octets) else {
+        return 0;
+    };
+    numbers.push_reserved(number);
+    used
+}
+
+// How many numbers the vector may hold before it is looked at again: it has room for them, and they are not past
+// `most`.
+#[inline(always)]
+fn room_within(most: usize, numbers: &Vec<u128>) -> usize
+    ensures { result ≡ min (vec_capacity numbers.now) most }
+{
+    let room = numbers.capacity();
+    if room < most { room } else { most }
 }
 
 /// Appends the contents octets of an OBJECT IDENTIFIER.

@@ -7,6 +7,8 @@ abbrev pub invariant-loop-start : goal.invariant-loop-start
 invariant-loop-start l = record {
   read : Appends (AreRead l.contents l.start) l.fn.arcs.items l.arcs.items;
   within : length l.arcs.items ≤ l.most;
+  room_there : l.room ≤ l.arcs.cap;
+  room_within : l.room ≤ l.most;
 }
 
 abbrev pub decreases-loop-start : goal.decreases-loop-start
