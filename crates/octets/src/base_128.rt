@@ -20,20 +20,32 @@ pub fn put_base_128(out: &mut Vec<u8>, number: u128) -> Result<(), NoMemory>
     put_long_base_128(out, number)
 }
 
-// Appends the octets of `number` in base 128, of any size.
+// Appends the octets of `number` in base 128, of any size: mostly two or three, for which there is room.
 #[inline(never)]
 fn put_long_base_128(out: &mut Vec<u8>, number: u128) -> Result<(), NoMemory>
     ensures appended { OnOk result (Appends (IsBase128 number) out.old.items out.new.items) }
     ensures unchanged { OnErr result (out.new.items ≡ out.old.items) }
 {
-    if number < 0x80 {
-        out.push(number as u8)?;
+    if number >= 0x80 && number < 0x4000 && out.capacity() - out.len() >= 2 {
+        out.push_reserved(0x80 + (number / 128) as u8);
+        out.push_reserved((number % 128) as u8);
         return Ok(());
     }
-    if number < 0x4000 {
-        out.extend_from_slice(&[0x80 + (number / 128) as u8, (number % 128) as u8])?;
+    if number >= 0x4000 && number < 0x20_0000 && out.capacity() - out.len() >= 3 {
+        out.push_reserved(0x80 + (number / 128 / 128) as u8);
+        out.push_reserved(0x80 + (number / 128 % 128) as u8);
+        out.push_reserved((number % 128) as u8);
         return Ok(());
     }
+    put_any_base_128(out, number)
+}
+
+// Appends the octets of `number` in base 128, of any size, and makes room for them.
+#[inline(never)]
+fn put_any_base_128(out: &mut Vec<u8>, number: u128) -> Result<(), NoMemory>
+    ensures appended { OnOk result (Appends (IsBase128 number) out.old.items out.new.items) }
+    ensures unchanged { OnErr result (out.new.items ≡ out.old.items) }
+{
     // The octets come from the last to the first, and stand at the end of the room for nineteen.
     let mut room = [0u8; 19];
     let mut start = 18usize;

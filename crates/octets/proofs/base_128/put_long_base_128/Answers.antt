@@ -1,29 +1,26 @@
-use Rattle.std.proofs.Common.{◌≡◌, ◌-◌, ◌+◌, ◌/◌, ◌%◌, ℕ, List, [], ◌∷◌, refl, ◌∙◌, ap, subst, arith, ◌++◌, drop, take, replicate}
-use Rattle.std.proofs.lemmas.List.{take_all, length-drop}
-use Rattle.octets.proofs.Base128SpellingLemmas.{IsBase128Spelling, IsBase128Spelling-last, IsBase128Spelling-step, IsBase128-from_spelling}
-use Rattle.octets.proofs.Base128Lemmas.{base_128-pair}
+use Rattle.std.proofs.Common.{◌+◌, ◌/◌, ◌%◌, [], ◌∷◌, ◌++◌, ◌∙◌, ap, arith, append_assoc}
+use Rattle.octets.proofs.Base128Lemmas.{base_128-pair, base_128-triple}
 use Rattle.octets.proofs.base_128.put_long_base_128.Goals as goal
 
-pub loop-rest-init : goal.loop-rest-init
-loop-rest-init c =
-    IsBase128Spelling-last c.args.number (replicate {A = ℕ} 19 0) c.ranges.number.fits refl
-
-pub loop-rest-preserved : goal.loop-rest-preserved
-loop-rest-preserved c = IsBase128Spelling-step c.args.number c.loop-rest.rest c.loop-rest.start c.loop-rest.room c.loop-rest.invariant c.loop-rest-test.true
-
-pub returns-then-number-lt16384-clause-appended : goal.returns-then-number-lt16384-clause-appended
-returns-then-number-lt16384-clause-appended c =
+pub returns-then-capacity-len-ge2-clause-appended : goal.returns-then-capacity-len-ge2-clause-appended
+returns-then-capacity-len-ge2-clause-appended c =
     let n = c.args.number in
-    ((128 + n / 128) ∷ (n % 128) ∷ [], c.in_ok-extend_from_slice.ensures.items, base_128-pair n (omega arith) (omega arith))
+    let first = 128 + n / 128 in
+    let last = n % 128 in (
+      first ∷ last ∷ [],
+      c.push_reserved-then-capacity-len-ge2.ensures.items ∙ (ap (λ t. t ++ last ∷ []) c.push_reserved.ensures.items ∙ append_assoc c.args.out.now.items (first ∷ []) (last ∷ [])),
+      base_128-pair n (omega arith) (omega arith),
+    )
 
-pub returns-clause-appended : goal.returns-clause-appended
-returns-clause-appended c =
-    let at = c.loop-rest.start in
-    let spelt : List ℕ = c.loop-rest.room in
-    let whole : take (19 - at) (drop at spelt) ≡ drop at spelt = take_all (19 - at) (drop at spelt) (omega (arith, length-drop at spelt, c.loop-rest.invariant.size)) in
-    let done : c.loop-rest.rest ≡ 0 = omega arith in
-    let spelling = subst (λ r. IsBase128Spelling c.args.number r at spelt) done c.loop-rest.invariant in (
-      drop at spelt,
-      c.in_ok-extend_from_slice-2.ensures.items ∙ ap (λ x. c.args.out.now.items ++ x) whole,
-      IsBase128-from_spelling c.args.number at spelt spelling,
+pub returns-then-capacity-len-ge3-clause-appended : goal.returns-then-capacity-len-ge3-clause-appended
+returns-then-capacity-len-ge3-clause-appended c =
+    let n = c.args.number in
+    let old = c.args.out.now.items in
+    let first = 128 + n / 128 / 128 in
+    let second = 128 + n / 128 % 128 in
+    let last = n % 128 in
+    let two = c.push_reserved-then-capacity-len-ge3-2.ensures.items ∙ (ap (λ t. t ++ second ∷ []) c.push_reserved-then-capacity-len-ge3.ensures.items ∙ append_assoc old (first ∷ []) (second ∷ [])) in (
+      first ∷ second ∷ last ∷ [],
+      c.push_reserved-then-capacity-len-ge3-3.ensures.items ∙ (ap (λ t. t ++ last ∷ []) two ∙ append_assoc old (first ∷ second ∷ []) (last ∷ [])),
+      base_128-triple n (omega arith) (omega arith),
     )

@@ -1,5 +1,5 @@
 use Rattle.octets.proofs.Base128SpellingLemmas.{IsBase128Spelling}
-use Rattle.octets.proofs.base_128.put_long_base_128.Given as goal
+use Rattle.octets.proofs.base_128.put_any_base_128.Given as goal
 
 -- the octets that stand and the number that is left make the number
 abbrev pub invariant-loop-rest : goal.invariant-loop-rest
