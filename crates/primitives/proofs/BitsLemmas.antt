@@ -9,8 +9,6 @@ use Rattle.std.proofs.Math.Nat.{pow-suc}
 use Rattle.std.specs.Cmp.{booleans_Decides}
 use Rattle.std.specs.Cmp.Lexicographic.{pointwise, pointwise_decides}
 use mathlib.Core.Bool.{beq}
-use Rattle.std.specs.Prelude.{Option, Some, None, Err, IfSome, IsSome, IfOk}
-use Rattle.std.specs.Option.{ok_or}
 use Rattle.octets.specs.Rule.{Rule, ber, cer, der, IsCanonical}
 use Rattle.octets.proofs.DigitLemmas.{All-tail}
 use Rattle.primitives.specs.Bits.{bit_of, bits_of_octet, bits_of, bits_before, AreUnused, IsBits, CanBeUnused, IsFrontOf, IsPadded}
@@ -363,15 +361,3 @@ unequal_padding b d o p u v f g differ =
     let same = (pointwise_decides booleans_Decides b d).0 e in
     let one = one_padding d o p u v (subst (λ t. IsPadded t o u) same f) g in
     differ one.octets one.unused)
-
--- what is read where `new` returns some bits, or none
-pub read_bits-value : {E : Type 0} (o : Option (List Bool)) (e : E) (unused : ℕ) (octets contents : List ℕ) → contents ≡ unused ∷ octets → All (λ x. x < 256) octets → (IsSome o → CanBeUnused unused octets) → IfSome o (λ bits. IsFrontOf bits unused octets)
-    → IfOk (ok_or o e) (λ bits. IsBits ber bits contents)
-read_bits-value None e unused octets contents whole below can front = tt
-read_bits-value (Some bits) e unused octets contents whole below can front =
-    let h = can refl in
-    subst (IsBits ber bits) (sym whole) (IsBits-from_front bits unused octets h.at_most_7 below front)
-
-pub ok_or-some : {T E : Type 0} (o : Option T) (e f : E) → IsSome o → ok_or o e ≡ Err f → ⊥
-ok_or-some None e f some h = absurd (cc some)
-ok_or-some (Some x) e f some h = cc h

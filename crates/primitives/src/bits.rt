@@ -34,18 +34,11 @@ impl Bits {
         ensures value { IfSome result (λ bits. IsFrontOf bits unused octets.items) }
         ensures some { IsSome result ↔ CanBeUnused unused octets.items }
     {
-        if unused > 7 {
-            return None;
+        if clear_unused(&mut octets, unused) {
+            Some(Bits { octets, unused })
+        } else {
+            None
         }
-        if unused == 0 {
-            return Some(Bits { octets, unused });
-        }
-        if octets.is_empty() {
-            return None;
-        }
-        let last = octets.len() - 1;
-        octets[last] = octets[last] >> unused << unused;
-        Some(Bits { octets, unused })
     }
 
     /// The octets that `new` would take for these bits. The unused bits are zero.
@@ -60,11 +53,6 @@ impl Bits {
         ensures { (octets : List ℕ) × IsPadded self.now octets result }
     {
         self.unused
-    }
-
-    /// The vector in which the octets are.
-    pub fn into_octets(self) -> Vec<u8> {
-        self.octets
     }
 
     /// Whether there are no bits, or the last one is 1 (X.690 11.2.2). Takes no memory.
@@ -120,27 +108,59 @@ fn count_before_zeros(octets: &[u8]) -> usize
     count
 }
 
+// Clears the last bits of the octets, and says whether so many can be unused; where not, all stay.
+#[inline(always)]
+fn clear_unused(octets: &mut Vec<u8>, unused: u8) -> bool
+    ensures can { IsTrue result ↔ CanBeUnused unused octets.old.items }
+    ensures front { IsTrue result → IsFrontOf (bits_before octets.new.items unused) unused octets.old.items }
+    ensures padded { IsTrue result → IsPadded (bits_before octets.new.items unused) octets.new.items unused }
+    ensures kept { result ≡ false → octets.new.items ≡ octets.old.items }
+{
+    if unused > 7 {
+        return false;
+    }
+    if unused == 0 {
+        return true;
+    }
+    if octets.is_empty() {
+        return false;
+    }
+    let last = octets.len() - 1;
+    octets[last] = octets[last] >> unused << unused;
+    true
+}
+
 /// The value of a BIT STRING's contents octets in a primitive encoding under BER. Unused bits need not
 /// be zero, as CER and DER want them.
 pub fn read_bits(alloc: Global, contents: &[u8]) -> Result<Bits, Fault>
     ensures value { IfOk result (λ bits. IsBits ber bits contents.now) }
     ensures none { IsErrOf result Fault.Contents → (bits : List Bool) → ¬ IsBits ber bits contents.now }
 {
-    read_bits_in(Vec::new(alloc), contents)
+    let mut bits = Bits {
+        octets: Vec::new(alloc),
+        unused: 0,
+    };
+    read_bits_into(contents, &mut bits)?;
+    Ok(bits)
 }
 
-/// The value that `read_bits` returns, in the room of a vector, whose octets are dropped.
-pub fn read_bits_in(room: Vec<u8>, contents: &[u8]) -> Result<Bits, Fault>
-    ensures value { IfOk result (λ bits. IsBits ber bits contents.now) }
-    ensures none { IsErrOf result Fault.Contents → (bits : List Bool) → ¬ IsBits ber bits contents.now }
+/// Puts the value of a BIT STRING's contents octets in a primitive encoding under BER in place of the bits, where they
+/// have room if it has. Where the octets are refused, there may be any bits.
+pub fn read_bits_into(contents: &[u8], bits: &mut Bits) -> Result<(), Fault>
+    ensures value { OnOk result (IsBits ber bits.new contents.now) }
+    ensures none { IsErrOf result Fault.Contents → (value : List Bool) → ¬ IsBits ber value contents.now }
 {
     let Some((&unused, data)) = contents.split_first() else {
         return Err(Fault::Contents);
     };
-    let mut octets = room;
-    octets.clear();
-    octets.extend_from_slice(data)?;
-    Bits::new(octets, unused).ok_or(Fault::Contents)
+    bits.unused = 0;
+    bits.octets.clear();
+    bits.octets.extend_from_slice(data)?;
+    if !clear_unused(&mut bits.octets, unused) {
+        return Err(Fault::Contents);
+    }
+    bits.unused = unused;
+    Ok(())
 }
 
 /// Appends the contents octets of a BIT STRING in a primitive encoding under CER and DER.

@@ -13,7 +13,7 @@ mod null;
 mod oid;
 mod subidentifier;
 
-pub use bits::{Bits, put_bits, read_bits, read_bits_in};
+pub use bits::{Bits, put_bits, read_bits, read_bits_into};
 pub use boolean::{put_boolean, read_boolean};
 pub use fault::Fault;
 pub use integer::{integer_at_end, is_wide_integer, put_integer, read_integer};
