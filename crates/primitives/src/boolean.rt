@@ -19,6 +19,7 @@ pub fn read_boolean(contents: &[u8]) -> Option<bool>
 }
 
 /// Appends the contents octets of a BOOLEAN under CER and DER (X.690 11.1).
+#[inline(always)]
 pub fn put_boolean(out: &mut Vec<u8>, value: bool) -> Result<(), NoMemory>
     ensures appended { OnOk result (Appends (IsCanonicalBoolean value) out.old.items out.new.items) }
     ensures unchanged { OnErr result (out.new.items ≡ out.old.items) }
