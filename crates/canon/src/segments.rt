@@ -166,12 +166,12 @@ fn put_primitive(tag: Tag, lead: &[u8], octets: &[u8], out: &mut Vec<u8>) -> Res
 
 // Appends the first contents octet of a BIT STRING; other strings have none.
 fn put_lead(lead: &[u8], out: &mut Vec<u8>) -> Result<(), NoMemory>
+    requires { length lead.now ≤ 1 }
     ensures appended { OnOk result (out.new.items ≡ out.old.items ++ lead.now) }
     ensures unchanged { OnErr result (out.new.items ≡ out.old.items) }
 {
-    if lead.is_empty() {
-        return Ok(());
+    if let [first] = lead {
+        out.push(*first)?;
     }
-    out.extend_from_slice(lead)?;
     Ok(())
 }
