@@ -8,10 +8,11 @@ ghost use Rattle.types.specs.View.{ty_view, value_view};
 ghost use Rattle.encoding_parts.specs.Contents.{IsEnumerated, HoldsValue, octets_view, text_view};
 
 use crate::contents::read_contents;
-use crate::slots::take_bits;
+use crate::slots::{set_boolean, set_integer};
 use octets::Tag;
 use primitives::{
-    MAX_SUBIDENTIFIERS, is_wide_integer, read_bits_in, read_boolean, read_integer, read_oid_into,
+    MAX_SUBIDENTIFIERS, is_wide_integer, read_bits, read_bits_into, read_boolean, read_integer,
+    read_oid_into,
 };
 use std::alloc::Global;
 use strings::{allowed, is_time};
@@ -28,14 +29,14 @@ pub fn fill(alloc: Global, ty: &Ty, contents: &[u8], value: &mut Value) -> bool
     match ty {
         Ty::Boolean(_) => match read_boolean(contents) {
             Some(truth) => {
-                *value = Value::Boolean(truth);
+                set_boolean(truth, value);
                 true
             }
             None => false,
         },
         Ty::Integer(tag) => match read_integer(contents) {
             Some(number) => {
-                *value = Value::Integer(number);
+                set_integer(number, value);
                 true
             }
             None => fill_wide_integer(alloc, *tag, contents, value),
@@ -135,7 +136,10 @@ fn fill_oid(alloc: Global, tag: Tag, contents: &[u8], value: &mut Value) -> bool
 fn fill_bits(alloc: Global, tag: Tag, contents: &[u8], value: &mut Value) -> bool
     ensures { IsTrue result → HoldsValue ber (Shape.string tag StringType.bit_string) (value_view value.new) contents.now }
 {
-    match read_bits_in(take_bits(alloc, value), contents) {
+    if let Value::Bits(bits) = value {
+        return read_bits_into(contents, bits).is_ok();
+    }
+    match read_bits(alloc, contents) {
         Ok(bits) => {
             *value = Value::Bits(bits);
             true

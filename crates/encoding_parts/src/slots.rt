@@ -3,6 +3,7 @@
 ghost use Rattle.std.specs.Prelude.{◌≡◌, [], None, length, map, IfOk, IsTrue};
 ghost use Rattle.types.specs.Shape.{Val};
 ghost use Rattle.types.specs.View.{field_view, value_view};
+ghost use Rattle.types.specs.declared.value.Value.TheVariants.{Boolean, Integer};
 
 use octets::NoMemory;
 use std::alloc::Global;
@@ -61,12 +62,28 @@ pub fn take_list(alloc: Global, value: &mut Value) -> Vec<Value> {
     }
 }
 
-/// Takes out the vector of the bits that the value holds, if it does; else there is an empty one. Takes no memory.
-pub fn take_bits(alloc: Global, value: &mut Value) -> Vec<u8> {
-    match std::mem::replace(value, Value::Null) {
-        Value::Bits(bits) => bits.into_octets(),
-        _other => Vec::new(alloc),
+/// Makes the value a BOOLEAN. Where it is one, there is nothing to drop.
+#[inline(always)]
+pub fn set_boolean(truth: bool, value: &mut Value)
+    ensures { value_view value.new ≡ value_view (Boolean truth) }
+{
+    if let Value::Boolean(old) = value {
+        *old = truth;
+        return;
     }
+    *value = Value::Boolean(truth);
+}
+
+/// Makes the value an INTEGER. Where it is one, there is nothing to drop.
+#[inline(always)]
+pub fn set_integer(number: i128, value: &mut Value)
+    ensures { value_view value.new ≡ value_view (Integer number) }
+{
+    if let Value::Integer(old) = value {
+        *old = number;
+        return;
+    }
+    *value = Value::Integer(number);
 }
 
 /// Makes the value one of the alternative at this place, in the box that is there, if one is, and says whether it has;

@@ -11,9 +11,9 @@ ghost use Rattle.strict.specs.Leaf.{IsBitsOf, IsBooleanOf};
 ghost use Rattle.strict.specs.Reading.{IsRead};
 
 use crate::values::{has_zeros_unused, read_truth, read_value};
-use encoding_parts::{fill, short_primitive, take_bits};
+use encoding_parts::{fill, set_boolean, short_primitive};
 use octets::Tag;
-use primitives::read_bits_in;
+use primitives::{read_bits, read_bits_into};
 use std::alloc::Global;
 use types::{Ty, Value};
 
@@ -63,7 +63,7 @@ fn fill_truth(contents: &[u8], value: &mut Value) -> bool
     let Ok(truth) = read_truth(contents) else {
         return false;
     };
-    *value = Value::Boolean(truth);
+    set_boolean(truth, value);
     true
 }
 
@@ -72,14 +72,14 @@ fn fill_truth(contents: &[u8], value: &mut Value) -> bool
 fn fill_bits(alloc: Global, contents: &[u8], value: &mut Value) -> bool
     ensures { IsTrue result → IsBitsOf (value_view value.new) contents.now }
 {
-    let Ok(bits) = read_bits_in(take_bits(alloc, value), contents) else {
+    if let Value::Bits(bits) = value {
+        return read_bits_into(contents, bits).is_ok() && has_zeros_unused(contents);
+    }
+    let Ok(bits) = read_bits(alloc, contents) else {
         return false;
     };
-    if !has_zeros_unused(contents) {
-        return false;
-    }
     *value = Value::Bits(bits);
-    true
+    has_zeros_unused(contents)
 }
 
 // Makes the value one of any type without parts.
