@@ -62,8 +62,8 @@ pub fn read_leaf_behind(
     }
 }
 
-// Makes the value that of the contents octets of a primitive encoding, and says whether it has. Of the readers that
-// call it each looks at the head itself, so that only what has the tag costs a call.
+// Makes the value that of the contents octets of a primitive encoding, and says whether it has. This alone is a call: a
+// component that is absent, as its tag shows, costs none.
 #[inline(never)]
 fn fill_leaf(alloc: Global, ty: &Ty, contents: &[u8], value: &mut Value) -> bool
     requires { IsLeaf (ty_view ty.now) }

@@ -9,7 +9,7 @@ use Rattle.types.specs.declared.ty.Field as field
 use Rattle.types.specs.Form.{IsConstructed}
 use Rattle.types.specs.Shape.{Shape, Val}
 use Rattle.types.specs.View.{ty_view, field_view, components_view, alternatives_view, value_view}
-use Rattle.types.proofs.ViewLemmas.{ty-Sequence, ty-Set, ty-Explicit}
+use Rattle.types.proofs.ViewLemmas.{ty-Sequence, ty-Set}
 use Rattle.encoding_parts.specs.Parts.{Parts, IsVacant, IsGoodType}
 use Rattle.encoding_parts.specs.HeldParts.{come_view}
 use Rattle.encoding_parts.proofs.SetComponentLemmas.{members_in_slots, vacant_below}
