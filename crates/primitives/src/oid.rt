@@ -52,8 +52,8 @@ fn clear_for_two(numbers: &mut Vec<u128>) -> Result<(), AllocError>
     Ok(())
 }
 
-// Appends the two arcs of the subidentifier at the front of `octets`, and says how many octets it has: mostly one.
-// None where there is no subidentifier within the limit.
+// Appends the two arcs of the subidentifier at the front of `octets`, and says how many octets it has: mostly one. It
+// is 0 where there is no subidentifier within the limit.
 #[inline(always)]
 fn put_two_arcs(octets: &[u8], arcs: &mut Vec<u128>) -> usize
     requires { vec_len arcs.old + 2 ≤ vec_capacity arcs.old }
@@ -141,7 +141,7 @@ fn read_subidentifiers(contents: &[u8], most: usize, arcs: &mut Vec<u128>) -> Re
     Ok(())
 }
 
-// Appends the subidentifier at the front of `octets`, and says how many octets it has: mostly one to three. None
+// Appends the subidentifier at the front of `octets`, and says how many octets it has: mostly one to three. It is 0
 // where there is no subidentifier within the limit.
 #[inline(always)]
 fn put_number(octets: &[u8], numbers: &mut Vec<u128>) -> usize
