@@ -1,5 +1,6 @@
 -- Lemmas on encodings of types without parts.
 use Rattle.std.proofs.Common.{◌≡◌, ◌+◌, ◌-◌, ◌<◌, ◌≤◌, ℕ, Bool, true, false, IsTrue, List, [], Option, Some, IfSome, Result, Ok, Err, IfOk, length, take, drop, refl, sym, ap, ◌∙◌, subst, arith}
+use Rattle.std.specs.Prelude.{slice_range}
 use Rattle.std.specs.Bool.{then_some}
 use Rattle.std.specs.Result.{result_ok}
 use Rattle.std.proofs.Math.Seq.{take-add}
@@ -21,11 +22,26 @@ use Rattle.encoding_parts.specs.Contents.{HoldsValue}
 use Rattle.encoding_parts.specs.Joined.{value_of}
 use Rattle.encoding_parts.specs.Parts.{IsGoodType, IsPartOf}
 use Rattle.encoding_parts.specs.Segments.{stack, IsBegun, IsPassed, IsSound, IsTaken}
+use Rattle.encoding_parts.specs.Head.{IsShortPrimitive}
+use Rattle.encoding_parts.proofs.HeadLemmas.{IsPrimitive-from_parts}
 use Rattle.encoding_parts.proofs.ReadingLemmas.{passed_more, passed_read}
 use Rattle.encoding_parts.proofs.TypedLemmas.{part_of_joined}
 use Rattle.encoding_parts.proofs.WithinLemmas.{part_of_contents, usable_tag}
 use Rattle.berslice.specs.Heads.{IsPrimitiveAt}
+use Rattle.berslice.proofs.HeadLemmas.{octet_at, short_length}
 use Rattle.berslice.specs.Reading.{IsRead}
+
+-- a primitive encoding with two octets before its contents octets
+pub short_at : (tag : Tag) (octets : List ℕ) (stop : ℕ) → IsShortPrimitive tag (length octets) octets stop → IsPrimitiveAt tag octets (slice_range octets 2 stop) stop
+short_at tag octets stop short =
+    let n = short.contents in
+    let tagged : IsIdentifier tag false (take 1 octets) = subst (IsIdentifier tag false) (sym (octet_at 0 octets (omega (arith, short.counted, short.there)))) short.tagged in
+    let sized = short_length n 1 octets (omega (arith, short.counted, short.there)) (omega (arith, short.low, short.sized)) short.sized in
+    let whole : IsPrimitive ber tag (slice_range octets 2 (2 + n)) (take (2 + n) octets) = IsPrimitive-from_parts tag 1 1 n octets tagged sized (omega (arith, short.counted, short.there)) in
+    record {
+      there = short.there;
+      whole = subst (λ m. IsPrimitive ber tag (slice_range octets 2 m) (take m octets)) (sym short.counted) whole;
+    }
 
 -- what the contents octets hold is what they encode
 pub part_held : (levels : ℕ) (type : Shape) (contents octets : List ℕ) (v : Val) → IsUsable (tag_of type) → HoldsValue ber type v contents → IsPrimitive ber (tag_of type) contents octets → IsPartOf levels type v octets

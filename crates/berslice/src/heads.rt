@@ -50,27 +50,8 @@ pub fn identifier_of(octets: &[u8]) -> Option<Identifier>
     }
 }
 
-// The contents octets of the primitive encoding at the front, if it has the tag, and how many octets it has. Mostly
-// two octets stand before them.
-#[inline(always)]
-pub fn primitive(tag: Tag, octets: &[u8]) -> Option<(&[u8], usize)>
-    ensures { IfSome result (λ p. IsPrimitiveAt tag octets.now p.0.now p.1) }
-{
-    if tag.number < 31 && octets.len() >= 2 && octets[1] < 0x80 {
-        if octets[0] != leading_octet(tag) {
-            return None;
-        }
-        let stop = 2 + usize::from(octets[1]);
-        if stop > octets.len() {
-            return None;
-        }
-        return Some((&octets[2..stop], stop));
-    }
-    long_primitive(tag, octets)
-}
-
-// The contents octets of the encoding at the front, of which these are the identifier octets, if it is primitive, and
-// how many octets it has. Mostly one octet stands between.
+// The contents octets of the encoding at the front, of which these are the identifier octets, if it is primitive and
+// has one length octet, and how many octets it has.
 #[inline(always)]
 pub fn behind(identifier: Identifier, octets: &[u8]) -> Option<(&[u8], usize)>
     requires { IsIdentifierOf identifier octets.now }
@@ -85,12 +66,11 @@ pub fn behind(identifier: Identifier, octets: &[u8]) -> Option<(&[u8], usize)>
         }
         return Some((&octets[start..stop], stop));
     }
-    long_primitive(identifier.tag, octets)
+    None
 }
 
-// The contents octets of a primitive encoding and its end, whatever its identifier and length are.
-#[inline(never)]
-fn long_primitive(tag: Tag, octets: &[u8]) -> Option<(&[u8], usize)>
+// The contents octets of the primitive encoding at the front, if it has the tag, and how many octets it has.
+pub fn primitive(tag: Tag, octets: &[u8]) -> Option<(&[u8], usize)>
     ensures { IfSome result (λ p. IsPrimitiveAt tag octets.now p.0.now p.1) }
 {
     let start = begun(tag, false, octets)?;

@@ -11,7 +11,7 @@ ghost use Rattle.berslice.specs.Heads.{IsIdentifierOf};
 ghost use Rattle.berslice.specs.Reading.{IsRead};
 
 use crate::heads::{Identifier, begun, behind, primitive};
-use encoding_parts::{Kind, Segments, begin_string, fill};
+use encoding_parts::{Kind, Segments, begin_string, fill, is_identifier, short_primitive};
 use octets::{MAX_ENCODING, Tag};
 use std::alloc::Global;
 use types::{Ty, Value};
@@ -31,11 +31,18 @@ pub fn read_leaf(
     requires good { IsGoodType (ty_view ty.now) }
     ensures { IfSome result (λ used. IsRead levels (ty_view ty.now) octets.now value.new used) }
 {
-    match primitive(tag, octets) {
-        Some((contents, used)) => fill_leaf(alloc, ty, contents, value).then_some(used),
-        None if is_constructed(octets) => read_string(alloc, ty, tag, levels, octets, value),
+    match short_primitive(tag, octets.len(), octets) {
+        Some(used) => fill_leaf(alloc, ty, &octets[2..used], value).then_some(used),
+        None if may_begin(tag, octets) => read_long_leaf(alloc, ty, tag, levels, octets, value),
         None => None,
     }
+}
+
+// Whether an encoding under the tag may stand at the front, of either form. Mostly it is another component's, or none
+// that stands there.
+#[inline(always)]
+fn may_begin(tag: Tag, octets: &[u8]) -> bool {
+    tag.number >= 31 || (!octets.is_empty() && is_identifier(tag, false, octets[0] & 0xDF))
 }
 
 // Reads the encoding at the front, of a type without parts, which has these identifier octets and the type's tag.
@@ -54,11 +61,30 @@ pub fn read_leaf_behind(
     requires front { IsIdentifierOf identifier octets.now }
     ensures { IfSome result (λ used. IsRead levels (ty_view ty.now) octets.now value.new used) }
 {
-    let tag = identifier.tag;
     match behind(identifier, octets) {
         Some((contents, used)) => fill_leaf(alloc, ty, contents, value).then_some(used),
-        None if identifier.constructed => read_string(alloc, ty, tag, levels, octets, value),
-        None => None,
+        None => read_long_leaf(alloc, ty, identifier.tag, levels, octets, value),
+    }
+}
+
+// Reads the encoding at the front, of a type without parts, whatever its form and length octets are.
+#[inline(never)]
+fn read_long_leaf(
+    alloc: Global,
+    ty: &Ty,
+    tag: Tag,
+    levels: usize,
+    octets: &[u8],
+    value: &mut Value,
+) -> Option<usize>
+    requires leaf { IsLeaf (ty_view ty.now) }
+    requires tag { tag_of (ty_view ty.now) ≡ tag }
+    requires good { IsGoodType (ty_view ty.now) }
+    ensures { IfSome result (λ used. IsRead levels (ty_view ty.now) octets.now value.new used) }
+{
+    match primitive(tag, octets) {
+        Some((contents, used)) => fill_leaf(alloc, ty, contents, value).then_some(used),
+        None => read_string(alloc, ty, tag, levels, octets, value),
     }
 }
 
@@ -73,8 +99,7 @@ fn fill_leaf(alloc: Global, ty: &Ty, contents: &[u8], value: &mut Value) -> bool
 }
 
 // Reads the constructed string at the front.
-#[inline(never)]
-pub fn read_string(
+fn read_string(
     alloc: Global,
     ty: &Ty,
     tag: Tag,
@@ -101,13 +126,6 @@ pub fn read_string(
     let used = pass_segments(&mut string, kind, front, start)?;
     *value = string.joined.into_value(ty).ok()?;
     Some(used)
-}
-
-// Whether bit 6 of the first octet says that a constructed encoding stands at the front. Where no primitive one was
-// read, mostly another component stands there, or one that is cut.
-#[inline(always)]
-pub fn is_constructed(octets: &[u8]) -> bool {
-    !octets.is_empty() && octets[0] & 0x20 != 0
 }
 
 // Takes the segments of a constructed string of which the first `start` octets have been taken, up to its last end, and
