@@ -10,6 +10,7 @@ use crate::MAX_INTEGER_OCTETS;
 use octets::NoMemory;
 
 /// The number of an INTEGER's contents octets, from -2^127 to 2^127 - 1. Takes no memory.
+#[inline(always)]
 pub fn read_integer(contents: &[u8]) -> Option<i128>
     ensures value { IfSome result (λ number. IsInteger number contents.now) }
     ensures none { IfNone result ((number : ℤ) → FitsSigned w128 number → ¬ IsInteger number contents.now) }
@@ -50,7 +51,20 @@ fn is_shortest(contents: &[u8]) -> bool
 }
 
 // The number that the octets spell without a sign.
+#[inline(always)]
 fn number_above(contents: &[u8]) -> u128
+    requires { length contents.now ≤ 16 }
+    ensures { result ≡ number_of 256 contents.now }
+{
+    match few_octets(contents) {
+        Some((number, _)) => u128::from(number),
+        None => long_number_above(contents),
+    }
+}
+
+// The number that up to sixteen octets spell without a sign.
+#[inline(never)]
+fn long_number_above(contents: &[u8]) -> u128
     requires { length contents.now ≤ 16 }
     ensures { result ≡ number_of 256 contents.now }
 {
@@ -62,7 +76,20 @@ fn number_above(contents: &[u8]) -> u128
 }
 
 // How far below -1 the octets stand, by the bits that are not set.
+#[inline(always)]
 fn number_below(contents: &[u8]) -> u128
+    requires { length contents.now ≤ 16 }
+    ensures { result + number_of 256 contents.now + 1 ≡ 256 ^ length contents.now }
+{
+    match few_octets(contents) {
+        Some((number, most)) => u128::from(most - number),
+        None => long_number_below(contents),
+    }
+}
+
+// How far below -1 up to sixteen octets stand.
+#[inline(never)]
+fn long_number_below(contents: &[u8]) -> u128
     requires { length contents.now ≤ 16 }
     ensures { result + number_of 256 contents.now + 1 ≡ 256 ^ length contents.now }
 {
@@ -71,6 +98,29 @@ fn number_below(contents: &[u8]) -> u128
         number = number * 256 + u128::from(0xFF - *octet);
     }
     number
+}
+
+// The number that one to four octets spell without a sign, and the greatest that as many spell: most numbers have no
+// more.
+#[inline(always)]
+fn few_octets(contents: &[u8]) -> Option<(u32, u32)>
+    ensures number { IfSome result (λ few. few.0 ≡ number_of 256 contents.now) }
+    ensures most { IfSome result (λ few. (few.0 ≤ few.1) × (few.1 + 1 ≡ 256 ^ length contents.now)) }
+{
+    match contents {
+        [a] => Some((u32::from(*a), 0xFF)),
+        [a, b] => Some((u32::from(*a) * 256 + u32::from(*b), 0xFFFF)),
+        [a, b, c] => {
+            let front = u32::from(*a) * 256 + u32::from(*b);
+            Some((front * 256 + u32::from(*c), 0xFF_FFFF))
+        }
+        [a, b, c, d] => {
+            let front = u32::from(*a) * 256 + u32::from(*b);
+            let back = u32::from(*c) * 256 + u32::from(*d);
+            Some((front * 0x1_0000 + back, 0xFFFF_FFFF))
+        }
+        _ => None,
+    }
 }
 
 /// Appends the contents octets of `number`.

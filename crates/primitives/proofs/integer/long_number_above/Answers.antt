@@ -1,7 +1,7 @@
 use Rattle.std.proofs.Common.{◌≡◌, ◌+◌, ◌*◌, ◌^◌, arith, refl, get_or}
 use Rattle.std.proofs.lemmas.Grind.{pow_more}
 use Rattle.primitives.proofs.IntegerLemmas.{room_for_more, number_of-more}
-use Rattle.primitives.proofs.integer.number_above.Goals as goal
+use Rattle.primitives.proofs.integer.long_number_above.Goals as goal
 
 pub overflow_mul-number : goal.overflow_mul-number
 overflow_mul-number c =

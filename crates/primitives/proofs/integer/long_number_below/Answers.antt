@@ -2,7 +2,7 @@ use Rattle.std.proofs.Common.{◌≡◌, ◌+◌, ◌*◌, ◌^◌, take, arith,
 use Rattle.std.proofs.lemmas.Grind.{pow_more}
 use Rattle.octets.specs.Digits.{number_of}
 use Rattle.primitives.proofs.IntegerLemmas.{room_for_more, number_of-more}
-use Rattle.primitives.proofs.integer.number_below.Goals as goal
+use Rattle.primitives.proofs.integer.long_number_below.Goals as goal
 
 pub overflow_mul-number : goal.overflow_mul-number
 overflow_mul-number c =
