@@ -62,13 +62,11 @@ fn fill_wide_integer(alloc: Global, tag: Tag, contents: &[u8], value: &mut Value
     if let Value::WideInteger(octets) = value {
         return refill(octets, contents);
     }
-    match Vec::from_slice(alloc, contents) {
-        Ok(octets) => {
-            *value = Value::WideInteger(octets);
-            true
-        }
-        Err(_) => false,
-    }
+    let Ok(octets) = Vec::from_slice(alloc, contents) else {
+        return false;
+    };
+    *value = Value::WideInteger(octets);
+    true
 }
 
 // Makes the value an OCTET STRING.
@@ -79,13 +77,11 @@ fn fill_octets(alloc: Global, contents: &[u8], value: &mut Value) -> bool
     if let Value::Octets(octets) = value {
         return refill(octets, contents);
     }
-    match Vec::from_slice(alloc, contents) {
-        Ok(octets) => {
-            *value = Value::Octets(octets);
-            true
-        }
-        Err(_) => false,
-    }
+    let Ok(octets) = Vec::from_slice(alloc, contents) else {
+        return false;
+    };
+    *value = Value::Octets(octets);
+    true
 }
 
 // Makes the value the text of a character string or a time.
@@ -96,13 +92,11 @@ fn fill_text(alloc: Global, contents: &[u8], value: &mut Value) -> bool
     if let Value::Text(octets) = value {
         return refill(octets, contents);
     }
-    match Vec::from_slice(alloc, contents) {
-        Ok(octets) => {
-            *value = Value::Text(octets);
-            true
-        }
-        Err(_) => false,
-    }
+    let Ok(octets) = Vec::from_slice(alloc, contents) else {
+        return false;
+    };
+    *value = Value::Text(octets);
+    true
 }
 
 // Puts the octets into the vector in place of those in it, and says whether it has.

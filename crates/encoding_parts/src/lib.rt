@@ -37,6 +37,4 @@ pub use renewed::Renewed;
 pub use segments::{Segments, read_end};
 pub use set_components::{SetComponents, drop_default, is_default, not_due};
 pub use short::{is_identifier, short_primitive};
-pub use slots::{
-    choose, clear, emptied_slots, empty_slots, set_boolean, set_integer, take_list, take_slots,
-};
+pub use slots::{choose, clear, emptied_slots, empty_slots, set_boolean, take_list, take_slots};

@@ -40,7 +40,8 @@ impl<'a> SetComponents<'a> {
             IsVacant (come_view self.now) which type → ¬ Contains (first_tags type) tag) }
         ensures numbers { IfErr result IsOfDue }
     {
-        let before = self.behind.saturating_sub(2);
+        let last = self.fields.len().saturating_sub(1);
+        let before = self.behind.checked_sub(2).unwrap_or(last);
         match due_at(self.fields, self.slots.as_slice(), before, tag) {
             Some(found) => Ok(found),
             None => self.due_anywhere(tag),

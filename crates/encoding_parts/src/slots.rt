@@ -74,9 +74,9 @@ pub fn set_boolean(truth: bool, value: &mut Value)
     *value = Value::Boolean(truth);
 }
 
-/// Makes the value an INTEGER. Where it is one, there is nothing to drop.
+// Makes the value an INTEGER. Where it is one, there is nothing to drop.
 #[inline(always)]
-pub fn set_integer(number: i128, value: &mut Value)
+pub(crate) fn set_integer(number: i128, value: &mut Value)
     ensures { value_view value.new ≡ value_view (Integer number) }
 {
     if let Value::Integer(old) = value {
