@@ -23,7 +23,8 @@ abbrev pub weight_of_layers : List Layer → ℕ
 weight_of_layers [] = 0
 weight_of_layers (layer ∷ others) = weight_of_parts layer.parts + weight_of_layers others
 
--- octets of which no value is made yet count one each, those of the string that has begun too
+-- octets of which no value is made yet count one each, those of the string that has begun too; items of an older value that
+-- was lent to the reader, into whose places the next ones are read, do not count
 abbrev pub weight_held : Pieces → ℕ
 weight_held pieces = weight_of_layers (layers_of pieces.cursor.nest.layers) + octets_in pieces.cursor.string + length pieces.pending.items
 

@@ -23,7 +23,7 @@ pub struct Pieces<'a> {
     pub pending: Vec<u8>,
     /// What an earlier piece was refused with.
     pub refused: Option<Refusal>,
-    /// The room of a list that was read before, for the next one.
+    /// The room of a list that was read before, for the next one, with the items that are in it.
     pub room: Vec<Value>,
 }
 

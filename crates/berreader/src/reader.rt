@@ -106,7 +106,8 @@ impl<'a> Reader<'a> {
 
     /// Takes a piece as `feed` does, which answers `Done` where the slot then holds the value, of which so many octets
     /// of the piece are the last, and `More` where it is empty. The value goes into the room of the one that the slot
-    /// held, as far as it has room there; one that pieces cut, into that of a list alone.
+    /// held, as far as it has room there; one that pieces cut, into the items of a list alone, which the reader keeps
+    /// until then, beside what `held` counts.
     ///
     /// Refused as `feed` refuses. The slot is then empty.
     pub fn feed_into(&mut self, piece: &[u8], slot: &mut Option<Value>) -> Result<usize, Refusal>

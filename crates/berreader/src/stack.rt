@@ -1,12 +1,13 @@
 //! The stack of open constructed encodings, each with its parts.
 
 ghost use Rattle.std.specs.Prelude.{◌≡◌, ◌≤◌, ◌∷◌, [], List, length, OnOk, MatchOption};
+ghost use Rattle.encoding_parts.specs.Renewed.{new_items};
 ghost use Rattle.berreader.specs.Items.{AreItemsInside};
 ghost use Rattle.berreader.specs.Nest.{AreSound};
 ghost use Rattle.berreader.specs.Stack.{Layer, layer_view, layers_of, with_which, IsCounted};
 
 use berslice::read_items;
-use encoding_parts::{Frame, HeldParts, INLINE_FRAMES};
+use encoding_parts::{Frame, HeldParts, INLINE_FRAMES, Renewed};
 use octets::{NoMemory, Tag};
 use smallvec::SmallVec;
 use std::alloc::Global;
@@ -133,22 +134,21 @@ impl<'a> Stack<'a> {
         }
         let inside = &octets[..octets.len().min(top.frame.end - taken)];
         match &mut top.held_parts {
-            HeldParts::Items(inner, items) => {
-                move_in(items, room);
-                read_items(alloc, inner, levels, inside, top.frame.definite, items)
+            HeldParts::Items(inner, list) => {
+                move_in(list, room);
+                read_items(alloc, inner, levels, inside, top.frame.definite, list)
             }
             HeldParts::Explicit(_, _) | HeldParts::Sequence(_, _) | HeldParts::Set(_) => 0,
         }
     }
 }
 
-// Gives a list that has no items yet the room of an older one.
-fn move_in(items: &mut Vec<Value>, room: &mut Vec<Value>)
-    ensures { items.new.items ≡ items.old.items }
+// Gives a list that has no items yet the room of an older one, with the items that are in it.
+fn move_in(list: &mut Renewed, room: &mut Vec<Value>)
+    ensures { new_items list.new ≡ new_items list.old }
 {
-    if items.is_empty() && room.capacity() > items.capacity() {
-        std::mem::swap(items, room);
-        items.clear();
+    if list.count == 0 && room.capacity() > list.items.capacity() {
+        std::mem::swap(&mut list.items, room);
     }
 }
 

@@ -37,7 +37,7 @@ pub fn read_list(
         return None;
     }
     let mut list = Renewed::over(alloc, value);
-    let used = fill_list(
+    let used = read_items(
         alloc,
         inner,
         levels - 1,
@@ -45,35 +45,21 @@ pub fn read_list(
         inside.definite,
         &mut list,
     );
-    *value = Value::Items(list.into_items());
-    inside.close(octets, used)
+    let whole = inside.close(octets, used);
+    *value = Value::Items(match whole {
+        Some(_) => list.into_items(),
+        None => list.items,
+    });
+    whole
 }
 
-/// Appends the items at the front of `octets` that are read at once, and returns how many octets they have. It goes as
-/// far as the contents octets do, which of the definite form are all of `octets`, or to an item that is cut or refused,
-/// of which it takes nothing.
+/// Puts the items at the front of `octets` that are read at once behind the new ones of the list, and returns how many
+/// octets they have. It goes as far as the contents octets do, which of the definite form are all of `octets`, or to an
+/// item that is cut or refused, of which it takes nothing.
 ///
 /// Takes memory as the items do; where there is too little it ends.
-pub fn read_items(
-    alloc: Global,
-    inner: &Ty,
-    levels: usize,
-    octets: &[u8],
-    definite: bool,
-    items: &mut Vec<Value>,
-) -> usize
-    requires { IsGoodType (ty_view inner.now) }
-    ensures { AreMoreItemsRead levels (ty_view inner.now) octets.now items.old.items items.new.items result }
-{
-    let mut list = Renewed::behind(std::mem::replace(items, Vec::new(alloc)));
-    let used = fill_list(alloc, inner, levels, octets, definite, &mut list);
-    *items = list.into_items();
-    used
-}
-
-// Puts the items at the front of `octets` into the list, and returns how many octets they have.
 #[cycle(reading)]
-fn fill_list(
+pub fn read_items(
     alloc: Global,
     inner: &Ty,
     levels: usize,

@@ -26,8 +26,8 @@ use types::{Alternative, Ty, Value};
 /// by part, and refuses what there is to refuse.
 ///
 /// Takes memory as the value does, beside the room of the value that `whole` holds, into which goes what has room
-/// there, but no constructed string; None where there is too little. A list that `whole` holds then goes to `room`,
-/// without its items. More than eight open encodings of such a string take memory too.
+/// there, but no constructed string; None where there is too little. A list that `whole` holds then goes to `room`, with
+/// what items it has, unless `whole` held nothing before. More than eight open encodings of such a string take memory too.
 pub fn read_whole(
     alloc: Global,
     ty: &Ty,
@@ -40,15 +40,18 @@ pub fn read_whole(
     ensures value { IfSome result (λ used. IfSome whole.new (λ value.
         IsAccepted ber (ty_view ty.now) (value_view value) (take used octets.now))) }
     ensures some { IsSome result ↔ IsSome whole.new }
-    ensures room { MatchOption result (room.new.items ≡ []) (λ _. room.new ≡ room.old) }
+    ensures room { MatchOption result (whole.old ≡ None → room.new.items ≡ []) (λ _. room.new ≡ room.old) }
 {
+    let is_first = whole.is_none();
     let front = &octets[..octets.len().min(MAX_ENCODING)];
     let value = whole.get_or_insert_with(|| Value::Null);
     match read_one(alloc, ty, MAX_NESTED, front, value) {
         Some(used) => Some(used),
         None => {
             *room = take_list(alloc, value);
-            room.clear();
+            if is_first {
+                room.clear();
+            }
             clear(whole);
             None
         }

@@ -10,6 +10,7 @@ use Rattle.encoding_parts.specs.declared.set_components.SetComponents.{SetCompon
 use Rattle.encoding_parts.specs.declared.held_parts.HeldParts.{HeldParts}
 use Rattle.encoding_parts.specs.declared.held_parts.HeldParts.TheVariants.{Explicit, Items, Sequence, Set}
 use Rattle.encoding_parts.specs.Parts.{Parts, SetComponent}
+use Rattle.encoding_parts.specs.Renewed.{new_items}
 
 -- components of a SET, and the slot of each
 abbrev pub set_components_view : List ComponentView → List (Option Val) → List SetComponent
@@ -28,7 +29,7 @@ run_view components slots = Parts.sequence (take (length slots) components) slot
 
 abbrev pub parts_view : HeldParts → Parts
 parts_view (Explicit type held) = Parts.explicit (ty_view type.now) (option_map value_view held)
-parts_view (Items type values) = Parts.items (ty_view type.now) (map value_view values.items)
+parts_view (Items type list) = Parts.items (ty_view type.now) (map value_view (new_items list))
 parts_view (Sequence fields slots) = run_view (map field_view fields.now) (map (option_map value_view) slots.items)
 parts_view (Set set_components) = Parts.set (come_view set_components)
 

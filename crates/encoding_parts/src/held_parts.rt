@@ -3,7 +3,7 @@
 //! Slots are made for all components when the encoding opens, and components that come in order are
 //! found and put without a walk over the others.
 
-ghost use Rattle.std.specs.Prelude.{◌≡◌, ◌<◌, ◌++◌, ℕ, vec_len, vec_capacity, None, replicate, map, drop, Contains, MatchOption, IfOk, IfErr, OnOk, option_map};
+ghost use Rattle.std.specs.Prelude.{◌≡◌, ◌++◌, ℕ, None, replicate, map, drop, Contains, MatchOption, IfOk, IfErr, OnOk, option_map};
 ghost use Rattle.types.specs.FirstTags.{first_tags};
 ghost use Rattle.types.specs.Leaf.{IsLeaf};
 ghost use Rattle.types.specs.Refusal.{IsFinal};
@@ -13,6 +13,7 @@ ghost use Rattle.encoding_parts.specs.HeldParts.{parts_view, run_view, IsNode, I
 ghost use Rattle.encoding_parts.specs.Parts.{ArePartsOf, AreNone, IsDue, IsNextOf, IsPut, IsValueOf};
 
 use crate::choices::begins;
+use crate::renewed::Renewed;
 use crate::set_components::{SetComponents, is_default, not_due};
 use crate::slots::empty_slots;
 use octets::{NoMemory, Tag};
@@ -25,7 +26,7 @@ pub enum HeldParts<'a> {
     /// The value that an explicit tag stands around.
     Explicit(&'a Ty, Option<Value>),
     /// The items of a SEQUENCE OF or SET OF.
-    Items(&'a Ty, Vec<Value>),
+    Items(&'a Ty, Renewed),
     /// The components of a SEQUENCE, and the slots of those that have come or been passed over.
     Sequence(&'a [Field], Vec<Option<Value>>),
     /// The components of a SET, and what has come of them.
@@ -56,8 +57,8 @@ pub fn held_parts_of<'a>(alloc: Global, node: &'a Ty) -> Result<Option<HeldParts
                 behind,
             })))
         }
-        Ty::SequenceOf(_, inner) => Ok(Some(HeldParts::Items(inner, Vec::new(alloc)))),
-        Ty::SetOf(_, inner) => Ok(Some(HeldParts::Items(inner, Vec::new(alloc)))),
+        Ty::SequenceOf(_, inner) => Ok(Some(HeldParts::Items(inner, Renewed::new(alloc)))),
+        Ty::SetOf(_, inner) => Ok(Some(HeldParts::Items(inner, Renewed::new(alloc)))),
         Ty::Explicit(_, inner) => Ok(Some(HeldParts::Explicit(inner, None))),
         Ty::Boolean(_)
         | Ty::Integer(_)
@@ -109,11 +110,7 @@ impl<'a> HeldParts<'a> {
                 *held = Some(value);
                 Ok(())
             }
-            HeldParts::Items(_, values) => {
-                grow(values)?;
-                values.push_reserved(value);
-                Ok(())
-            }
+            HeldParts::Items(_, list) => list.push(value),
             HeldParts::Sequence(fields, slots) => put_in_order(fields, slots, which, value),
             HeldParts::Set(set_components) => {
                 set_components.take(which, value);
@@ -140,11 +137,12 @@ impl<'a> HeldParts<'a> {
             } else {
                 Refusal::EndOfContents
             }),
-            HeldParts::Items(_, values) => {
+            HeldParts::Items(_, list) => {
+                let items = list.into_items();
                 if fitted {
-                    return Ok(Value::Items(fit(values)));
+                    return Ok(Value::Items(fit(items)));
                 }
-                Ok(Value::Items(values))
+                Ok(Value::Items(items))
             }
             HeldParts::Sequence(fields, slots) => value_of_run(fields, slots),
             HeldParts::Set(set_components) => set_components.into_value(),
@@ -231,19 +229,6 @@ fn put_in_order(
         slots.push_reserved(None);
     } else {
         slots.push_reserved(Some(value));
-    }
-    Ok(())
-}
-
-// Makes room for one value more: for one alone at first, and then for as many again, so that a list of two items, of
-// which a large value may have a hundred thousand, has no room to give back.
-fn grow(values: &mut Vec<Value>) -> Result<(), NoMemory>
-    ensures items { values.new.items ≡ values.old.items }
-    ensures room { OnOk result (vec_len values.new < vec_capacity values.new) }
-{
-    let count = values.len();
-    if count == values.capacity() {
-        values.reserve_exact(count.max(1))?;
     }
     Ok(())
 }

@@ -1,9 +1,10 @@
 //! Lists that are made in the room of old ones.
 
-ghost use Rattle.std.specs.Prelude.{◌≡◌, ◌↔◌, ◌++◌, ◌∷◌, ◌+◌, ◌<◌, ◌≤◌, [], false, take, IsTrue, vec_len, vec_capacity};
+ghost use Rattle.std.specs.Prelude.{◌≡◌, ◌↔◌, ◌++◌, ◌∷◌, ◌+◌, ◌<◌, ◌≤◌, [], false, take, IsTrue, OnOk, vec_len, vec_capacity};
 ghost use Rattle.encoding_parts.specs.Renewed.{new_items};
 
 use crate::slots::take_list;
+use octets::NoMemory;
 use std::alloc::Global;
 use types::Value;
 
@@ -11,7 +12,7 @@ use types::Value;
 const LONG: usize = 4096;
 
 /// A list of which so many items are new. Old ones stand behind them, in whose places the next ones are read.
-#[derive(Drop)]
+#[derive(Debug, Drop)]
 pub struct Renewed {
     /// The new items, and behind them the old ones.
     pub items: Vec<Value>,
@@ -29,12 +30,14 @@ impl Renewed {
         Renewed { items, count }
     }
 
-    /// A list of which all items are new. Takes no memory.
-    pub fn behind(items: Vec<Value>) -> Renewed
-        ensures { new_items result ≡ items.items }
+    /// A list without items. Takes no memory.
+    pub fn new(alloc: Global) -> Renewed
+        ensures { new_items result ≡ [] }
     {
-        let count = items.len();
-        Renewed { items, count }
+        Renewed {
+            items: Vec::new(alloc),
+            count: 0,
+        }
     }
 
     /// Whether the next item has its place already: that of an old one, or one in the list's room, where NULL is put
@@ -73,9 +76,33 @@ impl Renewed {
         if !reserve(&mut self.items, before, used, left) {
             return false;
         }
+        self.append(item);
+        true
+    }
+
+    /// Puts an item behind the new ones, in the place of an old one if there is one. Refused where memory runs out.
+    pub fn push(&mut self, item: Value) -> Result<(), NoMemory>
+        ensures { OnOk result (new_items self.new ≡ new_items self.old ++ (item ∷ [])) }
+    {
+        let place = self.count;
+        if place < self.items.len() {
+            let _old = std::mem::replace(&mut self.items[place], item);
+            self.keep();
+            return Ok(());
+        }
+        grow(&mut self.items)?;
+        self.append(item);
+        Ok(())
+    }
+
+    // Puts an item behind the new ones, where there are no old ones, and room.
+    fn append(&mut self, item: Value)
+        requires none { vec_len self.old.items ≤ self.old.count }
+        requires room { vec_len self.old.items < vec_capacity self.old.items }
+        ensures { new_items self.new ≡ new_items self.old ++ (item ∷ []) }
+    {
         self.items.push_reserved(item);
         self.count = self.items.len();
-        true
     }
 
     /// The new items. What stands behind them is dropped: old ones, or one that was begun and refused.
@@ -86,6 +113,19 @@ impl Renewed {
         items.truncate(self.count);
         items
     }
+}
+
+// Makes room for one item more: for one alone at first, and then for as many again, so that a list of two items, of which
+// a large value may have a hundred thousand, has no room to give back.
+fn grow(items: &mut Vec<Value>) -> Result<(), NoMemory>
+    ensures items { items.new.items ≡ items.old.items }
+    ensures room { OnOk result (vec_len items.new < vec_capacity items.new) }
+{
+    let count = items.len();
+    if count == items.capacity() {
+        items.reserve_exact(count.max(1))?;
+    }
+    Ok(())
 }
 
 // Makes room for one item more where there is none: for as many as there are, and for four at least, but for no more

@@ -1,4 +1,4 @@
-use Rattle.std.proofs.Common.{rules, ◌≡◌, ◌+◌, ◌-◌, ◌<◌, ◌≤◌, [], ◌∷◌, ◌++◌, set, refl, sym, ap, ◌∙◌, subst, arith, take, drop, map, length}
+use Rattle.std.proofs.Common.{rules, IfSome, ◌≡◌, ◌+◌, ◌-◌, ◌<◌, ◌≤◌, [], ◌∷◌, ◌++◌, set, refl, sym, ap, ◌∙◌, subst, arith, take, drop, map, length}
 use Rattle.std.proofs.lemmas.List.{take_rest, take_more_set, length-set, length-drop}
 use Rattle.octets.specs.declared.tag.Tag.{Tag}
 use Rattle.octets.specs.Rule.{ber}
@@ -18,6 +18,7 @@ use Rattle.berslice.specs.Reading.{IsRead, AreContentsRead, IsComponentRead, Are
 use Rattle.encoding_parts.specs.Renewed.{new_items}
 use Rattle.berslice.proofs.ReadingLemmas.{both_of, IfSome-map, read_some, explicit_contents, sequence_contents, constructed_read, sequence_of_read, set_of_read, no_more_items, one_item_more, item_behind, all_items, no_components, component_read, all_components, component_stands, good_components, good_component, good_alternative, place_chosen, chosen_read, no_members, member_behind, member_come, member_read, member_some, field_type, due_field, set_contents, good_members}
 use Rattle.berslice.proofs.+reading.Goals as goal
+use Rattle.berslice.proofs.+reading.Goals.{items::read_list-in-Some, items::read_list-in-None}
 
 pub reading::read_alternative-read_begun-requires : goal.reading::read_alternative-read_begun-requires
 reading::read_alternative-read_begun-requires t c =
@@ -100,17 +101,17 @@ reading::read_constructed-returns t c =
     c.close.result c.close.ensures.there c.close.ensures.value
     (λ n there whole. constructed_read c.args.levels tag type octets inside.octets.now v used n c.requires (search rules) c.in_ok-tag.ensures.value c.in_ok-used.ensures there (whole tag c.in_ok-inside.ensures))
 
-pub items::fill_list-loop-alloc-init : goal.items::fill_list-loop-alloc-init
-items::fill_list-loop-alloc-init t c = no_more_items c.args.levels (ty_view c.args.inner.now) c.args.octets.now (new_items c.args.list.now)
+pub items::read_items-loop-alloc-init : goal.items::read_items-loop-alloc-init
+items::read_items-loop-alloc-init t c = no_more_items c.args.levels (ty_view c.args.inner.now) c.args.octets.now (new_items c.args.list.now)
 
-pub items::fill_list-slice_bounds-ends_at-count : goal.items::fill_list-slice_bounds-ends_at-count
-items::fill_list-slice_bounds-ends_at-count t c = c.loop-alloc.invariant.read.there
+pub items::read_items-slice_bounds-ends_at-count : goal.items::read_items-slice_bounds-ends_at-count
+items::read_items-slice_bounds-ends_at-count t c = c.loop-alloc.invariant.read.there
 
-pub items::fill_list-slice_bounds-ends_at-start : goal.items::fill_list-slice_bounds-ends_at-start
-items::fill_list-slice_bounds-ends_at-start t c = c.loop-alloc.invariant.read.there
+pub items::read_items-slice_bounds-ends_at-start : goal.items::read_items-slice_bounds-ends_at-start
+items::read_items-slice_bounds-ends_at-start t c = c.loop-alloc.invariant.read.there
 
-pub items::fill_list-loop-alloc-smaller : goal.items::fill_list-loop-alloc-smaller
-items::fill_list-loop-alloc-smaller t c =
+pub items::read_items-loop-alloc-smaller : goal.items::read_items-loop-alloc-smaller
+items::read_items-loop-alloc-smaller t c =
     let octets = c.args.octets.now in
     let at = c.loop-alloc.at in
     let type = ty_view c.args.inner.now in
@@ -119,8 +120,8 @@ items::fill_list-loop-alloc-smaller t c =
     let rest = length-drop at octets in
     omega (arith, some, one.read.0, rest, c.loop-alloc.invariant.read.there)
 
-pub items::fill_list-loop-alloc-preserved : goal.items::fill_list-loop-alloc-preserved
-items::fill_list-loop-alloc-preserved t c =
+pub items::read_items-loop-alloc-preserved : goal.items::read_items-loop-alloc-preserved
+items::read_items-loop-alloc-preserved t c =
     let octets = c.args.octets.now in
     let at = c.loop-alloc.at in
     let type = ty_view c.args.inner.now in
@@ -128,39 +129,47 @@ items::fill_list-loop-alloc-preserved t c =
     let new = (new_items c.read_item.new.list) in
     one_item_more c.args.levels type octets (new_items c.args.list.now) items new at c.in-Some.used c.loop-alloc.invariant (item_behind c.args.levels type octets at c.in-Some.used items new c.in-Some.ensures.some)
 
-pub items::fill_list-returns-in-None : goal.items::fill_list-returns-in-None
-items::fill_list-returns-in-None t c =
+pub items::read_items-returns-in-None : goal.items::read_items-returns-in-None
+items::read_items-returns-in-None t c =
     subst (λ l. AreMoreItemsRead c.args.levels (ty_view c.args.inner.now) c.args.octets.now (new_items c.args.list.now) l c.loop-alloc.at) (sym (c.in-None.ensures.none refl)) c.loop-alloc.invariant
 
-pub items::fill_list-returns : goal.items::fill_list-returns
-items::fill_list-returns t c = c.loop-alloc.invariant
+pub items::read_items-returns : goal.items::read_items-returns
+items::read_items-returns t c = c.loop-alloc.invariant
 
-pub items::read_list-close-requires-clause-there : goal.items::read_list-close-requires-clause-there
-items::read_list-close-requires-clause-there t c = c.fill_list-used.ensures.read.there
+pub items::read_list-close-whole-requires-clause-there : goal.items::read_list-close-whole-requires-clause-there
+items::read_list-close-whole-requires-clause-there t c = c.read_items-used.ensures.read.there
 
 pub items::read_list-returns-clause-sequence : goal.items::read_list-returns-clause-sequence
-items::read_list-returns-clause-sequence t c =
-    let octets = c.args.octets.now in
-    let type = ty_view c.args.inner.now in
-    let inside = c.in_ok-inside.inside in
-    let items = c.into_items.result in
-    let used = c.fill_list-used.result in
-    let read = all_items (c.args.levels - 1) type inside.octets.now (new_items c.over-list.result) items.items used c.over-list.ensures (subst (λ l. AreMoreItemsRead (c.args.levels - 1) type inside.octets.now (new_items c.over-list.result) l used) (sym c.into_items.ensures) c.fill_list-used.ensures) in
-    both_of (λ n. n ≤ length octets) (λ n. (tag : Tag) → IsOpened tag octets inside → IsConstructed ber tag (take used inside.octets.now) (take n octets)) (λ n. IsRead c.args.levels (Shape.sequence_of c.args.tag type) octets (value.Items items) n)
-    c.close.result c.close.ensures.there c.close.ensures.value
-    (λ n there whole. sequence_of_read c.args.levels c.args.tag type octets inside.octets.now items used n c.requires.usable (search rules) read there (whole c.args.tag c.in_ok-inside.ensures))
+items::read_list-returns-clause-sequence t c = elim c.match-whole.branch [
+  | items::read_list-in-Some w ↦
+      let octets = c.args.octets.now in
+      let type = ty_view c.args.inner.now in
+      let inside = c.in_ok-inside.inside in
+      let items = w.into_items.result in
+      let used = c.read_items-used.result in
+      let read = all_items (c.args.levels - 1) type inside.octets.now (new_items c.over-list.result) items.items used c.over-list.ensures (subst (λ l. AreMoreItemsRead (c.args.levels - 1) type inside.octets.now (new_items c.over-list.result) l used) (sym w.into_items.ensures) c.read_items-used.ensures) in
+      subst (λ held. IfSome c.close-whole.result (λ n. IsRead c.args.levels (Shape.sequence_of c.args.tag type) octets (value.Items held) n)) (sym w.t-36-is)
+      (both_of (λ n. n ≤ length octets) (λ n. (tag : Tag) → IsOpened tag octets inside → IsConstructed ber tag (take used inside.octets.now) (take n octets)) (λ n. IsRead c.args.levels (Shape.sequence_of c.args.tag type) octets (value.Items items) n)
+      c.close-whole.result c.close-whole.ensures.there c.close-whole.ensures.value
+      (λ n there whole. sequence_of_read c.args.levels c.args.tag type octets inside.octets.now items used n c.requires.usable (search rules) read there (whole c.args.tag c.in_ok-inside.ensures)))
+  | items::read_list-in-None w ↦ search (rules, w.in-None.is)
+]
 
 pub items::read_list-returns-clause-set : goal.items::read_list-returns-clause-set
-items::read_list-returns-clause-set t c =
-    let octets = c.args.octets.now in
-    let type = ty_view c.args.inner.now in
-    let inside = c.in_ok-inside.inside in
-    let items = c.into_items.result in
-    let used = c.fill_list-used.result in
-    let read = all_items (c.args.levels - 1) type inside.octets.now (new_items c.over-list.result) items.items used c.over-list.ensures (subst (λ l. AreMoreItemsRead (c.args.levels - 1) type inside.octets.now (new_items c.over-list.result) l used) (sym c.into_items.ensures) c.fill_list-used.ensures) in
-    both_of (λ n. n ≤ length octets) (λ n. (tag : Tag) → IsOpened tag octets inside → IsConstructed ber tag (take used inside.octets.now) (take n octets)) (λ n. IsRead c.args.levels (Shape.set_of c.args.tag type) octets (value.Items items) n)
-    c.close.result c.close.ensures.there c.close.ensures.value
-    (λ n there whole. set_of_read c.args.levels c.args.tag type octets inside.octets.now items used n c.requires.usable (search rules) read there (whole c.args.tag c.in_ok-inside.ensures))
+items::read_list-returns-clause-set t c = elim c.match-whole.branch [
+  | items::read_list-in-Some w ↦
+      let octets = c.args.octets.now in
+      let type = ty_view c.args.inner.now in
+      let inside = c.in_ok-inside.inside in
+      let items = w.into_items.result in
+      let used = c.read_items-used.result in
+      let read = all_items (c.args.levels - 1) type inside.octets.now (new_items c.over-list.result) items.items used c.over-list.ensures (subst (λ l. AreMoreItemsRead (c.args.levels - 1) type inside.octets.now (new_items c.over-list.result) l used) (sym w.into_items.ensures) c.read_items-used.ensures) in
+      subst (λ held. IfSome c.close-whole.result (λ n. IsRead c.args.levels (Shape.set_of c.args.tag type) octets (value.Items held) n)) (sym w.t-36-is)
+      (both_of (λ n. n ≤ length octets) (λ n. (tag : Tag) → IsOpened tag octets inside → IsConstructed ber tag (take used inside.octets.now) (take n octets)) (λ n. IsRead c.args.levels (Shape.set_of c.args.tag type) octets (value.Items items) n)
+      c.close-whole.result c.close-whole.ensures.there c.close-whole.ensures.value
+      (λ n there whole. set_of_read c.args.levels c.args.tag type octets inside.octets.now items used n c.requires.usable (search rules) read there (whole c.args.tag c.in_ok-inside.ensures)))
+  | items::read_list-in-None w ↦ search (rules, w.in-None.is)
+]
 
 pub members::read_member-bounds-fields-place : goal.members::read_member-bounds-fields-place
 members::read_member-bounds-fields-place t c =

@@ -11,11 +11,11 @@ invariant-components::read_components-loop-place l =
     AreComponentsRead l.levels (map field_view (take l.place l.fields)) l.octets (take l.place l.slots.items) l.at
     × (length l.slots.items ≡ length l.fields)
 
-abbrev pub invariant-items::fill_list-loop-alloc : goal.invariant-items::fill_list-loop-alloc
-invariant-items::fill_list-loop-alloc l = AreMoreItemsRead l.levels (ty_view l.inner) l.octets (new_items l.initial.list) (new_items l.list) l.at
+abbrev pub invariant-items::read_items-loop-alloc : goal.invariant-items::read_items-loop-alloc
+invariant-items::read_items-loop-alloc l = AreMoreItemsRead l.levels (ty_view l.inner) l.octets (new_items l.initial.list) (new_items l.list) l.at
 
-abbrev pub decreases-items::fill_list-loop-alloc : goal.decreases-items::fill_list-loop-alloc
-decreases-items::fill_list-loop-alloc l = length l.octets - l.at
+abbrev pub decreases-items::read_items-loop-alloc : goal.decreases-items::read_items-loop-alloc
+decreases-items::read_items-loop-alloc l = length l.octets - l.at
 
 abbrev pub invariant-members::read_members-loop-alloc : goal.invariant-members::read_members-loop-alloc
 invariant-members::read_members-loop-alloc l = AreMembersRead l.levels (map field_view l.fields) l.octets (Parts.set (come_view l.set_components)) l.at

@@ -1,4 +1,4 @@
-use Rattle.std.proofs.Common.{◌+◌, Bool, take, subst, arith}
+use Rattle.std.proofs.Common.{Bool, take, subst, arith}
 use Rattle.std.proofs.lemmas.Bool.{not-true}
 use Rattle.octets.specs.Identifier.{IsIdentifier}
 use Rattle.encoding_parts.proofs.HeadLemmas.{IsPrimitive-from_parts}

@@ -1,11 +1,10 @@
-use Rattle.std.proofs.Common.{rules, ◌≡◌, None, Err, IfOk, IfErr, refl, sym, ap, subst, ◌∙◌}
+use Rattle.std.proofs.Common.{rules, ◌≡◌, None, Err, refl, sym, ap, subst, ◌∙◌}
 use Rattle.berreader.specs.declared.cursor.Cursor.{Cursor}
 use Rattle.berreader.specs.declared.nest.OpenString.{OpenString}
 use Rattle.encoding_parts.specs.Cut.{IsStringCut}
-use Rattle.berreader.specs.Cut.{IsCut}
 use Rattle.encoding_parts.specs.Refuses.{Refuses}
 use Rattle.encoding_parts.specs.Segments as segments
-use Rattle.berreader.specs.Cursor.{with_string, CanFinish, IsSoundCursor, IsStep, Steps}
+use Rattle.berreader.specs.Cursor.{with_string, IsSoundCursor, IsStep, Steps}
 use Rattle.berreader.proofs.CursorLemmas.{closed_step, nest_steps, put_back, refused_string, string_sound, string_step}
 use Rattle.berreader.proofs.RefusedLemmas.{renamed}
 use Rattle.berreader.proofs.cursor.Cursor.go_on.Goals as goal

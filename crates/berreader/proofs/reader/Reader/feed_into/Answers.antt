@@ -1,4 +1,4 @@
-use Rattle.std.proofs.Common.{◌≡◌, ◌≤◌, ◌+◌, ◌++◌, List, ℕ, [], None, Vec, Global, length, refl, rules, sym, subst, subst₂}
+use Rattle.std.proofs.Common.{◌≡◌, ◌++◌, List, ℕ, [], None, Vec, Global, length, refl, rules, sym, subst, subst₂}
 use Rattle.types.specs.declared.value.Value.{Value}
 use Rattle.berreader.specs.declared.pieces.Pieces.{Pieces}
 use Rattle.berreader.specs.Feeding.{HasBeenFed, HasValue, IsFed, IsFinished, shape_of}
