@@ -26,7 +26,7 @@ use Rattle.canon.proofs.KeptLemmas.{keeps_chain}
 use Rattle.canon.proofs.PrimitiveLemmas.{number_made}
 
 -- places of octets, by their bits
-eight_bits : (n : ℕ) → 2 ^ (8 * n) ≡ 256 ^ n
+pub eight_bits : (n : ℕ) → 2 ^ (8 * n) ≡ 256 ^ n
 eight_bits zero = refl
 eight_bits (suc n) =
     let more : 8 * suc n ≡ 8 * n + 8 = omega arith in

@@ -1,42 +1,122 @@
--- Lemmas on encodings of numbers that are written as one word of eight octets.
-use Rattle.std.proofs.Common.{◌≡◌, ◌∙◌, ℕ, ℤ, ◌+◌, ◌-◌, ◌*◌, ◌/◌, ◌%◌, ◌^◌, ◌<◌, ◌≤◌, suc, List, [], ◌∷◌, ◌++◌, length, take, All, FitsSigned, Ok, Err, OnOk, OnErr, refl, sym, ap, arith, length-append, append_assoc}
+-- Lemmas on octets that are written as one word of eight, and on encodings of numbers so written.
+use Rattle.std.proofs.Common.{◌≡◌, ◌∙◌, ℕ, ℤ, ◌+◌, ◌-◌, ◌*◌, ◌/◌, ◌%◌, ◌^◌, ◌<◌, ◌≤◌, List, [], ◌∷◌, ◌++◌, length, take, FitsSigned, Ok, Err, OnOk, OnErr, refl, sym, ap, arith, length-append, append-nil}
 use Rattle.std.specs.Int.{w64, w128, to_be_bytes, cast_unsigned}
 use Rattle.std.proofs.Math.Seq.{take-append-add}
-use Rattle.std.proofs.lemmas.Nat.{pow-add, mul-mod_first}
-use Rattle.std.proofs.Math.Nat.{pow-suc}
+use Rattle.std.proofs.lemmas.Nat.{pow-add, div-mul-add, mul-mod_first}
+use Rattle.std.proofs.Math.Nat.{one-le-pow, mul-le-mul_right, add-mul}
 use Rattle.std.proofs.lemmas.List.{length-replicate, take_at}
-use Rattle.std.proofs.lemmas.List.Elements.{All-append, All-replicate, All-cons}
+use Rattle.std.proofs.lemmas.List.Elements.{All-append, All-replicate, All-cons, All-nil}
 use Rattle.std.specs.declared.result.Result.{Result}
 use Rattle.octets.specs.declared.no_memory.NoMemory.{NoMemory}
 use Rattle.octets.specs.declared.tag.Tag.{Tag}
-use Rattle.octets.specs.Front.{Appends}
 use Rattle.octets.specs.Digits.{number_of}
-use Rattle.octets.specs.Identifier.{class_bits}
 use Rattle.octets.specs.Rule.{cer}
 use Rattle.octets.proofs.RuleLemmas.{cer_is_canonical}
-use Rattle.octets.proofs.DigitLemmas.{number_of-append, number_of-zeros, zeros}
+use Rattle.octets.proofs.DigitLemmas.{number_of-append, number_of-below, number_of-zeros, zeros}
 use Rattle.primitives.specs.Integer.{IsInteger}
 use Rattle.types.specs.Shape.{SimpleType, SimpleValue}
 use Rattle.types.proofs.ContentsExistenceLemmas.{simple_contents}
+use Rattle.canon.specs.declared.few.Few.{Few}
+use Rattle.canon.specs.Few.{AreFew, Spells}
 use Rattle.canon.specs.Leaf.{IsNumberEncoding, IsPrimitiveHead}
-use Rattle.canon.specs.Part.{Keeps}
 use Rattle.canon.specs.Writes.{Writes}
-use Rattle.canon.proofs.KeptLemmas.{keeps_chain}
-use Rattle.canon.proofs.NumberLemmas.{contents_first, word_of}
-use Rattle.canon.proofs.PrimitiveLemmas.{number_made, short_head}
+use Rattle.canon.proofs.NumberLemmas.{contents_first, eight_bits, word_of}
+use Rattle.canon.proofs.PrimitiveLemmas.{number_made}
 
--- what is left of a word that has these octets in front
-pub word_front : (octets old new : List ℕ) (count word end : ℕ) → count ≤ 8 → end ≡ length old + count → new ≡ old ++ to_be_bytes w64 word → All (λ octet. octet < 256) octets → length octets ≡ count → word ≡ number_of 256 octets * 256 ^ (8 - count) → take end new ≡ old ++ octets
-word_front octets old new count word end few at laid below size is =
-    let none : List ℕ = zeros (8 - count) in
+-- the octets in front of a word
+pub few_front : (few : Few) (octets : List ℕ) → few.count ≤ 8 → AreFew few octets → take few.count (to_be_bytes w64 few.word) ≡ octets
+few_front few octets fit h =
+    let missing : ℕ = 8 - few.count in
+    let none : List ℕ = zeros missing in
     let all = octets ++ none in
-    let missing : length none ≡ 8 - count = length-replicate (8 - count) 0 in
-    let long : length all ≡ 8 = omega (arith, length-append octets none, missing, size, few) in
-    let value : number_of 256 all ≡ number_of 256 octets * 256 ^ (8 - count) = number_of-append 256 octets none ∙ omega (arith, ap (λ n. number_of 256 octets * 256 ^ n) missing, number_of-zeros 256 (8 - count)) in
-    let each = All-append (λ octet. octet < 256) octets none below (All-replicate (λ octet. octet < 256) (8 - count) 0 (omega arith)) in
-    let spelt : to_be_bytes w64 word ≡ all = word_of all word long each (is ∙ sym value) in
-    let kept : end ≡ length old + length octets = omega (arith, size, at) in
-    ap (take end) (laid ∙ ap (λ s. old ++ s) spelt) ∙ ap (λ n. take n (old ++ all)) kept ∙ take-append-add old all (length octets) ∙ ap (λ s. old ++ s) (take_at octets none (length octets) refl)
+    let there : length none ≡ missing = length-replicate missing 0 in
+    let long : length all ≡ 8 = omega (arith, length-append octets none, there, h.counted, fit) in
+    let value : number_of 256 all ≡ number_of 256 octets * 256 ^ missing = number_of-append 256 octets none ∙ omega (arith, ap (λ n. number_of 256 octets * 256 ^ n) there, number_of-zeros 256 missing) in
+    let each = All-append (λ octet. octet < 256) octets none h.below_256 (All-replicate (λ octet. octet < 256) missing 0 (omega arith)) in
+    ap (take few.count) (word_of all few.word long each (h.spelt ∙ sym value)) ∙ ap (λ n. take n all) (sym h.counted) ∙ take_at octets none (length octets) refl
+
+-- what is left once the others are cut off
+pub word_front : (few : Few) (octets old new : List ℕ) (end : ℕ) → few.count ≤ 8 → end ≡ length old + few.count → new ≡ old ++ to_be_bytes w64 few.word → AreFew few octets → take end new ≡ old ++ octets
+word_front few octets old new end fit at laid h =
+    let word : List ℕ = to_be_bytes w64 few.word in
+    ap (take end) laid ∙ ap (λ n. take n (old ++ word)) at ∙ take-append-add old word few.count ∙ ap (λ s. old ++ s) (few_front few octets fit h)
+
+-- two, three and four octets, by their values
+pub two_octets : (few : Few) (a b : ℕ) → a < 256 → b < 256 → few.count ≡ 2 → few.word ≡ a * 2 ^ 56 + b * 2 ^ 48 → AreFew few (a ∷ b ∷ [])
+two_octets few a b small_a small_b count word = record {
+  below_256 = All-cons (λ x. x < 256) a (b ∷ []) small_a (All-cons (λ x. x < 256) b [] small_b (All-nil (λ x. x < 256)));
+  counted = sym count;
+  spelt = let value : number_of 256 (a ∷ b ∷ []) * 256 ^ 6 ≡ a * 2 ^ 56 + b * 2 ^ 48 = omega arith in word ∙ sym value ∙ ap (λ n. number_of 256 (a ∷ b ∷ []) * 256 ^ (8 - n)) (sym count);
+}
+
+pub three_octets : (few : Few) (a b c : ℕ) → a < 256 → b < 256 → c < 256 → few.count ≡ 3 → few.word ≡ a * 2 ^ 56 + b * 2 ^ 48 + c * 2 ^ 40 → AreFew few (a ∷ b ∷ c ∷ [])
+three_octets few a b c small_a small_b small_c count word = record {
+  below_256 = All-cons (λ x. x < 256) a (b ∷ c ∷ []) small_a (All-cons (λ x. x < 256) b (c ∷ []) small_b (All-cons (λ x. x < 256) c [] small_c (All-nil (λ x. x < 256))));
+  counted = sym count;
+  spelt = let value : number_of 256 (a ∷ b ∷ c ∷ []) * 256 ^ 5 ≡ a * 2 ^ 56 + b * 2 ^ 48 + c * 2 ^ 40 = omega arith in word ∙ sym value ∙ ap (λ n. number_of 256 (a ∷ b ∷ c ∷ []) * 256 ^ (8 - n)) (sym count);
+}
+
+pub four_octets : (few : Few) (a b c d : ℕ) → a < 256 → b < 256 → c < 256 → d < 256 → few.count ≡ 4 → few.word ≡ a * 2 ^ 56 + b * 2 ^ 48 + c * 2 ^ 40 + d * 2 ^ 32 → AreFew few (a ∷ b ∷ c ∷ d ∷ [])
+four_octets few a b c d small_a small_b small_c small_d count word = record {
+  below_256 = All-cons (λ x. x < 256) a (b ∷ c ∷ d ∷ []) small_a (All-cons (λ x. x < 256) b (c ∷ d ∷ []) small_b (All-cons (λ x. x < 256) c (d ∷ []) small_c (All-cons (λ x. x < 256) d [] small_d (All-nil (λ x. x < 256)))));
+  counted = sym count;
+  spelt = let value : number_of 256 (a ∷ b ∷ c ∷ d ∷ []) * 256 ^ 4 ≡ a * 2 ^ 56 + b * 2 ^ 48 + c * 2 ^ 40 + d * 2 ^ 32 = omega arith in word ∙ sym value ∙ ap (λ n. number_of 256 (a ∷ b ∷ c ∷ d ∷ []) * 256 ^ (8 - n)) (sym count);
+}
+
+-- the powers by which a word that has octets behind others is made
+record AreParts (first others : ℕ) : Type 0 where
+  left : 256 ^ (8 - first) ≡ 256 ^ others * 256 ^ (8 - (first + others))
+  right : 256 ^ (8 - others) ≡ 256 ^ (8 - (first + others)) * 256 ^ first
+  whole : 256 ^ first * 256 ^ (8 - first) ≡ 2 ^ 64
+  bits : 2 ^ (8 * first) ≡ 256 ^ first
+
+parts : (first others : ℕ) → first + others ≤ 8 → AreParts first others
+parts first others fit =
+    let one : 8 - first ≡ others + (8 - (first + others)) = omega (arith, fit) in
+    let two : 8 - others ≡ (8 - (first + others)) + first = omega (arith, fit) in
+    let all : first + (8 - first) ≡ 8 = omega (arith, fit) in
+    let eight : 256 ^ 8 ≡ 2 ^ 64 = refl in
+    record {
+      left = ap (λ n. 256 ^ n) one ∙ pow-add 256 others (8 - (first + others));
+      right = ap (λ n. 256 ^ n) two ∙ pow-add 256 (8 - (first + others)) first;
+      whole = sym (pow-add 256 first (8 - first)) ∙ ap (λ n. 256 ^ n) all ∙ eight;
+      bits = eight_bits first;
+    }
+
+-- what stands behind them has moved by as many octets
+moved_behind : (first others : Few) (b : List ℕ) → first.count + others.count ≤ 8 → AreFew others b → others.word / 2 ^ (8 * first.count) ≡ number_of 256 b * 256 ^ (8 - (first.count + others.count))
+moved_behind first others b fit h =
+    let p = parts first.count others.count fit in
+    let Q = 256 ^ (8 - (first.count + others.count)) in
+    let F = 256 ^ first.count in
+    let spelt : others.word ≡ number_of 256 b * Q * F + 0 = h.spelt ∙ ap (λ x. number_of 256 b * x) p.right ∙ omega arith in
+    ap (λ x. others.word / x) p.bits ∙ ap (λ x. x / F) spelt ∙ div-mul-add (number_of 256 b * Q) F 0 (one-le-pow first.count 256 (omega arith))
+
+-- octets and then others
+pub joined_are : (first others whole : Few) (a b : List ℕ) → first.count + others.count ≤ 8 → whole.count ≡ first.count + others.count → whole.word ≡ first.word + others.word / 2 ^ (8 * first.count) → AreFew first a → AreFew others b → AreFew whole (a ++ b)
+joined_are first others whole a b fit count word f g =
+    let p = parts first.count others.count fit in
+    let P = 256 ^ others.count in
+    let Q = 256 ^ (8 - (first.count + others.count)) in
+    let value : number_of 256 (a ++ b) ≡ number_of 256 a * P + number_of 256 b = number_of-append 256 a b ∙ ap (λ n. number_of 256 a * 256 ^ n + number_of 256 b) g.counted in
+    let front : first.word ≡ number_of 256 a * P * Q = f.spelt ∙ ap (λ x. number_of 256 a * x) p.left ∙ omega arith in
+    let spelt : whole.word ≡ (number_of 256 a * P + number_of 256 b) * Q = omega (arith, word, front, moved_behind first others b fit g, add-mul (number_of 256 a * P) (number_of 256 b) Q) in
+    record {
+      below_256 = All-append (λ octet. octet < 256) a b f.below_256 g.below_256;
+      counted = omega (arith, length-append a b, f.counted, g.counted, count);
+      spelt = spelt ∙ ap (λ x. x * Q) (sym value) ∙ ap (λ n. number_of 256 (a ++ b) * 256 ^ (8 - n)) (sym count);
+    }
+
+-- a word has room for both
+pub joined_fit : (first others : Few) (a b : List ℕ) → first.count + others.count ≤ 8 → AreFew first a → AreFew others b → first.word + others.word / 2 ^ (8 * first.count) < 2 ^ 64
+joined_fit first others a b fit f g =
+    let count = first.count + others.count in
+    let whole : Few = record { count = count; word = first.word + others.word / 2 ^ (8 * first.count) } in
+    let h = joined_are first others whole a b fit refl refl f g in
+    let rest = 256 ^ (8 - count) in
+    let below : number_of 256 (a ++ b) + 1 ≤ 256 ^ count = omega (arith, number_of-below 256 (a ++ b) h.below_256, ap (λ n. 256 ^ n) h.counted) in
+    let most : (number_of 256 (a ++ b) + 1) * rest ≤ 256 ^ count * rest = mul-le-mul_right rest below in
+    omega (arith, h.spelt, most, add-mul (number_of 256 (a ++ b)) 1 rest, (parts count 0 (omega (arith, fit))).whole, one-le-pow (8 - count) 256 (omega arith))
 
 -- the contents octets of a number at the front of a word
 pub contents_front : (number : ℤ) (count : ℕ) (contents : List ℕ) → FitsSigned w128 number → count ≤ 6 → IsInteger number contents → length contents ≡ count → (cast_unsigned w128 number % 2 ^ 64 * 2 ^ (64 - 8 * count)) % 2 ^ 64 ≡ number_of 256 contents * 256 ^ (8 - count)
@@ -53,63 +133,33 @@ contents_front number count contents fits few h size =
     let low : (bits * by) % 2 ^ 64 ≡ value * 256 ^ (8 - count) = omega (arith, whole) in
     mul-mod_first bits by (2 ^ 64) ∙ low
 
--- the same, moved behind two octets
-moved_behind : (value count word : ℕ) → count ≤ 6 → word ≡ value * 256 ^ (8 - count) → word / 2 ^ 16 ≡ value * 256 ^ (6 - count)
-moved_behind value count word few is =
-    let rest : 256 ^ (8 - count) ≡ 256 ^ (6 - count) * 2 ^ 16 =
-    let more : 8 - count ≡ (6 - count) + 2 = omega (arith, few) in
-    let two : 256 ^ 2 ≡ 2 ^ 16 = refl in
-    ap (λ n. 256 ^ n) more ∙ pow-add 256 (6 - count) 2 ∙ ap (λ x. 256 ^ (6 - count) * x) two in
-    let spelt : word ≡ value * 256 ^ (6 - count) * 2 ^ 16 = is ∙ ap (λ x. value * x) rest ∙ omega arith in
-    omega (arith, spelt)
+-- octets of some kind, once they are appended
+pub put_spelt : (IsThis : List ℕ → Type 0) (r : Result (Unit {0}) NoMemory) (few : Few) (old new : List ℕ) → Spells IsThis few → OnOk r ((octets : List ℕ) → AreFew few octets → new ≡ old ++ octets) → OnErr r (new ≡ old) → Writes IsThis r old new
+put_spelt IsThis (Ok done) few old new h put same = record { appended = (h.octets, put h.octets h.are, h.holds); kept = tt }
+put_spelt IsThis (Err e) few old new h put same = record { appended = tt; kept = ([], same ∙ sym (append-nil old), tt) }
 
-spread : (first count value P Q : ℕ) → P * Q ≡ 2 ^ 48 → (first * (P * 256) + (count * P + value)) * Q ≡ first * 2 ^ 56 + count * 2 ^ 48 + value * Q
-spread first count value P Q whole = omega (arith, ap (λ n. first * 256 * n) whole, ap (λ n. count * n) whole)
-
--- an identifier octet, a length octet and contents octets as a word
-word_is : (first count : ℕ) (contents : List ℕ) → count ≤ 6 → length contents ≡ count → number_of 256 (first ∷ count ∷ contents) * 256 ^ (8 - (2 + count)) ≡ first * 2 ^ 56 + count * 2 ^ 48 + number_of 256 contents * 256 ^ (6 - count)
-word_is first count contents few size =
-    let P = 256 ^ count in
-    let Q = 256 ^ (6 - count) in
-    let left : 8 - (2 + count) ≡ 6 - count = omega arith in
-    let whole : P * Q ≡ 2 ^ 48 =
-    let six : count + (6 - count) ≡ 6 = omega (arith, few) in
-    let power : 256 ^ 6 ≡ 2 ^ 48 = refl in
-    sym (pow-add 256 count (6 - count)) ∙ ap (λ n. 256 ^ n) six ∙ power in
-    let front : number_of 256 (first ∷ count ∷ contents) ≡ first * (P * 256) + (count * P + number_of 256 contents) = ap (λ n. first * 256 ^ suc n + (count * 256 ^ n + number_of 256 contents)) size ∙ ap (λ x. first * x + (count * P + number_of 256 contents)) (pow-suc 256 count) in
-    ap (λ n. number_of 256 (first ∷ count ∷ contents) * 256 ^ n) left ∙ ap (λ n. n * Q) front ∙ spread first count (number_of 256 contents) P Q whole
-
--- the whole encoding, by the contents octets of the number
-pub number_put_as_word : (r : Result (Unit {0}) NoMemory) (tag : Tag) (number : ℤ) (first count word whole : ℕ) (old new : List ℕ) → tag.number < 31 → first ≡ class_bits tag.class + tag.number → first < 256 → FitsSigned w128 number → count ≤ 6
-    → whole ≡ first * 2 ^ 56 + count * 2 ^ 48 + word / 2 ^ 16 → ((contents : List ℕ) → IsInteger number contents → (length contents ≡ count) × (word ≡ number_of 256 contents * 256 ^ (8 - count)))
-    → OnOk r ((octets : List ℕ) → All (λ octet. octet < 256) octets → length octets ≡ 2 + count → whole ≡ number_of 256 octets * 256 ^ (8 - (2 + count)) → new ≡ old ++ octets) → OnErr r (Keeps old new)
-    → Writes (IsNumberEncoding tag number) r old new
-number_put_as_word (Ok done) tag number first count word whole old new low leads small fits few is sized put left =
+-- the contents octets of a number, of which it is known how many there are
+pub contents_spelt : (number : ℤ) (few : Few) → FitsSigned w128 number → few.count ≤ 6 → ((contents : List ℕ) → IsInteger number contents → length contents ≡ few.count) → few.word ≡ (cast_unsigned w128 number % 2 ^ 64 * 2 ^ (64 - 8 * few.count)) % 2 ^ 64 → Spells (IsInteger number) few
+contents_spelt number few fits fit sized word =
     let made = simple_contents cer SimpleType.integer (SimpleValue.integer number) cer_is_canonical fits in
     let contents : List ℕ = made.0 in
     let spelt : IsInteger number contents = made.1 in
-    let size = (sized contents spelt).0 in
-    let octets : List ℕ = first ∷ count ∷ contents in
-    let below = All-cons (λ octet. octet < 256) first (count ∷ contents) small (All-cons (λ octet. octet < 256) count contents (omega (arith, few)) spelt.below_256) in
-    let long : length octets ≡ 2 + count = omega (arith, size) in
-    let value = is ∙ ap (λ n. first * 2 ^ 56 + count * 2 ^ 48 + n) (moved_behind (number_of 256 contents) count word few (sized contents spelt).1) ∙ sym (word_is first count contents few size) in
+    let size = sized contents spelt in
     record {
-      appended = (octets, put octets below long value, number_made tag number count (first ∷ count ∷ []) contents (short_head tag count first low (omega (arith, few)) leads) size spelt);
-      kept = tt;
+      octets = contents;
+      are = record { below_256 = spelt.below_256; counted = size; spelt = word ∙ contents_front number few.count contents fits fit spelt size };
+      holds = spelt;
     }
-number_put_as_word (Err e) tag number first count word whole old new low leads small fits few is sized put left = record { appended = tt; kept = left }
 
--- the contents octets behind a head
-pub number_put_behind : (r : Result (Unit {0}) NoMemory) (tag : Tag) (number : ℤ) (count word : ℕ) (old mid new : List ℕ) → FitsSigned w128 number → ((contents : List ℕ) → IsInteger number contents → (length contents ≡ count) × (word ≡ number_of 256 contents * 256 ^ (8 - count)))
-    → Appends (IsPrimitiveHead tag count) old mid → OnOk r ((octets : List ℕ) → All (λ octet. octet < 256) octets → length octets ≡ count → word ≡ number_of 256 octets * 256 ^ (8 - count) → new ≡ mid ++ octets) → OnErr r (Keeps mid new) → Writes (IsNumberEncoding tag number) r old new
-number_put_behind (Ok done) tag number count word old mid new fits sized head put left =
-    let made = simple_contents cer SimpleType.integer (SimpleValue.integer number) cer_is_canonical fits in
-    let contents : List ℕ = made.0 in
-    let spelt : IsInteger number contents = made.1 in
-    let size = (sized contents spelt).0 in
-    let is : new ≡ mid ++ contents = put contents spelt.below_256 size (sized contents spelt).1 in
-    record {
-      appended = (head.0 ++ contents, is ∙ ap (λ s. s ++ contents) head.1 ∙ append_assoc old head.0 contents, number_made tag number count head.0 contents head.2 size spelt);
-      kept = tt;
-    }
-number_put_behind (Err e) tag number count word old mid new fits sized head put left = record { appended = tt; kept = keeps_chain old mid new (head.0, head.1, tt) left }
+-- how many octets there are in both
+pub joined_count : {P Q : List ℕ → Type 0} {first others : Few} (whole : Few) → Spells P first → Spells Q others → ((a b : List ℕ) → AreFew first a → AreFew others b → AreFew whole (a ++ b)) → whole.count ≡ first.count + others.count
+joined_count whole f g are =
+    omega (arith, (are f.octets g.octets f.are g.are).counted, f.are.counted, g.are.counted, length-append f.octets g.octets)
+
+-- the encoding of a number: a head, and its contents octets
+pub number_spelt : (tag : Tag) (number : ℤ) (head contents whole : Few) → Spells (IsPrimitiveHead tag contents.count) head → Spells (IsInteger number) contents → ((a b : List ℕ) → AreFew head a → AreFew contents b → AreFew whole (a ++ b)) → Spells (IsNumberEncoding tag number) whole
+number_spelt tag number head contents whole h g are = record {
+  octets = h.octets ++ g.octets;
+  are = are h.octets g.octets h.are g.are;
+  holds = number_made tag number contents.count h.octets g.octets h.holds g.are.counted g.holds;
+}

@@ -3,6 +3,7 @@ pub mod Size
 pub mod Segments
 pub mod Leaf
 pub mod Node
+pub mod Few
 pub mod Span
 pub mod Keyed
 pub mod Opening

@@ -7,12 +7,14 @@ ghost use Rattle.octets.specs.Front.{Appends};
 ghost use Rattle.octets.specs.Identifier.{class_bits};
 ghost use Rattle.types.specs.Form.{IsConstructed};
 ghost use Rattle.canon.specs.declared.rule.CanonicalRule.TheVariants.{Cer, Der};
+ghost use Rattle.canon.specs.Few.{Spells};
 ghost use Rattle.canon.specs.Leaf.{IsPrimitiveHead};
 ghost use Rattle.canon.specs.Opening.{IsOpening, IsBroughtForward, IsLengthPut};
 ghost use Rattle.canon.specs.Part.{Keeps};
 ghost use Rattle.canon.specs.Rule.{rule_of};
 ghost use Rattle.canon.specs.Writes.{Writes};
 
+use crate::few::{Few, put_few};
 use crate::rule::CanonicalRule;
 use octets::{Class, NoMemory, Tag, put_identifier, put_shortest_length};
 
@@ -37,29 +39,50 @@ fn put_long_primitive_head(tag: Tag, contents: usize, out: &mut Vec<u8>) -> Resu
     ensures { Writes (IsPrimitiveHead tag contents) result out.old.items out.new.items }
 {
     if 31 <= tag.number && tag.number < 0x4000 && contents < 0x80 {
-        return put_high_head(tag, contents as u8, out);
+        return put_few(high_head(tag, contents), out);
     }
     put_identifier(out, tag, false)?;
     put_shortest_length(out, contents)
 }
 
-// Appends a head of which the tag's number has one digit or two behind the leading octet, and the length one octet.
-fn put_high_head(tag: Tag, contents: u8, out: &mut Vec<u8>) -> Result<(), NoMemory>
-    requires high { 31 ≤ tag.number }
-    requires short { tag.number < 16384 }
-    requires few { contents < 128 }
-    ensures appended { OnOk result (Appends (IsPrimitiveHead tag contents) out.old.items out.new.items) }
-    ensures unchanged { OnErr result (out.new.items ≡ out.old.items) }
+// The head of so many contents octets of a primitive encoding, if it has two octets.
+#[inline(always)]
+pub(crate) fn low_head(tag: Tag, contents: usize) -> Few
+    requires low { tag.number ≤ 30 }
+    requires short { contents < 128 }
+    ensures head { Spells (IsPrimitiveHead tag contents) result }
+    ensures two { result.count ≡ 2 }
 {
-    let first = class_octet(tag.class) + 0x1F;
-    let last = (tag.number % 128) as u8;
-    if tag.number < 0x80 {
-        out.extend_from_slice(&[first, last, contents])?;
-        return Ok(());
+    let first = u64::from(leading_octet(tag));
+    Few {
+        count: 2,
+        word: (first << 56) + ((contents as u64) << 48),
     }
-    let more = 0x80 + (tag.number / 128) as u8;
-    out.extend_from_slice(&[first, more, last, contents])?;
-    Ok(())
+}
+
+// The head of which the tag's number has one digit or two behind the leading octet, and the length one octet.
+#[inline(always)]
+pub(crate) fn high_head(tag: Tag, contents: usize) -> Few
+    requires high { 31 ≤ tag.number }
+    requires digits { tag.number < 16384 }
+    requires short { contents < 128 }
+    ensures head { Spells (IsPrimitiveHead tag contents) result }
+    ensures few { result.count ≤ 4 }
+{
+    let first = u64::from(class_octet(tag.class)) + 0x1F;
+    let number = u64::from(tag.number);
+    let size = contents as u64;
+    if number < 0x80 {
+        return Few {
+            count: 3,
+            word: (first << 56) + (number << 48) + (size << 40),
+        };
+    }
+    let more = 0x80 + number / 128;
+    Few {
+        count: 4,
+        word: (first << 56) + (more << 48) + ((number % 128) << 40) + (size << 32),
+    }
 }
 
 // Appends two octets: mostly there is room for them.

@@ -13,6 +13,7 @@ mod contents;
 mod copying;
 mod der;
 mod explicit;
+mod few;
 mod heads;
 mod laws;
 mod leaf;

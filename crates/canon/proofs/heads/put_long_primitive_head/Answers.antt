@@ -1,11 +1,19 @@
-use Rattle.std.proofs.Common.{◌≡◌, ◌∙◌, ◌++◌, refl, ap, append_assoc}
+use Rattle.std.proofs.Common.{◌≡◌, ◌∙◌, ◌++◌, refl, ap, append_assoc, arith}
 use Rattle.octets.specs.Front.{Appends}
 use Rattle.octets.specs.Length.{IsShortestLength}
 use Rattle.octets.proofs.ResultLemmas.{OnOk-map}
 use Rattle.canon.specs.Leaf.{IsPrimitiveHead}
 use Rattle.canon.specs.Part.{Keeps}
 use Rattle.canon.proofs.KeptLemmas.{kept}
+use Rattle.canon.proofs.WordLemmas.{put_spelt}
 use Rattle.canon.proofs.heads.put_long_primitive_head.Goals as goal
+
+pub put_few-requires : goal.put_few-requires
+put_few-requires c = omega (arith, c.high_head.ensures.few)
+
+pub returns-then-contents-lt128 : goal.returns-then-contents-lt128
+returns-then-contents-lt128 c =
+    put_spelt (IsPrimitiveHead c.args.tag c.args.contents) c.put_few.result c.high_head.result c.args.out.now.items c.put_few.new.out.items c.high_head.ensures.head c.put_few.ensures.appended c.put_few.ensures.unchanged
 
 pub returns : goal.returns
 returns c =
