@@ -1,6 +1,6 @@
-//! Up to eight octets as a word, which are appended in one step.
+//! A few octets, which are appended in one step: up to eight as a word, or two.
 
-ghost use Rattle.std.specs.Prelude.{◌≡◌, ◌≤◌, ◌+◌, ◌++◌, ℕ, List, OnOk, OnErr};
+ghost use Rattle.std.specs.Prelude.{◌≡◌, ◌≤◌, ◌+◌, ◌∷◌, [], ◌++◌, ℕ, List, OnOk, OnErr};
 ghost use Rattle.std.specs.Int.{w64, to_be_bytes};
 ghost use Rattle.canon.specs.Few.{AreFew};
 
@@ -65,5 +65,29 @@ pub(crate) fn put_word(word: u64, out: &mut Vec<u8>) -> Result<(), NoMemory>
     ensures unchanged { OnErr result (out.new.items ≡ out.old.items) }
 {
     out.extend_from_slice(&word.to_be_bytes())?;
+    Ok(())
+}
+
+// Appends two octets: mostly there is room for them.
+#[inline(always)]
+pub(crate) fn put_pair(first: u8, second: u8, out: &mut Vec<u8>) -> Result<(), NoMemory>
+    ensures appended { OnOk result (out.new.items ≡ out.old.items ++ first ∷ second ∷ []) }
+    ensures unchanged { OnErr result (out.new.items ≡ out.old.items) }
+{
+    if out.capacity() - out.len() < 2 {
+        return grow_by_pair(first, second, out);
+    }
+    out.push_reserved(first);
+    out.push_reserved(second);
+    Ok(())
+}
+
+// Appends two octets, and makes room for them where there is none.
+#[inline(never)]
+fn grow_by_pair(first: u8, second: u8, out: &mut Vec<u8>) -> Result<(), NoMemory>
+    ensures appended { OnOk result (out.new.items ≡ out.old.items ++ first ∷ second ∷ []) }
+    ensures unchanged { OnErr result (out.new.items ≡ out.old.items) }
+{
+    out.extend_from_slice(&[first, second])?;
     Ok(())
 }

@@ -14,7 +14,7 @@ ghost use Rattle.canon.specs.Part.{Keeps};
 ghost use Rattle.canon.specs.Rule.{rule_of};
 ghost use Rattle.canon.specs.Writes.{Writes};
 
-use crate::few::{Few, put_few};
+use crate::few::{Few, put_few, put_pair};
 use crate::rule::CanonicalRule;
 use octets::{Class, NoMemory, Tag, put_identifier, put_shortest_length};
 
@@ -83,30 +83,6 @@ pub(crate) fn high_head(tag: Tag, contents: usize) -> Few
         count: 4,
         word: (first << 56) + (more << 48) + ((number % 128) << 40) + (size << 32),
     }
-}
-
-// Appends two octets: mostly there is room for them.
-#[inline(always)]
-pub(crate) fn put_pair(first: u8, second: u8, out: &mut Vec<u8>) -> Result<(), NoMemory>
-    ensures appended { OnOk result (out.new.items ≡ out.old.items ++ first ∷ second ∷ []) }
-    ensures unchanged { OnErr result (out.new.items ≡ out.old.items) }
-{
-    if out.capacity() - out.len() < 2 {
-        return grow_by_pair(first, second, out);
-    }
-    out.push_reserved(first);
-    out.push_reserved(second);
-    Ok(())
-}
-
-// Appends two octets, and makes room for them where there is none.
-#[inline(never)]
-fn grow_by_pair(first: u8, second: u8, out: &mut Vec<u8>) -> Result<(), NoMemory>
-    ensures appended { OnOk result (out.new.items ≡ out.old.items ++ first ∷ second ∷ []) }
-    ensures unchanged { OnErr result (out.new.items ≡ out.old.items) }
-{
-    out.extend_from_slice(&[first, second])?;
-    Ok(())
 }
 
 // The one identifier octet of a primitive encoding (X.690 8.1.2.2).

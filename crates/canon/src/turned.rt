@@ -9,7 +9,8 @@ ghost use Rattle.canon.specs.Part.{Keeps};
 ghost use Rattle.canon.specs.Rule.{rule_of};
 ghost use Rattle.canon.specs.Turned.{IsTurnedHead, IsTurnedForward};
 
-use crate::heads::{bring_forward, leading_octet, put_pair};
+use crate::few::put_pair;
+use crate::heads::{bring_forward, leading_octet};
 use crate::rule::CanonicalRule;
 use octets::{NoMemory, Tag, put_identifier, put_shortest_length};
 use types::{Ty, Value};
