@@ -1,4 +1,4 @@
-//! A few octets, which are appended in one step: up to eight as a word, or two.
+//! A few octets, which are appended in one step: up to eight as a word, or two or three.
 
 ghost use Rattle.std.specs.Prelude.{◌≡◌, ◌≤◌, ◌+◌, ◌∷◌, [], ◌++◌, ℕ, List, OnOk, OnErr};
 ghost use Rattle.std.specs.Int.{w64, to_be_bytes};
@@ -82,6 +82,21 @@ pub(crate) fn put_pair(first: u8, second: u8, out: &mut Vec<u8>) -> Result<(), N
     Ok(())
 }
 
+// Appends three octets: mostly there is room for them.
+#[inline(always)]
+pub(crate) fn put_three(first: u8, second: u8, third: u8, out: &mut Vec<u8>) -> Result<(), NoMemory>
+    ensures appended { OnOk result (out.new.items ≡ out.old.items ++ first ∷ second ∷ third ∷ []) }
+    ensures unchanged { OnErr result (out.new.items ≡ out.old.items) }
+{
+    if out.capacity() - out.len() < 3 {
+        return grow_by_three(first, second, third, out);
+    }
+    out.push_reserved(first);
+    out.push_reserved(second);
+    out.push_reserved(third);
+    Ok(())
+}
+
 // Appends two octets, and makes room for them where there is none.
 #[inline(never)]
 fn grow_by_pair(first: u8, second: u8, out: &mut Vec<u8>) -> Result<(), NoMemory>
@@ -89,5 +104,15 @@ fn grow_by_pair(first: u8, second: u8, out: &mut Vec<u8>) -> Result<(), NoMemory
     ensures unchanged { OnErr result (out.new.items ≡ out.old.items) }
 {
     out.extend_from_slice(&[first, second])?;
+    Ok(())
+}
+
+// Appends three octets, and makes room for them where there is none.
+#[inline(never)]
+fn grow_by_three(first: u8, second: u8, third: u8, out: &mut Vec<u8>) -> Result<(), NoMemory>
+    ensures appended { OnOk result (out.new.items ≡ out.old.items ++ first ∷ second ∷ third ∷ []) }
+    ensures unchanged { OnErr result (out.new.items ≡ out.old.items) }
+{
+    out.extend_from_slice(&[first, second, third])?;
     Ok(())
 }

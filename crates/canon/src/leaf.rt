@@ -2,6 +2,7 @@
 
 ghost use Rattle.std.specs.Prelude.{◌≤◌, ◌+◌};
 ghost use Rattle.octets.specs.declared.TheConstants.{MAX_ENCODING, MAX_TAG_NUMBER};
+ghost use Rattle.types.specs.Shape.{SimpleValue, Val};
 ghost use Rattle.types.specs.View.{value_view};
 ghost use Rattle.canon.specs.Leaf.{IsLeaf, IsLeafEncoding, IsSimple, IsSimplyEncoded};
 ghost use Rattle.canon.specs.Rule.{rule_of};
@@ -9,7 +10,8 @@ ghost use Rattle.canon.specs.Size.{HasSize};
 ghost use Rattle.canon.specs.Writes.{Writes};
 
 use crate::contents::{put_contents, size_of_contents};
-use crate::heads::{put_length, put_opening, put_primitive_head};
+use crate::few::put_three;
+use crate::heads::{leading_octet, put_length, put_opening, put_primitive_head};
 use crate::numbers::put_number;
 use crate::rule::CanonicalRule;
 use crate::segments::{put_octets, put_string, size_of_string};
@@ -102,10 +104,7 @@ pub(crate) fn put_simple(
         result out.old.items out.new.items }
 {
     match value {
-        Value::Boolean(truth) => {
-            put_primitive_head(tag, 1, out)?;
-            put_boolean(out, *truth)
-        }
+        Value::Boolean(truth) => put_truth(rule, tag, *truth, out),
         Value::Integer(number) | Value::Enumerated(number) => put_number(tag, *number, out),
         Value::WideInteger(_)
         | Value::Null
@@ -122,4 +121,19 @@ pub(crate) fn put_simple(
             put_length(place, out)
         }
     }
+}
+
+// Appends the encoding of a BOOLEAN under `tag` (X.690 8.2 and 11.1).
+#[inline(always)]
+fn put_truth(rule: CanonicalRule, tag: Tag, truth: bool, out: &mut Vec<u8>) -> Result<(), NoMemory>
+    ensures { Writes (IsSimplyEncoded (rule_of rule) tag (Val.simple (SimpleValue.boolean truth)))
+        result out.old.items out.new.items }
+{
+    let _ = rule;
+    if tag.number < 31 {
+        let octet = if truth { 0xFF } else { 0x00 };
+        return put_three(leading_octet(tag), 1, octet, out);
+    }
+    put_primitive_head(tag, 1, out)?;
+    put_boolean(out, truth)
 }
