@@ -223,6 +223,7 @@ fn put_by_tag(
 
 // Appends the encoding of `value`, and returns where it stands.
 #[cycle(writing)]
+#[inline(always)]
 pub(crate) fn put_span(
     alloc: Global,
     rule: CanonicalRule,
@@ -236,7 +237,24 @@ pub(crate) fn put_span(
     ensures kept { OnErr result (Keeps out.old.items out.new.items) }
 {
     let start = out.len();
-    put_value(alloc, rule, ty, value, out)?;
+    put_apart(alloc, rule, ty, value, out)?;
     let end = out.len();
     Ok(Span { start, end })
+}
+
+// Appends the encoding of `value`, out of the way of what puts parts in order.
+#[cycle(writing)]
+#[inline(never)]
+fn put_apart(
+    alloc: Global,
+    rule: CanonicalRule,
+    ty: &Ty,
+    value: &Value,
+    out: &mut Vec<u8>,
+) -> Result<(), NoMemory>
+    requires { IsWritable (ty_view ty.now) (value_view value.now) }
+    ensures { Writes (IsEncoding (rule_of rule) (ty_view ty.now) (value_view value.now))
+        result out.old.items out.new.items }
+{
+    put_value(alloc, rule, ty, value, out)
 }

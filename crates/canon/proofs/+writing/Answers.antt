@@ -371,7 +371,7 @@ writing::put_by_tag-returns-in_err-push t c =
 
 pub writing::put_span-returns-clause-put : goal.writing::put_span-returns-clause-put
 writing::put_span-returns-clause-put t c =
-    let put = c.in_ok-put_value.ensures.appended in
+    let put = c.in_ok-put_apart.ensures.appended in
     record { octets = put.0; is = put.1; holds = put.2; start = search rules; end = search rules }
 
 pub writing::put_constructed-returns-in-Explicit : goal.writing::put_constructed-returns-in-Explicit
