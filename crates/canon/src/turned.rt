@@ -87,7 +87,8 @@ fn turn(from: usize, out: &mut Vec<u8>)
     requires { from ≤ length out.old.items }
     ensures { out.new.items ≡ take from out.old.items ++ reverse (drop from out.old.items) }
 {
-    out[from..].reverse();
+    let octets = &mut out[from..];
+    octets.reverse();
 }
 
 // Brings the octets from `from` on before those from `start` on, and turns them round.
