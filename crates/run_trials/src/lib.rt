@@ -5,6 +5,8 @@
 #![tactic(auto)]
 
 #[cfg(test)]
+mod dripping;
+#[cfg(test)]
 mod on_devices;
 #[cfg(test)]
 mod programs;

@@ -1,20 +1,34 @@
 //! Tests of the engine, and what they share.
 
-use convert::{Canonical, Rule};
+use convert::{Canonical, Rule, Stopped, Tag, Ty, WellTyped};
 use program::{Line, Verb, run};
 use std::alloc::{AllocError, Global};
 use std::process::Abort;
+use std::test::Fail;
 
 mod command_lines;
 mod cuts;
-mod dripping;
 mod each_call;
 mod failing_devices;
 mod hexadecimal;
 mod modules;
+mod rows;
 mod runs;
 mod streams;
 mod values;
+
+/// BOOLEAN.
+pub fn boolean() -> Result<WellTyped, Fail> {
+    Ok(WellTyped::new(Ty::Boolean(Tag::universal(1)))?)
+}
+
+/// How many values are done, and the refusal's number, or 0.
+pub fn counted(counted: Result<u64, Stopped>) -> (u64, u8) {
+    match counted {
+        Ok(done) => (done, 0),
+        Err(stopped) => (stopped.done, stopped.refusal.number()),
+    }
+}
 
 /// A text of this many spaces.
 pub fn spaces(alloc: Global, count: usize) -> Result<Vec<u8>, AllocError> {

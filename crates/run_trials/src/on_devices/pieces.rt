@@ -1,6 +1,6 @@
 //! Pieces of a source, and parts of what is written.
 
-use super::Dripping;
+use crate::dripping::Dripping;
 use devices::{Failed, FromReader, FromSlice, Piece, Source, whole_parts};
 use std::alloc::{AllocError, Global};
 use std::io::ErrorKind;

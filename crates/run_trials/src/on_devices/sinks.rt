@@ -1,6 +1,6 @@
 //! What sinks take, and when they fail.
 
-use super::Filling;
+use crate::dripping::Filling;
 use devices::{Failed, Sink, ToVec, ToWriter, write_all};
 use std::io::ErrorKind;
 use std::test::Fail;

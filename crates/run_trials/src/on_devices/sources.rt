@@ -1,6 +1,6 @@
 //! What sources give, and when they fail.
 
-use super::Dripping;
+use crate::dripping::Dripping;
 use devices::{Failed, FromReader, FromSlice, Source};
 use std::alloc::AllocError;
 use std::io::ErrorKind;

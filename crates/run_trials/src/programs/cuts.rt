@@ -1,6 +1,6 @@
 //! A stream that ends within a value, in pieces of every cut.
 
-use super::dripping::{boolean, counted};
+use super::{boolean, counted};
 use convert::{Canonical, FromReader, Rule, ToVec, convert};
 use std::alloc::Global;
 use std::io::Read;

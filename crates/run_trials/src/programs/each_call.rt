@@ -1,7 +1,7 @@
 //! Runs over devices of one octet a call that fail at each call in turn: what was done before is printed, and no more.
 
-use super::dripping::{Dripping, Filling};
 use super::line_to_der;
+use crate::dripping::{Dripping, Filling};
 use convert::Canonical;
 use program::{Line, Verb, run};
 use std::alloc::{AllocError, Global};

@@ -1,7 +1,7 @@
 //! Runs over the types of modules.
 
-use super::dripping::Dripping;
 use super::{check_run_of, line_to_der, spaces};
+use crate::dripping::Dripping;
 use convert::{Canonical, read_module};
 use program::{Line, Verb, cannot_read_module};
 use std::alloc::{AllocError, Global};

@@ -1,48 +1,51 @@
 //! What a run prints and returns over devices that do not fail.
 
+use super::rows::{column, lines_of};
 use super::{check_run, line_to_der, spaces};
 use convert::{Canonical, Rule};
-use program::Verb;
+use program::{Line, Verb};
+use std::process::Abort;
 use std::test::Fail;
+
+// The type, a text, the standard output, the standard error, and the status.
+const RUNS: &str = "\
+BOOLEAN      | 01 01 2a       | 0101ff;       |                                            | 0
+OCTET STRING | 0482000141     | 040141;       |                                            | 0
+INTEGER      | 02 02 00 7f    |               | asn1x: refused 6 Contents after 0 values;  | 1
+NULL         | 05 0           |               | asn1x: not hexadecimal;                    | 1
+NULL         | 05;00;         | 0500;         |                                            | 0
+OCTET STRING | 04 02 AB CD    | 0402abcd;     |                                            | 0
+BOOLEAN      |                |               |                                            | 0
+BOOLEAN      | 0101ff0101ff   | 0101ff0101ff; |                                            | 0
+BOOLEAN      | 01 01 01 01 01 | 0101ff;       | asn1x: refused 1 Truncated after 1 values; | 1
+REAL         | 05 0           |               | asn1x: no such built-in type;              | 64
+boolean      | 0101ff         |               | asn1x: no such built-in type;              | 64
+             | 0101ff         |               | asn1x: no such built-in type;              | 64";
+
+// Checks a run over a row's text, behind which stands what it prints and returns.
+fn check_row<R: Abort + AllocGlobal>(rt: &R, line: &Line, row: &str) -> Result<(), Fail> {
+    let (text, columns) = column(row)?;
+    let (out, columns) = column(columns)?;
+    let (err, status) = column(columns)?;
+    let text = lines_of(rt.alloc(), text)?;
+    let out = String::from_utf8(lines_of(rt.alloc(), out)?)?;
+    let err = String::from_utf8(lines_of(rt.alloc(), err)?)?;
+    let status = status.trim().parse::<u8>()?;
+    check_run(
+        rt,
+        line,
+        text.as_slice(),
+        (out.as_str(), err.as_str(), status),
+    );
+    Ok(())
+}
 
 #[test]
 fn runs(rt: HostRuntime) -> Result<(), Fail> {
-    // (type, text, standard output, standard error, status)
-    let cases = [
-        ("BOOLEAN", "01 01 2a", "0101ff\n", "", 0),
-        ("OCTET STRING", "0482000141", "040141\n", "", 0),
-        (
-            "INTEGER",
-            "02 02 00 7f",
-            "",
-            "asn1x: refused 6 Contents after 0 values\n",
-            1,
-        ),
-        ("NULL", "05 0", "", "asn1x: not hexadecimal\n", 1),
-        ("NULL", "05\n00\n", "0500\n", "", 0),
-        ("OCTET STRING", "04 02 AB CD", "0402abcd\n", "", 0),
-        ("BOOLEAN", "", "", "", 0),
-        ("BOOLEAN", "0101ff0101ff", "0101ff0101ff\n", "", 0),
-        (
-            "BOOLEAN",
-            "01 01 01 01 01",
-            "0101ff\n",
-            "asn1x: refused 1 Truncated after 1 values\n",
-            1,
-        ),
-        ("REAL", "05 0", "", "asn1x: no such built-in type\n", 64),
-        (
-            "boolean",
-            "0101ff",
-            "",
-            "asn1x: no such built-in type\n",
-            64,
-        ),
-        ("", "0101ff", "", "asn1x: no such built-in type\n", 64),
-    ];
-    for (name, text, out, err, status) in cases {
+    for row in RUNS.lines() {
+        let (name, columns) = column(row)?;
         let line = line_to_der(rt.alloc(), name)?;
-        check_run(&rt, &line, text.as_bytes(), (out, err, status));
+        check_row(&rt, &line, columns)?;
     }
     Ok(())
 }
@@ -84,25 +87,14 @@ fn run_over_too_long_a_text(rt: HostRuntime) -> Result<(), Fail> {
 
 #[test]
 fn runs_of_each_command(rt: HostRuntime) -> Result<(), Fail> {
+    let refused = "asn1x: refused 12 NotCanonical after 0 values\n";
     // (verb, rule to read by, standard output, standard error, status)
     let cases = [
         (Verb::Show, Rule::Ber, "TRUE\nFALSE\n", "", 0),
         (Verb::Check, Rule::Ber, "ok 2\n", "", 0),
         (Verb::Convert, Rule::Ber, "0101ff010100\n", "", 0),
-        (
-            Verb::Show,
-            Rule::Der,
-            "",
-            "asn1x: refused 12 NotCanonical after 0 values\n",
-            1,
-        ),
-        (
-            Verb::Check,
-            Rule::Cer,
-            "",
-            "asn1x: refused 12 NotCanonical after 0 values\n",
-            1,
-        ),
+        (Verb::Show, Rule::Der, "", refused, 1),
+        (Verb::Check, Rule::Cer, "", refused, 1),
     ];
     for (verb, from, out, err, status) in cases {
         let mut line = line_to_der(rt.alloc(), "BOOLEAN")?;

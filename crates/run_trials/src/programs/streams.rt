@@ -1,173 +1,115 @@
 //! Streams from sources that give one octet a call or many, to sinks that take one octet a call or many.
 
-use super::dripping::{Dripping, Filling, boolean, counted, type_of};
+use super::rows::{column, lines_of, names_of, rule_of, type_of};
+use super::{boolean, counted};
+use crate::dripping::{Dripping, Filling};
 use convert::{
-    Canonical, FromReader, FromSlice, Rule, Stopped, ToVec, ToWriter, check, convert, list,
+    Canonical, FromReader, FromSlice, Rule, Stopped, ToVec, ToWriter, WellTyped, check, convert,
+    list, unhex,
 };
 use std::alloc::Global;
 use std::test::Fail;
 
 // What `convert` writes of a slice, and its count.
-fn converted(
-    alloc: Global,
-    letter: u8,
-    from: Rule,
-    octets: &[u8],
-) -> Result<(Vec<u8>, (u64, u8)), Fail> {
-    let ty = type_of(alloc, letter)?;
+fn converted(alloc: Global, ty: &WellTyped, from: Rule, octets: &[u8]) -> (Vec<u8>, (u64, u8)) {
     let to = Canonical::Der;
     let mut sink = ToVec::new(Vec::new(alloc));
-    let result = convert(alloc, &ty, from, to, &mut FromSlice::new(octets), &mut sink);
-    Ok((sink.into_vec(), counted(result)))
+    let result = convert(alloc, ty, from, to, &mut FromSlice::new(octets), &mut sink);
+    (sink.into_vec(), counted(result))
 }
 
 // What `convert` writes of a source that gives single octets to a sink that takes single octets, and its count.
 fn converted_by_octets(
     alloc: Global,
-    letter: u8,
+    ty: &WellTyped,
     from: Rule,
     octets: &[u8],
-) -> Result<(Vec<u8>, (u64, u8)), Fail> {
-    let ty = type_of(alloc, letter)?;
+) -> (Vec<u8>, (u64, u8)) {
     let to = Canonical::Der;
     let mut source = FromReader::new(Dripping::new(octets, 1_000));
     let mut sink = ToWriter::new(Filling::new(alloc, 1_000));
-    let result = convert(alloc, &ty, from, to, &mut source, &mut sink);
-    Ok((sink.into_inner().taken, counted(result)))
+    let result = convert(alloc, ty, from, to, &mut source, &mut sink);
+    (sink.into_inner().taken, counted(result))
+}
+
+// The rule and the type by their letters, octets, what is written, how many values are done, and the refusal's number
+// or 0. The long form of a length is 12, but not before BER has the value: it refuses one of two octets with 6.
+const CONVERTED: &str = "\
+b b |                            |                   | 0 0
+b b | 01 01 01 01 01 00          | 01 01 FF 01 01 00 | 2 0
+b b | 01 01 2A                   | 01 01 FF          | 1 0
+b b | 01 01 2A 01 81 01 00       | 01 01 FF 01 01 00 | 2 0
+b b | 01 01 01 01 01             | 01 01 FF          | 1 1
+b b | 01 01 FF 02                | 01 01 FF          | 1 2
+b b | 01                         |                   | 0 1
+b o | 24 80 04 01 41 00 00 04 00 | 04 01 41 04 00    | 2 0
+d b | 01 01 FF 01 01 00          | 01 01 FF 01 01 00 | 2 0
+d b | 01 01 FF 01 01 2A          | 01 01 FF          | 1 12
+c b | 01 01 FF 01                | 01 01 FF          | 1 1
+d o | 04 81 01 41                |                   | 0 12
+d o | 04 81 02 41                |                   | 0 1
+d b | 01 01 FF 01 81 02 FF FF    | 01 01 FF          | 1 6";
+
+// Whether octets are converted as a row says, whole and octet by octet.
+fn is_converted(alloc: Global, row: &str) -> Result<bool, Fail> {
+    let (names, columns) = column(row)?;
+    let (octets, columns) = column(columns)?;
+    let (written, ending) = column(columns)?;
+    let (from, ty) = names_of(alloc, names)?;
+    let octets = unhex(alloc, octets.as_bytes())?;
+    let want = (unhex(alloc, written.as_bytes())?, ending_of(ending)?);
+    Ok(
+        converted(alloc, &ty, from, octets.as_slice()) == want
+            && converted_by_octets(alloc, &ty, from, octets.as_slice()) == want,
+    )
+}
+
+// How many values a column says are done, and the refusal's number or 0.
+fn ending_of(column: &str) -> Result<(u64, u8), Fail> {
+    let (done, number) = column.trim().split_once(' ').ok_or("one number")?;
+    Ok((done.parse::<u64>()?, number.parse::<u8>()?))
 }
 
 #[test]
 fn converted_streams(rt: HostRuntime) -> Result<(), Fail> {
-    // (type, rule, octets, what is written, how many values are done, the refusal's number)
-    let cases: [(u8, Rule, &[u8], &[u8], u64, u8); 14] = [
-        (b'b', Rule::Ber, &[], &[], 0, 0),
-        (
-            b'b',
-            Rule::Ber,
-            &[0x01, 0x01, 0x01, 0x01, 0x01, 0x00],
-            &[0x01, 0x01, 0xFF, 0x01, 0x01, 0x00],
-            2,
-            0,
-        ),
-        (
-            b'b',
-            Rule::Ber,
-            &[0x01, 0x01, 0x2A],
-            &[0x01, 0x01, 0xFF],
-            1,
-            0,
-        ),
-        (
-            b'b',
-            Rule::Ber,
-            &[0x01, 0x01, 0x2A, 0x01, 0x81, 0x01, 0x00],
-            &[0x01, 0x01, 0xFF, 0x01, 0x01, 0x00],
-            2,
-            0,
-        ),
-        (
-            b'b',
-            Rule::Ber,
-            &[0x01, 0x01, 0x01, 0x01, 0x01],
-            &[0x01, 0x01, 0xFF],
-            1,
-            1,
-        ),
-        (
-            b'b',
-            Rule::Ber,
-            &[0x01, 0x01, 0xFF, 0x02],
-            &[0x01, 0x01, 0xFF],
-            1,
-            2,
-        ),
-        (b'b', Rule::Ber, &[0x01], &[], 0, 1),
-        (
-            b'o',
-            Rule::Ber,
-            &[0x24, 0x80, 0x04, 0x01, 0x41, 0x00, 0x00, 0x04, 0x00],
-            &[0x04, 0x01, 0x41, 0x04, 0x00],
-            2,
-            0,
-        ),
-        (
-            b'b',
-            Rule::Der,
-            &[0x01, 0x01, 0xFF, 0x01, 0x01, 0x00],
-            &[0x01, 0x01, 0xFF, 0x01, 0x01, 0x00],
-            2,
-            0,
-        ),
-        (
-            b'b',
-            Rule::Der,
-            &[0x01, 0x01, 0xFF, 0x01, 0x01, 0x2A],
-            &[0x01, 0x01, 0xFF],
-            1,
-            12,
-        ),
-        (
-            b'b',
-            Rule::Cer,
-            &[0x01, 0x01, 0xFF, 0x01],
-            &[0x01, 0x01, 0xFF],
-            1,
-            1,
-        ),
-        // The long form of a length is 12, but not before BER has the value: it refuses one of two octets with 6.
-        (b'o', Rule::Der, &[0x04, 0x81, 0x01, 0x41], &[], 0, 12),
-        (b'o', Rule::Der, &[0x04, 0x81, 0x02, 0x41], &[], 0, 1),
-        (
-            b'b',
-            Rule::Der,
-            &[0x01, 0x01, 0xFF, 0x01, 0x81, 0x02, 0xFF, 0xFF],
-            &[0x01, 0x01, 0xFF],
-            1,
-            6,
-        ),
-    ];
-    for (letter, from, octets, want, done, number) in cases {
-        let (written, count) = converted(rt.alloc(), letter, from, octets)?;
-        assert_eq!(rt; written.as_slice(), want, "of {octets:?}");
-        assert_eq!(rt; count, (done, number), "of {octets:?}");
-        let (written, count) = converted_by_octets(rt.alloc(), letter, from, octets)?;
-        assert_eq!(rt; written.as_slice(), want, "by single octets of {octets:?}");
-        assert_eq!(rt; count, (done, number), "by single octets of {octets:?}");
+    for row in CONVERTED.lines() {
+        assert!(rt; is_converted(rt.alloc(), row)?, "{row}");
     }
     Ok(())
 }
 
+// The rule by its letter, octets of BOOLEANs, the lines, how many values are done, and the refusal's number or 0.
+const LISTED: &str = "\
+b |                   |             | 0 0
+b | 01 01 2A 01 01 00 | TRUE;FALSE; | 2 0
+b | 01 01 2A 01 01    | TRUE;       | 1 1
+d | 01 01 00 01 01 2A | FALSE;      | 1 12
+c | 02                |             | 0 2";
+
+// Whether octets are checked and listed as a row says.
+fn is_listed(alloc: Global, row: &str) -> Result<bool, Fail> {
+    let (rule, columns) = column(row)?;
+    let (octets, columns) = column(columns)?;
+    let (lines, ending) = column(columns)?;
+    let (from, ty) = (rule_of(rule)?, boolean()?);
+    let octets = unhex(alloc, octets.as_bytes())?;
+    let lines = lines_of(alloc, lines)?;
+    let ending = ending_of(ending)?;
+    let checked = check(alloc, &ty, from, &mut FromSlice::new(octets.as_slice()));
+    let mut sink = ToVec::new(Vec::new(alloc));
+    let mut source = FromSlice::new(octets.as_slice());
+    let listed = list(alloc, &ty, from, &mut source, &mut sink);
+    Ok(
+        counted(checked) == ending
+            && counted(listed) == ending
+            && sink.as_slice() == lines.as_slice(),
+    )
+}
+
 #[test]
 fn checked_and_listed_streams(rt: HostRuntime) -> Result<(), Fail> {
-    // (rule, octets, the lines, how many values are done, the refusal's number)
-    let cases: [(Rule, &[u8], &str, u64, u8); 5] = [
-        (Rule::Ber, &[], "", 0, 0),
-        (
-            Rule::Ber,
-            &[0x01, 0x01, 0x2A, 0x01, 0x01, 0x00],
-            "TRUE\nFALSE\n",
-            2,
-            0,
-        ),
-        (Rule::Ber, &[0x01, 0x01, 0x2A, 0x01, 0x01], "TRUE\n", 1, 1),
-        (
-            Rule::Der,
-            &[0x01, 0x01, 0x00, 0x01, 0x01, 0x2A],
-            "FALSE\n",
-            1,
-            12,
-        ),
-        (Rule::Cer, &[0x02], "", 0, 2),
-    ];
-    let ty = boolean()?;
-    for (from, octets, want, done, number) in cases {
-        let result = check(rt.alloc(), &ty, from, &mut FromSlice::new(octets));
-        assert_eq!(rt; counted(result), (done, number), "of {octets:?}");
-        let mut sink = ToVec::new(Vec::new(rt.alloc()));
-        let mut source = FromSlice::new(octets);
-        let result = list(rt.alloc(), &ty, from, &mut source, &mut sink);
-        assert_eq!(rt; counted(result), (done, number), "of {octets:?}");
-        assert_eq!(rt; sink.as_slice(), want.as_bytes(), "of {octets:?}");
+    for row in LISTED.lines() {
+        assert!(rt; is_listed(rt.alloc(), row)?, "{row}");
     }
     Ok(())
 }
@@ -257,7 +199,7 @@ fn too_long_an_encoding_is_only_checked(rt: HostRuntime) -> Result<(), Fail> {
     // 30 80, 04 83 0F FF F7 and as many octets 00, 00 00: 1,048,576 octets in all.
     let mut octets = Vec::from_slice(alloc, &[0x30, 0x80, 0x04, 0x83, 0x0F, 0xFF, 0xF7])?;
     octets.resize(1_048_576, 0)?;
-    let ty = type_of(alloc, b's')?;
+    let ty = type_of(alloc, "s")?;
     let result = check(
         alloc,
         &ty,
@@ -265,7 +207,7 @@ fn too_long_an_encoding_is_only_checked(rt: HostRuntime) -> Result<(), Fail> {
         &mut FromSlice::new(octets.as_slice()),
     );
     assert_eq!(rt; result, Ok::<u64, Stopped>(1));
-    let (written, count) = converted(alloc, b's', Rule::Ber, octets.as_slice())?;
+    let (written, count) = converted(alloc, &ty, Rule::Ber, octets.as_slice());
     assert_eq!(rt; count, (0, 14));
     assert_eq!(rt; written.len(), 0);
     Ok(())

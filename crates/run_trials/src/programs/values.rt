@@ -2,7 +2,9 @@
 
 ghost use Rattle.std.specs.Prelude.{◌≡◌};
 
-use super::dripping::{Dripping, type_of};
+use super::boolean;
+use super::rows::{column, names_of};
+use crate::dripping::Dripping;
 use convert::{
     FromReader, FromSlice, NoMemory, Rule, Source, Values, WellTyped, conforms, show, unhex,
 };
@@ -38,23 +40,22 @@ struct Row<'a> {
 }
 
 fn row_of<'a>(alloc: Global, line: &'a str) -> Result<Row<'a>, Fail> {
-    let mut columns = line.split('|');
-    let letters = columns.next().unwrap_or("").as_bytes();
-    let octets = unhex(alloc, columns.next().unwrap_or("").as_bytes())?;
-    let texts = columns.next().unwrap_or("").trim();
-    let number = columns.next().unwrap_or("").trim().parse::<u8>()?;
-    let done = columns.next().unwrap_or("").trim().parse::<u64>()?;
-    let offset = columns.next().unwrap_or("").trim().parse::<u64>()?;
+    let (names, columns) = column(line)?;
+    let (octets, columns) = column(columns)?;
+    let (texts, columns) = column(columns)?;
+    let (number, columns) = column(columns)?;
+    let (done, offset) = column(columns)?;
+    let (rule, ty) = names_of(alloc, names)?;
     Ok(Row {
-        rule: match letters.first() {
-            Some(b'c') => Rule::Cer,
-            Some(b'd') => Rule::Der,
-            _ => Rule::Ber,
-        },
-        ty: type_of(alloc, letters.get(2).copied().unwrap_or(b'b'))?,
-        octets,
+        rule,
+        ty,
+        octets: unhex(alloc, octets.as_bytes())?,
         texts,
-        ending: (number, done, offset),
+        ending: (
+            number.parse::<u8>()?,
+            done.parse::<u64>()?,
+            offset.trim().parse::<u64>()?,
+        ),
     })
 }
 
@@ -108,7 +109,7 @@ fn is_right(alloc: Global, line: &str) -> Result<bool, Fail> {
 
 // Whether the values of 01 01 01 and 01 01 00 end so, from a reader that fails once so many calls went well.
 fn ends_so(alloc: Global, good_calls: usize, ending: (u8, u64, u64)) -> Result<bool, Fail> {
-    let ty = type_of(alloc, b'b')?;
+    let ty = boolean()?;
     let source = FromReader::new(Dripping::new(&[1, 1, 1, 1, 1, 0], good_calls));
     let mut values = Values::new(alloc, &ty, Rule::Ber, source);
     let mut texts = Vec::new(alloc);
