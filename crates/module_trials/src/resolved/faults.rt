@@ -1,54 +1,46 @@
 //! The numbers and places of faults.
 
 use super::{told, told_of};
+use std::alloc::Global;
 use std::test::Fail;
+
+// assignments, in which a semicolon stands for a line feed | tag default | the fault of T, or its type
+const FAULTS: &str = "\
+T ::= SEQUENCE { a INTEGER OPTIONAL, b INTEGER } |                | 28 at 2:1
+T ::= SEQUENCE { t T OPTIONAL }                  |                | 25 at 2:1
+T ::= [0] IMPLICIT CHOICE { a NULL }             |                | 29 at 2:1
+T ::= [1] IMPLICIT U U ::= CHOICE { a NULL }     | IMPLICIT TAGS  | 29 at 2:1
+T ::= U                                          |                | 24 at 2:1
+T ::= ENUMERATED { a(1), b(1) }                  |                | 27 at 2:1
+T ::= ENUMERATED { a, a }                        |                | 26 at 2:1
+T ::= SEQUENCE { a BOOLEAN DEFAULT 3 }           |                | 30 at 2:1
+T ::= SEQUENCE { a NULL, a NULL }                | AUTOMATIC TAGS | 26 at 2:1
+T ::= CHOICE { a NULL, a NULL }                  | AUTOMATIC TAGS | 26 at 2:1
+T ::= NULL T ::= NULL                            |                | 26 at 2:12
+T ::= NULL U ::= NULL; U ::= T T ::= V           |                | 26 at 3:2
+U ::= NULL;  T ::= SET { a V } V ::= W           |                | 24 at 3:3
+U ::= NULL                                       |                | 24 at 1:1
+T ::= A A ::= SEQUENCE OF A                      |                | 25 at 2:1
+T ::= NULL U ::= V W ::= W                       |                | [U5]NULL
+T ::= SET { a NULL, b NULL }                     |                | 28 at 2:1
+T ::= CHOICE { a NULL, b CHOICE { c NULL } }     |                | 28 at 2:1";
+
+// Whether what is told of T is as a row says.
+fn is_told(alloc: Global, row: &str) -> Result<bool, Fail> {
+    let (assignments, columns) = row.split_once('|').ok_or("one column")?;
+    let (tagging, wanted) = columns.split_once('|').ok_or("two columns")?;
+    let mut text = String::new(alloc);
+    for letter in assignments.trim().chars() {
+        text.push(if letter == ';' { '\n' } else { letter })?;
+    }
+    let found = told_of(alloc, tagging.trim(), text.as_str())?;
+    Ok(found.as_str() == wanted.trim())
+}
 
 #[test]
 fn faults(rt: HostRuntime) -> Result<(), Fail> {
-    // (tag default, assignments, fault of T)
-    let cases = [
-        (
-            "",
-            "T ::= SEQUENCE { a INTEGER OPTIONAL, b INTEGER }",
-            "28 at 2:1",
-        ),
-        ("", "T ::= SEQUENCE { t T OPTIONAL }", "25 at 2:1"),
-        ("", "T ::= [0] IMPLICIT CHOICE { a NULL }", "29 at 2:1"),
-        (
-            "IMPLICIT TAGS",
-            "T ::= [1] IMPLICIT U U ::= CHOICE { a NULL }",
-            "29 at 2:1",
-        ),
-        ("", "T ::= U", "24 at 2:1"),
-        ("", "T ::= ENUMERATED { a(1), b(1) }", "27 at 2:1"),
-        ("", "T ::= ENUMERATED { a, a }", "26 at 2:1"),
-        ("", "T ::= SEQUENCE { a BOOLEAN DEFAULT 3 }", "30 at 2:1"),
-        (
-            "AUTOMATIC TAGS",
-            "T ::= SEQUENCE { a NULL, a NULL }",
-            "26 at 2:1",
-        ),
-        (
-            "AUTOMATIC TAGS",
-            "T ::= CHOICE { a NULL, a NULL }",
-            "26 at 2:1",
-        ),
-        ("", "T ::= NULL T ::= NULL", "26 at 2:12"),
-        ("", "T ::= NULL U ::= NULL\n U ::= T T ::= V", "26 at 3:2"),
-        ("", "U ::= NULL\n  T ::= SET { a V } V ::= W", "24 at 3:3"),
-        ("", "U ::= NULL", "24 at 1:1"),
-        ("", "T ::= A A ::= SEQUENCE OF A", "25 at 2:1"),
-        ("", "T ::= NULL U ::= V W ::= W", "[U5]NULL"),
-        ("", "T ::= SET { a NULL, b NULL }", "28 at 2:1"),
-        (
-            "",
-            "T ::= CHOICE { a NULL, b CHOICE { c NULL } }",
-            "28 at 2:1",
-        ),
-    ];
-    for (tagging, assignments, wanted) in cases {
-        let found = told_of(rt.alloc(), tagging, assignments)?;
-        assert_eq!(rt; found.as_str(), wanted, "at {assignments}");
+    for row in FAULTS.lines() {
+        assert!(rt; is_told(rt.alloc(), row)?, "{row}");
     }
     Ok(())
 }
