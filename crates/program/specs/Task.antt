@@ -1,5 +1,5 @@
 -- What the program does with a stream of values.
-use Rattle.std.specs.Prelude.{◌≡◌, ◌≢◌, ◌++◌, ◌∷◌, ℕ, Bool, true, false, List, [], Option, IfSome, Result, IfOk, IfErr, ⊤, codes, decimal}
+use Rattle.std.specs.Prelude.{◌≡◌, ◌≢◌, ◌++◌, ◌∷◌, ℕ, Bool, true, false, List, [], Option, Some, None, IfSome, Result, IfOk, IfErr, ⊤, codes, decimal}
 use Rattle.octets.specs.Rule.{Rule}
 use Rattle.types.specs.declared.refusal.Refusal.{Refusal}
 use Rattle.types.specs.declared.refusal.Refusal.TheVariants.{SinkFault}
@@ -18,6 +18,11 @@ use Rattle.program.specs.declared.tasks.Task.TheVariants.{Show, Check, Convert}
 -- the line that says how many values there were
 abbrev pub count_line : ℕ → List ℕ
 count_line count = codes "ok " ++ decimal count ++ 10 ∷ []
+
+-- the task that writes values: as their encodings by a rule or, without one, as lines of text
+abbrev pub writing : Option Canonical → Task
+writing None = Show
+writing (Some to) = Convert to
 
 -- where values are converted to hexadecimal text: the stream was converted to some octets
 abbrev pub IsTextOf : Rule → Canonical → Shape → List ℕ → Type 0

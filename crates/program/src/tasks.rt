@@ -5,14 +5,14 @@ ghost use Rattle.std.specs.Io.KnownBytes.{Appends};
 ghost use Rattle.types.specs.View.{ty_view};
 ghost use Rattle.engine.specs.Rule.{rule_of};
 ghost use Rattle.program.specs.Fault.{fault_status, IsFaultOfInput};
-ghost use Rattle.program.specs.Task.{IsDone, IsTaskFault, HasPerformed, count_line};
+ghost use Rattle.program.specs.Task.{IsDone, IsTaskFault, IsTaskStopped, HasPerformed, count_line, writing};
 
 use crate::Line;
 use crate::fault::Fault;
 use crate::hex_sink::HexSink;
 use crate::output::Output;
-use convert::{Canonical, Rule, check, convert, list};
-use devices::Source;
+use convert::{Canonical, Rule, Stopped, check, convert, list};
+use devices::{Sink, Source, ToWriter};
 use std::alloc::Global;
 use std::io::Write;
 use types::{Refusal, WellTyped};
@@ -44,34 +44,55 @@ pub fn perform<'a, S: Source, W: Write>(
     ensures status { IfErr result IsFaultOfInput }
 {
     match task {
-        Task::Show => print_texts(alloc, ty, line.from, source, out),
+        Task::Show => write_values(alloc, ty, line.from, None, source, out),
         Task::Check => {
             let count = check(alloc, ty, line.from, source)?;
             print_count(alloc, count, out)
         }
         Task::Convert(to) if line.hex => convert_to_text(alloc, ty, line.from, to, source, out),
-        Task::Convert(to) => convert_octets(alloc, ty, line.from, to, source, out),
+        Task::Convert(to) => write_values(alloc, ty, line.from, Some(to), source, out),
     }
 }
 
-// Prints the text of each value.
-fn print_texts<'a, S: Source, W: Write>(
+// Writes what stands for each value: its encoding by the rule `to` or, without one, a line of its text.
+fn write_values<'a, S: Source, W: Write>(
     alloc: Global,
     ty: &WellTyped,
     from: Rule,
+    to: Option<Canonical>,
     source: &mut S,
     out: &mut W,
 ) -> Result<(), Fault<'a>>
     requires { S.failures source.old ≡ 0 }
-    ensures { HasPerformed Task.Show true (rule_of from) (ty_view ty.now) (S.left source.old) (W.contents out.old) (W.contents out.new) result }
+    ensures { HasPerformed (writing to) false (rule_of from) (ty_view ty.now) (S.left source.old) (W.contents out.old) (W.contents out.new) result }
 {
-    let mut sink = Output::new(out);
-    let result = list(alloc, ty, from, source, &mut sink);
-    let out = sink.into_inner();
+    let mut sink = ToWriter::new(Output { writer: out });
+    let result = write_to(alloc, ty, from, to, source, &mut sink);
+    let out = sink.into_inner().writer;
     // No effect at run time: the proof reads what the writer holds from this use of it.
     let _ = &*out;
     result?;
     Ok(())
+}
+
+// Writes what stands for each value to a sink.
+fn write_to<S: Source, K: Sink>(
+    alloc: Global,
+    ty: &WellTyped,
+    from: Rule,
+    to: Option<Canonical>,
+    source: &mut S,
+    sink: &mut K,
+) -> Result<u64, Stopped>
+    requires source { S.failures source.old ≡ 0 }
+    requires sink { K.failures sink.old ≡ 0 }
+    ensures done { IfOk result (λ _. IsDone (writing to) false (rule_of from) (ty_view ty.now) (S.left source.old) (K.taken sink.old) (K.taken sink.new)) }
+    ensures stopped { IfErr result (λ stopped. IsTaskStopped (writing to) false (rule_of from) (ty_view ty.now) stopped.done stopped.refusal (S.left source.old) (K.taken sink.old) (K.taken sink.new)) }
+{
+    match to {
+        Some(to) => convert(alloc, ty, from, to, source, sink),
+        None => list(alloc, ty, from, source, sink),
+    }
 }
 
 // Prints how many values there were: a line that is written at once, unless memory runs out.
@@ -88,27 +109,6 @@ fn print_count<'a, W: Write>(alloc: Global, count: u64, out: &mut W) -> Result<(
         Ok(()) => Ok(()),
         Err(_) => Err(not_printed(count)),
     }
-}
-
-// Writes the encodings of values.
-fn convert_octets<'a, S: Source, W: Write>(
-    alloc: Global,
-    ty: &WellTyped,
-    from: Rule,
-    to: Canonical,
-    source: &mut S,
-    out: &mut W,
-) -> Result<(), Fault<'a>>
-    requires { S.failures source.old ≡ 0 }
-    ensures { HasPerformed (Task.Convert to) false (rule_of from) (ty_view ty.now) (S.left source.old) (W.contents out.old) (W.contents out.new) result }
-{
-    let mut sink = Output::new(out);
-    let result = convert(alloc, ty, from, to, source, &mut sink);
-    let out = sink.into_inner();
-    // No effect at run time: the proof reads what the writer holds from this use of it.
-    let _ = &*out;
-    result?;
-    Ok(())
 }
 
 // Prints the encodings of values as hexadecimal text and, if there are any, a line feed.
