@@ -43,6 +43,12 @@ whole_read rule shape v n octets well canonical by_ber read =
     let unique = encoding_unique shape v by_ber.0 (take n octets) octets (drop n octets) [] well front.encoding by_ber.1.encoding (take-append-drop n octets ∙ sym (append-nil octets)) in
     subst (IsAccepted rule shape v) unique.octets read
 
+-- in a slot
+pub whole_in_slot : (rule : Rule) (shape : Shape) (slot : Option Value) (n : ℕ) (octets : List ℕ) → IsWellFormed shape → IsCanonical rule → IsSomeAccepted ber shape octets
+    → MatchOption slot ⊥ (λ value. IsAccepted rule shape (value_view value) (take n octets)) → MatchOption slot ⊥ (λ value. IsAccepted rule shape (value_view value) octets)
+whole_in_slot rule shape None n octets well canonical by_ber read = read
+whole_in_slot rule shape (Some value) n octets well canonical by_ber read = whole_read rule shape (value_view value) n octets well canonical by_ber read
+
 -- what a strict reader refuses with says that octets are missing, that they are wrong, or that memory was refused
 cases_of_strict : (refusal : Refusal) → IsOfStrictReading refusal → (refusal ≡ Truncated) ⊎ (IsFinal refusal ⊎ (refusal ≡ NoMemory))
 cases_of_strict Truncated h = inl refl
@@ -98,7 +104,7 @@ kept_by_ber shape old new_reader before piece last read used s fed last_is = (
 )
 
 -- a value is complete, and its octets are what the rule gives it
-pub strict_done : (rule : Rule) (shape : Shape) (old new : StrictReader) (before piece last : List ℕ) (read value : Value) (used : ℕ) → StandsStrictly shape old before → ty_view new.ty.now ≡ ty_view old.ty.now
+strict_done : (rule : Rule) (shape : Shape) (old new : StrictReader) (before piece last : List ℕ) (read value : Value) (used : ℕ) → StandsStrictly shape old before → ty_view new.ty.now ≡ ty_view old.ty.now
     → IsFed (StandsOpen shape new.reader) ber shape (Ok used) (Some read) before piece → last ≡ take used piece → IsAccepted rule (ty_view old.ty.now) (value_view value) (old.begun.items ++ last) → new.begun.items ≡ []
     → IsFed (StandsStrictly shape new) rule shape (Ok used) (Some value) before piece
 strict_done rule shape old new before piece last read value used s type fed last_is accepted none =
@@ -107,6 +113,13 @@ strict_done rule shape old new before piece last read value used s type fed last
       record { some = fed.0.some; there = fed.0.there; accepted = here },
       record { type_is = type ∙ s.type_is; well_formed = s.well_formed; reader_stands = fed.1; kept_are = none },
     )
+
+-- in a slot
+pub done_in_slot : (rule : Rule) (shape : Shape) (old new : StrictReader) (before piece last : List ℕ) (read : Value) (slot : Option Value) (used : ℕ) → StandsStrictly shape old before → ty_view new.ty.now ≡ ty_view old.ty.now
+    → IsFed (StandsOpen shape new.reader) ber shape (Ok used) (Some read) before piece → last ≡ take used piece → MatchOption slot ⊥ (λ value. IsAccepted rule (ty_view old.ty.now) (value_view value) (old.begun.items ++ last)) → new.begun.items ≡ []
+    → IsFed (StandsStrictly shape new) rule shape (Ok used) slot before piece
+done_in_slot rule shape old new before piece last read None used s type fed last_is accepted none = absurd accepted
+done_in_slot rule shape old new before piece last read (Some value) used s type fed last_is accepted none = strict_done rule shape old new before piece last read value used s type fed last_is accepted none
 
 -- no memory says nothing of the octets
 pub memory_ran_out : (rule : Rule) (shape : Shape) (octets : List ℕ) (refusal : Refusal) → refusal ≡ NoMemory

@@ -1,6 +1,6 @@
 //! A reader over pieces that takes the one encoding which CER or DER gives a value.
 
-ghost use Rattle.std.specs.Prelude.{◌≡◌, ◌++◌, ◌≤◌, ℕ, List, [], OnOk, IfOk, IfErr, length};
+ghost use Rattle.std.specs.Prelude.{◌≡◌, ◌++◌, ◌≤◌, ℕ, List, [], MatchOption, OnOk, IfOk, IfErr, length};
 ghost use Rattle.octets.specs.Rule.{ber};
 ghost use Rattle.types.specs.Encoding.{IsAccepted, IsSomeAccepted};
 ghost use Rattle.types.specs.Shape.{Shape};
@@ -13,7 +13,7 @@ ghost use Rattle.engine.specs.StrictReader.{IsOfJudging, StandsStrictly};
 use crate::Canonical;
 use berreader::Reader;
 use std::alloc::Global;
-use strict::{read_canonical, read_into};
+use strict::read_into;
 use types::{Refusal, Value, WellTyped};
 
 /// A reader of the one encoding that the rule gives each value. A value that is whole in a piece it reads there. Of
@@ -57,8 +57,7 @@ impl<'a> StrictReader<'a> {
             return Ok(used);
         };
         let (last, _) = piece.split_at(used);
-        let value = judge(self.alloc, self.rule, self.ty, &mut self.begun, last)?;
-        *slot = Some(value);
+        judge(self.alloc, self.rule, self.ty, &mut self.begun, last, slot)?;
         Ok(used)
     }
 
@@ -97,36 +96,46 @@ fn keep(begun: &mut Vec<u8>, octets: &[u8]) -> Result<(), Refusal>
     Ok(())
 }
 
-// The value whose encoding by the rule the octets kept and the last ones are, which BER takes. No octet is kept then.
+// Reads the value whose encoding by the rule the octets kept and the last ones are, which BER takes, into the slot: what
+// BER has read gives it room. No octet is kept then.
 fn judge(
     alloc: Global,
     rule: Canonical,
     ty: &WellTyped,
     begun: &mut Vec<u8>,
     last: &[u8],
-) -> Result<Value, Refusal>
+    slot: &mut Option<Value>,
+) -> Result<(), Refusal>
     requires { IsSomeAccepted ber (ty_view ty.now) (begun.old.items ++ last.now) }
-    ensures accepted { IfOk result (λ value. IsAccepted (canonical_rule_of rule) (ty_view ty.now) (value_view value) (begun.old.items ++ last.now)) }
+    ensures accepted { OnOk result (MatchOption slot.new ⊥ (λ value.
+        IsAccepted (canonical_rule_of rule) (ty_view ty.now) (value_view value) (begun.old.items ++ last.now))) }
     ensures none_kept { OnOk result (begun.new.items ≡ []) }
     ensures never { result ≡ Err Refusal.NotCanonical → ¬ IsSomeAccepted (canonical_rule_of rule) (ty_view ty.now) (begun.old.items ++ last.now) }
     ensures numbers { IfErr result IsOfJudging }
 {
     keep(begun, last)?;
     let octets = begun.as_slice();
-    let judged = read_all(alloc, rule, ty, octets);
+    let judged = read_all(alloc, rule, ty, octets, slot);
     begun.clear();
     judged
 }
 
-// The value whose encoding by the rule the octets are, which BER takes.
-fn read_all(alloc: Global, rule: Canonical, ty: &WellTyped, octets: &[u8]) -> Result<Value, Refusal>
+// Reads the value whose encoding by the rule the octets are, which BER takes, into the slot.
+fn read_all(
+    alloc: Global,
+    rule: Canonical,
+    ty: &WellTyped,
+    octets: &[u8],
+    slot: &mut Option<Value>,
+) -> Result<(), Refusal>
     requires { IsSomeAccepted ber (ty_view ty.now) octets.now }
-    ensures accepted { IfOk result (λ value. IsAccepted (canonical_rule_of rule) (ty_view ty.now) (value_view value) octets.now) }
+    ensures accepted { OnOk result (MatchOption slot.new ⊥ (λ value.
+        IsAccepted (canonical_rule_of rule) (ty_view ty.now) (value_view value) octets.now)) }
     ensures never { result ≡ Err Refusal.NotCanonical → ¬ IsSomeAccepted (canonical_rule_of rule) (ty_view ty.now) octets.now }
     ensures numbers { IfErr result IsOfJudging }
 {
-    match read_canonical(alloc, rule, ty, octets) {
-        Ok((value, _)) => Ok(value),
+    match read_into(alloc, rule, ty, octets, slot) {
+        Ok(_) => Ok(()),
         Err(refusal) => match refusal {
             Refusal::NoMemory => Err(Refusal::NoMemory),
             _ => Err(Refusal::NotCanonical),

@@ -1,13 +1,13 @@
 use Rattle.std.proofs.Common.{Err, ap}
-use Rattle.types.specs.View.{ty_view, value_view}
+use Rattle.types.specs.View.{ty_view}
 use Rattle.engine.specs.Rule.{canonical_rule_of}
 use Rattle.engine.proofs.TranscodingLemmas.{to_is_canonical}
-use Rattle.engine.proofs.StrictReaderLemmas.{whole_read, none_read}
+use Rattle.engine.proofs.StrictReaderLemmas.{whole_in_slot, none_read}
 use Rattle.engine.proofs.strict_reader.read_all.Goals as goal
 
 pub returns-in-Ok-clause-accepted : goal.returns-in-Ok-clause-accepted
 returns-in-Ok-clause-accepted c =
-    whole_read (canonical_rule_of c.args.rule) (ty_view c.args.ty.now) (value_view c.in-Ok.value) _ c.args.octets.now c.in-Ok.ensures.well_formed (to_is_canonical c.args.rule) c.requires c.in-Ok.ensures.value.1
+    whole_in_slot (canonical_rule_of c.args.rule) (ty_view c.args.ty.now) c.read_into.new.slot _ c.args.octets.now c.in-Ok.ensures.well_formed (to_is_canonical c.args.rule) c.requires c.in-Ok.ensures.value.1
 
 pub returns-in_default-clause-never : goal.returns-in_default-clause-never
 returns-in_default-clause-never c = λ _.

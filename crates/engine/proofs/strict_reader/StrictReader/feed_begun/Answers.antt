@@ -3,7 +3,7 @@ use Rattle.engine.specs.Rule.{canonical_rule_of}
 use Rattle.octets.proofs.ResultLemmas.{Err-same}
 use Rattle.engine.proofs.ReaderLemmas.{open_fed}
 use Rattle.engine.proofs.TranscodingLemmas.{to_is_canonical}
-use Rattle.engine.proofs.StrictReaderLemmas.{kept_by_ber, memory_ran_out, strict_more, strict_done, strict_refused, strict_error}
+use Rattle.engine.proofs.StrictReaderLemmas.{kept_by_ber, memory_ran_out, strict_more, done_in_slot, strict_refused, strict_error}
 use Rattle.engine.proofs.strict_reader.StrictReader.feed_begun.Goals as goal
 
 pub judge-requires : goal.judge-requires
@@ -24,16 +24,16 @@ pub returns-clause-fed : goal.returns-clause-fed
 returns-clause-fed c = λ shape old s.
     let fed = open_fed shape c.args.self.now.reader c.feed_into.new.self old c.args.piece.now (Ok c.in_ok-used.used) (Some c.in-Some.field-0) s.reader_stands
     c.in_ok-used.ensures.shape (rw c.in-Some.is at c.in_ok-used.ensures.value) (λ _. tt) tt in
-    strict_done (canonical_rule_of c.args.self.now.rule) shape c.args.self.now _ old c.args.piece.now c.split_at.result.0.now c.in-Some.field-0 c.in_ok-value.value c.in_ok-used.used
-    s refl fed c.split_at.ensures.front c.in_ok-value.ensures.accepted c.in_ok-value.ensures.none_kept
+    done_in_slot (canonical_rule_of c.args.self.now.rule) shape c.args.self.now _ old c.args.piece.now c.split_at.result.0.now c.in-Some.field-0 c.judge.new.slot c.in_ok-used.used
+    s refl fed c.split_at.ensures.front c.in_ok-judge.ensures.accepted c.in_ok-judge.ensures.none_kept
 
-pub returns-in_err-value-clause-fed : goal.returns-in_err-value-clause-fed
-returns-in_err-value-clause-fed c = λ shape old s.
+pub returns-in_err-judge-clause-fed : goal.returns-in_err-judge-clause-fed
+returns-in_err-judge-clause-fed c = λ shape old s.
     let fed = open_fed shape c.args.self.now.reader c.feed_into.new.self old c.args.piece.now (Ok c.in_ok-used.used) (Some c.in-Some.field-0) s.reader_stands
     c.in_ok-used.ensures.shape (rw c.in-Some.is at c.in_ok-used.ensures.value) (λ _. tt) tt in
-    rw (Err-same c.from_residual-in_err-value.result _ c.from_residual-in_err-value.ensures.1)
-    (strict_refused (canonical_rule_of c.args.self.now.rule) shape c.args.self.now c.feed_into.new.self old c.args.piece.now c.split_at.result.0.now c.in-Some.field-0 c.in_ok-used.used c.in_err-value.field-0.0
-    (to_is_canonical c.args.self.now.rule) s fed c.split_at.ensures.front c.in_err-value.ensures.numbers (λ is. c.in_err-value.ensures.never (ap Err is)))
+    rw (Err-same c.from_residual-in_err-judge.result _ c.from_residual-in_err-judge.ensures.1)
+    (strict_refused (canonical_rule_of c.args.self.now.rule) shape c.args.self.now c.feed_into.new.self old c.args.piece.now c.split_at.result.0.now c.in-Some.field-0 c.in_ok-used.used c.in_err-judge.field-0.0
+    (to_is_canonical c.args.self.now.rule) s fed c.split_at.ensures.front c.in_err-judge.ensures.numbers (λ is. c.in_err-judge.ensures.never (ap Err is)))
 
 pub returns-in_err-used-clause-fed : goal.returns-in_err-used-clause-fed
 returns-in_err-used-clause-fed c = λ shape old s.
