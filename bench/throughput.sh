@@ -35,8 +35,8 @@
 #
 # Of each, CER may take 1.5 times the time that DER takes, `check` no more than it, and `show` 3 times it.
 # A run over one NULL may take 1.5 ms. At most 3 MiB may be resident over values of at most 4 KiB, and 30 MiB over
-# a string, a SEQUENCE OF NULL, a SET OF INTEGER or a SEQUENCE OF a CHOICE of 1 MiB; a list of values that have parts
-# takes more.
+# a string, a SEQUENCE OF NULL, a SET OF INTEGER or, from BER and from DER, a SEQUENCE OF a CHOICE of 1 MiB; a list of
+# values that have parts takes more.
 #
 # A time is processor time, the median of five runs, and of a hundred over one NULL. The last line names the bounds
 # that are not held.
@@ -141,6 +141,10 @@ row descending_sets 120
 row sets_of_fronts 60
 row choices_of_two 200
 row choices 200
+"$program" convert "${input[@]}" --to der >"$work/strict"
+measure 1 "$program" convert "${input[@]:0:2}" "$work/strict" --from der --to der
+residents[choices_from_der]=$resident
+rm "$work/strict"
 hold '  a CHOICE of 256 over one of two' 150 "${times[choices]}" "${times[choices_of_two]}"
 row disordered_choices 200
 row members 140
@@ -166,6 +170,7 @@ hold 'segments_of_1000, over 1 MiB' 3000 "${residents[segments_of_1000]}" 1024
 hold 'segments_of_1, over 1 MiB' 3000 "${residents[segments_of_1]}" 1024
 hold 'random_sets, over 1 MiB' 3000 "${residents[random_sets]}" 1024
 hold 'choices, over 1 MiB' 3000 "${residents[choices]}" 1024
+hold 'choices from DER, over 1 MiB' 3000 "${residents[choices_from_der]}" 1024
 prepare nulls
 measure 1 "$program" convert "${input[@]}" --to der
 hold 'SEQUENCE OF NULL, over 1 MiB' 3000 "$resident" 1024
