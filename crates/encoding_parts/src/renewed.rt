@@ -1,6 +1,6 @@
 //! Lists that are made in the room of old ones.
 
-ghost use Rattle.std.specs.Prelude.{◌≡◌, ◌↔◌, ◌++◌, ◌∷◌, ◌+◌, ◌<◌, ◌≤◌, [], false, take, IsTrue, OnOk, vec_len, vec_capacity};
+ghost use Rattle.std.specs.Prelude.{◌≡◌, ◌↔◌, ◌++◌, ◌∷◌, ◌+◌, ◌<◌, ◌≤◌, [], false, take, IsTrue, OnOk, OnErr, vec_len, vec_capacity};
 ghost use Rattle.encoding_parts.specs.Renewed.{new_items};
 
 use crate::slots::take_list;
@@ -73,16 +73,13 @@ impl Renewed {
         ensures put { IsTrue result → new_items self.new ≡ new_items self.old ++ (item ∷ []) }
         ensures kept { result ≡ false → new_items self.new ≡ new_items self.old }
     {
-        if !reserve(&mut self.items, before, used, left) {
-            return false;
-        }
-        self.append(item);
-        true
+        reserve(&mut self.items, before, used, left) && self.push(item).is_ok()
     }
 
     /// Puts an item behind the new ones, in the place of an old one if there is one. Refused where memory runs out.
     pub fn push(&mut self, item: Value) -> Result<(), NoMemory>
-        ensures { OnOk result (new_items self.new ≡ new_items self.old ++ (item ∷ [])) }
+        ensures put { OnOk result (new_items self.new ≡ new_items self.old ++ (item ∷ [])) }
+        ensures kept { OnErr result (new_items self.new ≡ new_items self.old) }
     {
         let place = self.count;
         if place < self.items.len() {
@@ -91,18 +88,9 @@ impl Renewed {
             return Ok(());
         }
         grow(&mut self.items)?;
-        self.append(item);
-        Ok(())
-    }
-
-    // Puts an item behind the new ones, where there are no old ones, and room.
-    fn append(&mut self, item: Value)
-        requires none { vec_len self.old.items ≤ self.old.count }
-        requires room { vec_len self.old.items < vec_capacity self.old.items }
-        ensures { new_items self.new ≡ new_items self.old ++ (item ∷ []) }
-    {
         self.items.push_reserved(item);
         self.count = self.items.len();
+        Ok(())
     }
 
     /// The new items. What stands behind them is dropped: old ones, or one that was begun and refused.
