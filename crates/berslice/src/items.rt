@@ -77,10 +77,22 @@ pub fn read_items(
         let rest = &octets[at..];
         match read_item(alloc, inner, levels, rest, before, &mut places, list) {
             Some(used) => at += used,
-            None => return at,
+            None => {
+                drop_begun(list);
+                return at;
+            }
         }
     }
     at
+}
+
+// Drops what has come of the item behind the new ones, which was begun and is read again, part by part, or refused.
+fn drop_begun(list: &mut Renewed)
+    ensures { new_items list.new ≡ new_items list.old }
+{
+    if list.count < list.items.len() {
+        list.items[list.count] = Value::Null;
+    }
 }
 
 // Puts the item at the front into the list, and returns how many octets it has. So many had come `before` these octets.

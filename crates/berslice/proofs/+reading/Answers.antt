@@ -131,7 +131,7 @@ items::read_items-loop-alloc-preserved t c =
 
 pub items::read_items-returns-in-None : goal.items::read_items-returns-in-None
 items::read_items-returns-in-None t c =
-    subst (λ l. AreMoreItemsRead c.args.levels (ty_view c.args.inner.now) c.args.octets.now (new_items c.args.list.now) l c.loop-alloc.at) (sym (c.in-None.ensures.none refl)) c.loop-alloc.invariant
+    subst (λ l. AreMoreItemsRead c.args.levels (ty_view c.args.inner.now) c.args.octets.now (new_items c.args.list.now) l c.loop-alloc.at) (sym (c.drop_begun.ensures ∙ c.in-None.ensures.none refl)) c.loop-alloc.invariant
 
 pub items::read_items-returns : goal.items::read_items-returns
 items::read_items-returns t c = c.loop-alloc.invariant
