@@ -20,7 +20,7 @@ use types::{Ty, Value};
 // Reads the encoding at the front, of a type without parts under this tag, into the value, if it is a primitive one
 // with two octets before its contents octets, and returns how many octets it has. Of all others it says nothing, and of
 // what is refused.
-#[inline(never)]
+#[inline(always)]
 pub fn read_shortly(
     alloc: Global,
     ty: &Ty,
@@ -42,7 +42,9 @@ pub fn read_shortly(
 
 // Makes the value that of a type without parts that the contents octets are, as CER and DER have them, and says whether
 // it has. Where they are those of none, or memory runs out, it says no more. Of BOOLEAN and BIT STRING BER has others
-// (X.690 11.1 and 11.2): these stand apart, so that all other types are told apart once.
+// (X.690 11.1 and 11.2): these stand apart, so that all other types are told apart once. A call of its own, so that a
+// component that is absent, as its tag shows, costs none.
+#[inline(never)]
 fn fill_canonical(alloc: Global, ty: &Ty, contents: &[u8], value: &mut Value) -> bool
     requires { IsLeaf (ty_view ty.now) }
     ensures { IsTrue result → HoldsValue der (ty_view ty.now) (value_view value.new) contents.now }
