@@ -16,6 +16,7 @@ use Rattle.types.specs.View.{value_view}
 use Rattle.types.specs.Contents.{IsContents}
 use Rattle.types.specs.Form.{IsPrimitive}
 use Rattle.types.proofs.CanonicalLemmas.{primitive_by_cer, primitive_by_der}
+use Rattle.types.proofs.CerLemmas.{contents_by_cer, contents_by_der}
 use Rattle.types.proofs.ContentsExistenceLemmas.{simple_contents}
 use Rattle.types.proofs.ViewLemmas.{value-Integer, value-Enumerated}
 use Rattle.canon.specs.declared.rule.CanonicalRule.{CanonicalRule}
@@ -41,26 +42,39 @@ primitive_from_der : (rule : CanonicalRule) (tag : Tag) (contents octets : List 
 primitive_from_der Cer tag contents octets h = primitive_by_cer tag contents octets h
 primitive_from_der Der tag contents octets h = h
 
+-- and the same contents octets
+contents_to_der : (rule : CanonicalRule) (v : Val) (contents : List ℕ) → IsContentsOf (rule_of rule) v contents → IsContentsOf der v contents
+contents_to_der Cer (Val.simple value) contents h = contents_by_der value contents h
+contents_to_der Cer v contents h = elim h [ ]
+contents_to_der Der v contents h = h
+
+contents_from_der : (rule : CanonicalRule) (v : Val) (contents : List ℕ) → IsContentsOf der v contents → IsContentsOf (rule_of rule) v contents
+contents_from_der Cer (Val.simple value) contents h = contents_by_cer value contents h
+contents_from_der Cer v contents h = elim h [ ]
+contents_from_der Der v contents h = h
+
+pub simply_from_der : (rule : CanonicalRule) (tag : Tag) (v : Val) (octets : List ℕ) → IsSimplyEncoded der tag v octets → IsSimplyEncoded (rule_of rule) tag v octets
+simply_from_der rule tag v octets h = record { contents = h.contents; spelt = contents_from_der rule v h.contents h.spelt; primitive = primitive_from_der rule tag h.contents octets h.primitive }
+
 -- what stands before contents octets, and they behind it
-pub simple_made : (rule : CanonicalRule) (tag : Tag) (v : Val) (n : ℕ) (old mid new : List ℕ) → Appends (IsPrimitiveHead tag n) old mid → Appends (IsContentsOf (rule_of rule) v) mid new
-    → ((contents : List ℕ) → IsContentsOf (rule_of rule) v contents → length contents ≡ n) → Appends (IsSimplyEncoded (rule_of rule) tag v) old new
-simple_made rule tag v n old mid new head contents count =
+pub simple_made : (tag : Tag) (v : Val) (n : ℕ) (old mid new : List ℕ) → Appends (IsPrimitiveHead tag n) old mid → Appends (IsContentsOf der v) mid new → ((contents : List ℕ) → IsContentsOf der v contents → length contents ≡ n) → Appends (IsSimplyEncoded der tag v) old new
+simple_made tag v n old mid new head contents count =
     let h = head.2 in
     let whole = head.0 ++ contents.0 in
     let sized : IsShortestLength (length contents.0) h.size = subst (λ k. IsShortestLength k h.size) (sym (count contents.0 contents.2)) h.sized in
     let joined = ap (λ x. x ++ contents.0) h.joined ∙ append_assoc h.identifier h.size contents.0 in (
       whole,
       contents.1 ∙ ap (λ x. x ++ contents.0) head.1 ∙ append_assoc old head.0 contents.0,
-      record { contents = contents.0; spelt = contents.2; primitive = primitive_from_der rule tag contents.0 whole record { identifier = h.identifier; size = h.size; tagged = h.tagged; sized = sized; joined = joined } },
+      record { contents = contents.0; spelt = contents.2; primitive = record { identifier = h.identifier; size = h.size; tagged = h.tagged; sized = sized; joined = joined } },
     )
 
 -- an opening, contents octets behind it, and their length in its place
-pub simple_closed : (rule : CanonicalRule) (tag : Tag) (v : Val) (place : ℕ) (old one two new : List ℕ) → IsOpening tag false old one place → Appends (IsContentsOf (rule_of rule) v) one two → IsLengthPut place two new → Appends (IsSimplyEncoded (rule_of rule) tag v) old new
-simple_closed rule tag v place old one two new opening contents put =
+pub simple_closed : (tag : Tag) (v : Val) (place : ℕ) (old one two new : List ℕ) → IsOpening tag false old one place → Appends (IsContentsOf der v) one two → IsLengthPut place two new → Appends (IsSimplyEncoded der tag v) old new
+simple_closed tag v place old one two new opening contents put =
     let whole = closed_definite tag false place old one contents.0 two new opening contents.1 put in (
       whole.0,
       whole.1,
-      record { contents = contents.0; spelt = contents.2; primitive = primitive_from_der rule tag contents.0 whole.0 whole.2 },
+      record { contents = contents.0; spelt = contents.2; primitive = whole.2 },
     )
 
 -- some contents octets
@@ -77,36 +91,27 @@ contents_there : (rule : CanonicalRule) (v : Val) → IsSimple v → (contents :
 contents_there rule (Val.simple value) h = within_contents (rule_of rule) value (rule_is_canonical rule) h
 contents_there rule v h = elim h [ ]
 
-some_simple : (rule : CanonicalRule) (tag : Tag) (v : Val) (n : ℕ) → tag.number ≤ MAX_TAG_NUMBER → IsSimple v → n ≤ 2451 → ((contents : List ℕ) → IsContentsOf (rule_of rule) v contents → length contents ≡ n) → (octets : List ℕ) × IsSimplyEncoded (rule_of rule) tag v octets
+some_simple : (rule : CanonicalRule) (tag : Tag) (v : Val) (n : ℕ) → tag.number ≤ MAX_TAG_NUMBER → IsSimple v → n ≤ 2451 → ((contents : List ℕ) → IsContentsOf der v contents → length contents ≡ n) → (octets : List ℕ) × IsSimplyEncoded (rule_of rule) tag v octets
 some_simple rule tag v n kept simple few count =
     let some = contents_there rule v simple in
     let wide : 2 ^ 64 ≡ 18446744073709551616 = refl in
-    let p = primitive_exists tag some.0 kept (omega (arith, count some.0 some.1, few, wide)) in
+    let p = primitive_exists tag some.0 kept (omega (arith, count some.0 (contents_to_der rule v some.0 some.1), few, wide)) in
     (p.0, record { contents = some.0; spelt = some.1; primitive = primitive_from_der rule tag some.0 p.0 (primitive_by_der tag some.0 p.0 p.1) })
 
-pub simple_size : (rule : CanonicalRule) (tag : Tag) (v : Val) (n size : ℕ) → tag.number ≤ MAX_TAG_NUMBER → IsSimple v → n ≤ 2451 → ((contents : List ℕ) → IsContentsOf (rule_of rule) v contents → length contents ≡ n) → SizesPrimitive tag n size
+pub simple_size : (rule : CanonicalRule) (tag : Tag) (v : Val) (n size : ℕ) → tag.number ≤ MAX_TAG_NUMBER → IsSimple v → n ≤ 2451 → ((contents : List ℕ) → IsContentsOf der v contents → length contents ≡ n) → SizesPrimitive tag n size
     → HasSize (IsSimplyEncoded (rule_of rule) tag v) size
 simple_size rule tag v n size kept simple few count sizes = record {
-  each = λ octets h. sizes h.contents octets (omega (arith, count h.contents h.spelt, few)) (primitive_to_der rule tag h.contents octets h.primitive);
+  each = λ octets h. sizes h.contents octets (omega (arith, count h.contents (contents_to_der rule v h.contents h.spelt), few)) (primitive_to_der rule tag h.contents octets h.primitive);
   there = λ within. some_simple rule tag v n kept simple few count;
 }
 
 -- what is written of a BOOLEAN
-boolean_is : (rule : CanonicalRule) (truth : Bool) (b : List ℕ) → IsCanonicalBoolean truth b → IsBoolean (rule_of rule) truth b
-boolean_is Cer truth b h = h.0
-boolean_is Der truth b h = h.1
+pub boolean_counts : (truth : Bool) (contents : List ℕ) → IsBoolean der truth contents → length contents ≡ 1
+boolean_counts false contents h = ap length h
+boolean_counts true contents h = ap length h
 
-boolean_count : (rule : CanonicalRule) (truth : Bool) (b : List ℕ) → IsBoolean (rule_of rule) truth b → length b ≡ 1
-boolean_count Cer false b h = ap length h
-boolean_count Cer true b h = ap length h
-boolean_count Der false b h = ap length h
-boolean_count Der true b h = ap length h
-
-pub boolean_counts : (rule : CanonicalRule) (v : Val) (truth : Bool) → v ≡ Val.simple (SimpleValue.boolean truth) → (contents : List ℕ) → IsContentsOf (rule_of rule) v contents → length contents ≡ 1
-boolean_counts rule v truth is contents h = boolean_count rule truth contents (subst (λ w. IsContentsOf (rule_of rule) w contents) is h)
-
-pub boolean_contents : (rule : CanonicalRule) (v : Val) (truth : Bool) (old new : List ℕ) → v ≡ Val.simple (SimpleValue.boolean truth) → Appends (IsCanonicalBoolean truth) old new → Appends (IsContentsOf (rule_of rule) v) old new
-boolean_contents rule v truth old new is h = (h.0, h.1, subst (λ w. IsContentsOf (rule_of rule) w h.0) (sym is) (boolean_is rule truth h.0 h.2))
+pub boolean_contents : (truth : Bool) (old new : List ℕ) → Appends (IsCanonicalBoolean truth) old new → Appends (IsContentsOf der (Val.simple (SimpleValue.boolean truth))) old new
+boolean_contents truth old new h = (h.0, h.1, h.2.1)
 
 -- of an INTEGER or ENUMERATED
 abbrev pub IsNumber : Val → ℤ → Type 0
@@ -124,6 +129,6 @@ pub number_spelt : (rule : CanonicalRule) (v : Val) (number : ℤ) (contents : L
 number_spelt rule v number contents (inl is) h = subst (λ w. IsContentsOf (rule_of rule) w contents) is h
 number_spelt rule v number contents (inr is) h = subst (λ w. IsContentsOf (rule_of rule) w contents) is h
 
-pub number_encoded : (rule : CanonicalRule) (tag : Tag) (v : Val) (number : ℤ) (octets : List ℕ) → IsNumber v number → IsNumberEncoding tag number octets → IsSimplyEncoded (rule_of rule) tag v octets
-number_encoded rule tag v number octets (inl is) h = record { contents = h.contents; spelt = subst (λ w. IsContentsOf (rule_of rule) w h.contents) (sym is) h.spelt; primitive = primitive_from_der rule tag h.contents octets h.primitive }
-number_encoded rule tag v number octets (inr is) h = record { contents = h.contents; spelt = subst (λ w. IsContentsOf (rule_of rule) w h.contents) (sym is) h.spelt; primitive = primitive_from_der rule tag h.contents octets h.primitive }
+pub number_encoded : (tag : Tag) (v : Val) (number : ℤ) (octets : List ℕ) → IsNumber v number → IsNumberEncoding tag number octets → IsSimplyEncoded der tag v octets
+number_encoded tag v number octets (inl is) h = record { contents = h.contents; spelt = subst (λ w. IsContentsOf der w h.contents) (sym is) h.spelt; primitive = h.primitive }
+number_encoded tag v number octets (inr is) h = record { contents = h.contents; spelt = subst (λ w. IsContentsOf der w h.contents) (sym is) h.spelt; primitive = h.primitive }

@@ -3,29 +3,23 @@
 ghost use Rattle.std.specs.Prelude.{Bool, ◌≡◌, ◌≤◌, ◌<◌, ◌*◌, ◌^◌, ℕ, List, length, OnOk, OnErr};
 ghost use Rattle.octets.specs.Base128.{IsBase128};
 ghost use Rattle.octets.specs.Front.{Appends};
+ghost use Rattle.octets.specs.Rule.{der};
 ghost use Rattle.primitives.specs.Integer.{IsInteger, number_at};
 ghost use Rattle.primitives.specs.Oid.{AreSubidentifiers, IsOid, IsOidValue};
 ghost use Rattle.types.specs.View.{value_view};
-ghost use Rattle.canon.specs.Rule.{rule_of};
 ghost use Rattle.canon.specs.Leaf.{IsContentsOf, IsSimple};
 
-use crate::rule::CanonicalRule;
 use octets::NoMemory;
 use primitives::{put_boolean, put_integer, put_null, put_oid, put_relative_oid};
 use types::Value;
 
 // Appends the contents octets of a value, which are the same under both rules.
-pub(crate) fn put_contents(
-    rule: CanonicalRule,
-    value: &Value,
-    out: &mut Vec<u8>,
-) -> Result<(), NoMemory>
+pub(crate) fn put_contents(value: &Value, out: &mut Vec<u8>) -> Result<(), NoMemory>
     requires { IsSimple (value_view value.now) }
     ensures appended { OnOk result
-        (Appends (IsContentsOf (rule_of rule) (value_view value.now)) out.old.items out.new.items) }
+        (Appends (IsContentsOf der (value_view value.now)) out.old.items out.new.items) }
     ensures unchanged { OnErr result (out.new.items ≡ out.old.items) }
 {
-    let _ = rule;
     match value {
         Value::Boolean(truth) => put_boolean(out, *truth),
         Value::Integer(number) | Value::Enumerated(number) => put_integer(out, *number),
@@ -45,14 +39,13 @@ pub(crate) fn put_contents(
     }
 }
 
-// How many contents octets the value has.
-pub(crate) fn size_of_contents(rule: CanonicalRule, value: &Value) -> usize
+// How many contents octets the value has, under both rules.
+pub(crate) fn size_of_contents(value: &Value) -> usize
     requires { IsSimple (value_view value.now) }
-    ensures size { (contents : List ℕ) → IsContentsOf (rule_of rule) (value_view value.now) contents →
+    ensures size { (contents : List ℕ) → IsContentsOf der (value_view value.now) contents →
         length contents ≡ result }
     ensures at_most { result ≤ 2451 }
 {
-    let _ = rule;
     match value {
         Value::Boolean(_) => 1,
         Value::Integer(number) | Value::Enumerated(number) => size_of_integer(*number),

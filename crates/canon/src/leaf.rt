@@ -2,6 +2,7 @@
 
 ghost use Rattle.std.specs.Prelude.{◌≤◌, ◌+◌};
 ghost use Rattle.octets.specs.declared.TheConstants.{MAX_ENCODING, MAX_TAG_NUMBER};
+ghost use Rattle.octets.specs.Rule.{der};
 ghost use Rattle.types.specs.Shape.{SimpleValue, Val};
 ghost use Rattle.types.specs.View.{value_view};
 ghost use Rattle.canon.specs.Leaf.{IsLeaf, IsLeafEncoding, IsSimple, IsSimplyEncoded};
@@ -47,7 +48,7 @@ pub(crate) fn size_of_leaf(rule: CanonicalRule, tag: Tag, value: &Value) -> usiz
         | Value::Enumerated(_)
         | Value::Null
         | Value::Oid(_)
-        | Value::RelativeOid(_) => size_of_definite(tag, size_of_contents(rule, value)),
+        | Value::RelativeOid(_) => size_of_definite(tag, size_of_contents(value)),
         Value::Fields(_) | Value::Items(_) | Value::Chosen(..) => unreachable!(),
     }
 }
@@ -85,26 +86,20 @@ pub(crate) fn put_leaf(
         | Value::Enumerated(_)
         | Value::Null
         | Value::Oid(_)
-        | Value::RelativeOid(_) => put_simple(rule, tag, value, out),
+        | Value::RelativeOid(_) => put_simple(tag, value, out),
         Value::Fields(_) | Value::Items(_) | Value::Chosen(..) => unreachable!(),
     }
 }
 
-// Appends the primitive encoding of a value under `tag`.
+// Appends the primitive encoding of a value under `tag`, which is the same under both rules.
 #[inline(always)]
-pub(crate) fn put_simple(
-    rule: CanonicalRule,
-    tag: Tag,
-    value: &Value,
-    out: &mut Vec<u8>,
-) -> Result<(), NoMemory>
+fn put_simple(tag: Tag, value: &Value, out: &mut Vec<u8>) -> Result<(), NoMemory>
     requires tag { tag.number ≤ MAX_TAG_NUMBER }
     requires simple { IsSimple (value_view value.now) }
-    ensures { Writes (IsSimplyEncoded (rule_of rule) tag (value_view value.now))
-        result out.old.items out.new.items }
+    ensures { Writes (IsSimplyEncoded der tag (value_view value.now)) result out.old.items out.new.items }
 {
     match value {
-        Value::Boolean(truth) => put_truth(rule, tag, *truth, out),
+        Value::Boolean(truth) => put_truth(tag, *truth, out),
         Value::Integer(number) | Value::Enumerated(number) => put_number(tag, *number, out),
         Value::WideInteger(_)
         | Value::Null
@@ -117,7 +112,7 @@ pub(crate) fn put_simple(
         | Value::Items(_)
         | Value::Chosen(..) => {
             let place = put_opening(tag, false, out)?;
-            put_contents(rule, value, out)?;
+            put_contents(value, out)?;
             put_length(place, out)
         }
     }
@@ -125,11 +120,10 @@ pub(crate) fn put_simple(
 
 // Appends the encoding of a BOOLEAN under `tag` (X.690 8.2 and 11.1).
 #[inline(always)]
-fn put_truth(rule: CanonicalRule, tag: Tag, truth: bool, out: &mut Vec<u8>) -> Result<(), NoMemory>
-    ensures { Writes (IsSimplyEncoded (rule_of rule) tag (Val.simple (SimpleValue.boolean truth)))
+fn put_truth(tag: Tag, truth: bool, out: &mut Vec<u8>) -> Result<(), NoMemory>
+    ensures { Writes (IsSimplyEncoded der tag (Val.simple (SimpleValue.boolean truth)))
         result out.old.items out.new.items }
 {
-    let _ = rule;
     if tag.number < 31 {
         let octet = if truth { 0xFF } else { 0x00 };
         return put_three(leading_octet(tag), 1, octet, out);

@@ -6,6 +6,7 @@ use Rattle.primitives.proofs.BitsLemmas.{one_padding}
 use Rattle.canon.specs.Rule.{rule_of}
 use Rattle.canon.specs.Segments.{IsStringOf}
 use Rattle.canon.proofs.LeafLemmas.{bits_put, octets_put, simply_leaf}
+use Rattle.canon.proofs.SimpleLemmas.{simply_from_der}
 use Rattle.canon.proofs.WritesLemmas.{written_by}
 use Rattle.canon.proofs.leaf.put_leaf.Goals as goal
 
@@ -25,4 +26,5 @@ returns-in-Octets c =
 
 pub returns-in-Boolean : goal.returns-in-Boolean
 returns-in-Boolean c =
-    written_by c.put_simple.ensures (simply_leaf (rule_of c.args.rule) c.args.tag (value_view c.args.value.now))
+    let v = value_view c.args.value.now in
+    written_by c.put_simple.ensures (λ b h. simply_leaf (rule_of c.args.rule) c.args.tag v b (simply_from_der c.args.rule c.args.tag v b h))

@@ -1,11 +1,11 @@
 use Rattle.std.proofs.Common.{◌≡◌, ◌∙◌, ◌∷◌, [], ◌++◌, ℕ, Bool, List, refl, sym, subst₂, arith, append_assoc, append-nil}
 use Rattle.octets.specs.Front.{Appends}
+use Rattle.octets.specs.Rule.{der}
 use Rattle.octets.proofs.ResultLemmas.{OnOk-map}
 use Rattle.primitives.specs.Boolean.{IsCanonicalBoolean}
 use Rattle.types.specs.Shape.{SimpleValue, Val}
 use Rattle.canon.specs.Leaf.{IsSimplyEncoded}
 use Rattle.canon.specs.Part.{Keeps}
-use Rattle.canon.specs.Rule.{rule_of}
 use Rattle.canon.proofs.KeptLemmas.{kept}
 use Rattle.canon.proofs.PrimitiveLemmas.{short_head}
 use Rattle.canon.proofs.SimpleLemmas.{simple_made, boolean_counts, boolean_contents}
@@ -14,7 +14,6 @@ use Rattle.canon.proofs.leaf.put_truth.Goals as goal
 
 pub returns-then-tag-lt31 : goal.returns-then-tag-lt31
 returns-then-tag-lt31 c =
-    let rule = c.args.rule in
     let tag = c.args.tag in
     let truth = c.args.truth in
     let v = Val.simple (SimpleValue.boolean truth) in
@@ -28,16 +27,15 @@ returns-then-tag-lt31 c =
       | else-truth w ↦ subst₂ (λ (t : Bool) (o : ℕ). IsCanonicalBoolean t (o ∷ [])) (sym w.if-truth.false) (sym w.octet-is) (refl, refl)
     ] in
     record {
-      appended = OnOk-map c.put_three.result (new ≡ old ++ first ∷ 1 ∷ octet ∷ []) (Appends (IsSimplyEncoded (rule_of rule) tag v) old new)
-          (λ is. simple_made rule tag v 1 old (old ++ head) new (head, refl, short_head tag 1 first c.if-tag-lt31.true (omega arith) c.leading_octet.ensures)
-          (boolean_contents rule v truth (old ++ head) new refl (octet ∷ [], is ∙ sym (append_assoc old head (octet ∷ [])), spelt)) (boolean_counts rule v truth refl))
+      appended = OnOk-map c.put_three.result (new ≡ old ++ first ∷ 1 ∷ octet ∷ []) (Appends (IsSimplyEncoded der tag v) old new)
+          (λ is. simple_made tag v 1 old (old ++ head) new (head, refl, short_head tag 1 first c.if-tag-lt31.true (omega arith) c.leading_octet.ensures)
+          (boolean_contents truth (old ++ head) new (octet ∷ [], is ∙ sym (append_assoc old head (octet ∷ [])), spelt)) (boolean_counts truth))
           c.put_three.ensures.appended;
       kept = kept c.put_three.result (new ≡ old) (Keeps old new) (λ same. ([], same ∙ sym (append-nil old), tt)) c.put_three.ensures.unchanged;
     }
 
 pub returns : goal.returns
 returns c =
-    let rule = c.args.rule in
     let tag = c.args.tag in
     let truth = c.args.truth in
     let v = Val.simple (SimpleValue.boolean truth) in
@@ -46,7 +44,7 @@ returns c =
     let new : List ℕ = c.put_boolean.new.out.items in
     let head = c.in_ok-put_primitive_head.ensures.appended in
     record {
-      appended = OnOk-map c.put_boolean.result (Appends (IsCanonicalBoolean truth) mid new) (Appends (IsSimplyEncoded (rule_of rule) tag v) old new)
-          (λ put. simple_made rule tag v 1 old mid new head (boolean_contents rule v truth mid new refl put) (boolean_counts rule v truth refl)) c.put_boolean.ensures.appended;
+      appended = OnOk-map c.put_boolean.result (Appends (IsCanonicalBoolean truth) mid new) (Appends (IsSimplyEncoded der tag v) old new)
+          (λ put. simple_made tag v 1 old mid new head (boolean_contents truth mid new put) (boolean_counts truth)) c.put_boolean.ensures.appended;
       kept = kept c.put_boolean.result (new ≡ mid) (Keeps old new) (λ same. (head.0, same ∙ head.1, tt)) c.put_boolean.ensures.unchanged;
     }
