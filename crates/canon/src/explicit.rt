@@ -13,68 +13,56 @@ ghost use Rattle.canon.specs.Writes.{IsWritable, Writes};
 use crate::heads::{put_closing, put_opening};
 use crate::rule::CanonicalRule;
 use crate::turned::{moves_often, put_turned_head, turn_forward};
-use crate::writing::put_value;
+use crate::writer::Writer;
 use octets::{NoMemory, Tag};
 use std::alloc::Global;
 use types::{Ty, Value};
 
-// Appends the encoding of a value of the type `ty` under an explicit tag.
-#[cycle(writing)]
-#[inline(always)]
-pub(crate) fn put_explicit(
-    alloc: Global,
-    rule: CanonicalRule,
-    tag: Tag,
-    ty: &Ty,
-    value: &Value,
-    out: &mut Vec<u8>,
-) -> Result<(), NoMemory>
-    requires { IsWritable (ty_view ty.now) (value_view value.now) }
-    ensures { Writes (IsEncoding (rule_of rule) (Shape.explicit tag (ty_view ty.now)) (value_view value.now))
-        result out.old.items out.new.items }
-{
-    if moves_often(rule, ty, value) {
-        return put_from_inside(alloc, tag, ty, value, out);
+impl Writer {
+    // Appends the encoding of a value of the type `ty` under an explicit tag.
+    #[cycle(writing)]
+    #[inline(always)]
+    pub(crate) fn put_explicit(
+        self,
+        tag: Tag,
+        ty: &Ty,
+        value: &Value,
+        out: &mut Vec<u8>,
+    ) -> Result<(), NoMemory>
+        requires { IsWritable (ty_view ty.now) (value_view value.now) }
+        ensures { Writes (IsEncoding (rule_of self.rule) (Shape.explicit tag (ty_view ty.now)) (value_view value.now))
+            result out.old.items out.new.items }
+    {
+        if moves_often(self.rule, ty, value) {
+            return put_from_inside(self.alloc, tag, ty, value, out);
+        }
+        self.put_tagged(tag, ty, value, out)
     }
-    put_under_tag(alloc, rule, tag, ty, value, out)
-}
 
-// Appends the encoding of a value of the type `ty` under an explicit tag, from the first octet to the last.
-#[cycle(writing)]
-fn put_under_tag(
-    alloc: Global,
-    rule: CanonicalRule,
-    tag: Tag,
-    ty: &Ty,
-    value: &Value,
-    out: &mut Vec<u8>,
-) -> Result<(), NoMemory>
-    requires { IsWritable (ty_view ty.now) (value_view value.now) }
-    ensures { Writes (IsEncoding (rule_of rule) (Shape.explicit tag (ty_view ty.now)) (value_view value.now))
-        result out.old.items out.new.items }
-{
-    let place = put_opening(tag, true, out)?;
-    put_tagged(alloc, rule, ty, value, out)?;
-    put_closing(rule, place, out)
-}
+    // Appends the encoding of a value of the type `ty` under an explicit tag, from the first octet to the last.
+    #[cycle(writing)]
+    fn put_tagged(self, tag: Tag, ty: &Ty, value: &Value, out: &mut Vec<u8>) -> Result<(), NoMemory>
+        requires { IsWritable (ty_view ty.now) (value_view value.now) }
+        ensures { Writes (IsEncoding (rule_of self.rule) (Shape.explicit tag (ty_view ty.now)) (value_view value.now))
+            result out.old.items out.new.items }
+    {
+        let place = put_opening(tag, true, out)?;
+        self.put_inside(ty, value, out)?;
+        put_closing(self.rule, place, out)
+    }
 
-// Appends the contents octets behind an explicit tag: the encoding of a value, mostly under a further tag.
-#[cycle(writing)]
-#[inline(always)]
-fn put_tagged(
-    alloc: Global,
-    rule: CanonicalRule,
-    ty: &Ty,
-    value: &Value,
-    out: &mut Vec<u8>,
-) -> Result<(), NoMemory>
-    requires { IsWritable (ty_view ty.now) (value_view value.now) }
-    ensures { Writes (IsEncoding (rule_of rule) (ty_view ty.now) (value_view value.now))
-        result out.old.items out.new.items }
-{
-    match ty {
-        Ty::Explicit(tag, inner) => put_under_tag(alloc, rule, *tag, inner, value, out),
-        _ => put_value(alloc, rule, ty, value, out),
+    // Appends the contents octets behind an explicit tag: the encoding of a value, mostly under a further tag.
+    #[cycle(writing)]
+    #[inline(always)]
+    fn put_inside(self, ty: &Ty, value: &Value, out: &mut Vec<u8>) -> Result<(), NoMemory>
+        requires { IsWritable (ty_view ty.now) (value_view value.now) }
+        ensures { Writes (IsEncoding (rule_of self.rule) (ty_view ty.now) (value_view value.now))
+            result out.old.items out.new.items }
+    {
+        match ty {
+            Ty::Explicit(tag, inner) => self.put_tagged(*tag, inner, value, out),
+            _ => self.put_value(ty, value, out),
+        }
     }
 }
 
@@ -131,7 +119,8 @@ fn put_turned(alloc: Global, ty: &Ty, value: &Value, out: &mut Vec<u8>) -> Resul
     match ty {
         Ty::Explicit(tag, inner) => put_turned_around(alloc, *tag, inner, value, out),
         _ => {
-            put_value(alloc, CanonicalRule::Der, ty, value, out)?;
+            let rule = CanonicalRule::Der;
+            Writer { alloc, rule }.put_value(ty, value, out)?;
             Ok(out.len())
         }
     }

@@ -30,6 +30,7 @@ mod sizes;
 mod spans;
 mod tags;
 mod turned;
+mod writer;
 mod writing;
 
 pub use canon::Canon;

@@ -16,7 +16,7 @@ use crate::copying::copy_leaf;
 use crate::parts::{chosen_in, items_in, slots_in};
 use crate::rule::CanonicalRule;
 use crate::spans::{Keyed, compare, with_key_of};
-use crate::writing::put_span;
+use crate::writer::Writer;
 use octets::NoMemory;
 use std::alloc::Global;
 use std::cmp::Ordering;
@@ -127,12 +127,14 @@ fn sort_items(alloc: Global, ty: &Ty, items: &[Value]) -> Result<Vec<Value>, NoM
     if items.len() < 2 {
         return order_items(alloc, ty, items);
     }
+    let rule = CanonicalRule::Der;
+    let writer = Writer { alloc, rule };
     let mut octets = Vec::new(alloc);
     let mut placed = Vec::new(alloc);
     placed.reserve(items.len())?;
     for item in items {
         let value = order_value(alloc, ty, item)?;
-        let span = put_span(alloc, CanonicalRule::Der, ty, &value, &mut octets)?;
+        let span = writer.put_span(ty, &value, &mut octets)?;
         let keyed = with_key_of(&octets, span);
         placed.push(Placed { value, keyed })?;
     }

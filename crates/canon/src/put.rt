@@ -10,7 +10,7 @@ ghost use Rattle.canon.specs.Rule.{rule_of};
 
 use crate::rule::CanonicalRule;
 use crate::size_of::size_of;
-use crate::writing::put_value;
+use crate::writer::Writer;
 use octets::MAX_ENCODING;
 use std::alloc::Global;
 use types::{Refusal, Value, WellTyped};
@@ -34,7 +34,7 @@ pub(crate) fn put_within(
 {
     let shape = ty.as_type();
     let before = out.len();
-    let put = put_value(alloc, rule, shape, value, out);
+    let put = Writer { alloc, rule }.put_value(shape, value, out);
     if put.is_ok() && out.len() - before <= MAX_ENCODING {
         return Ok(());
     }

@@ -6,7 +6,7 @@ ghost use Rattle.types.specs.Same.{IsSame};
 ghost use Rattle.types.specs.View.{ty_view, value_view};
 
 use crate::rule::CanonicalRule;
-use crate::writing::put_value;
+use crate::writer::Writer;
 use octets::NoMemory;
 use std::alloc::Global;
 use types::{Value, WellTyped};
@@ -21,9 +21,11 @@ pub fn same(alloc: Global, ty: &WellTyped, value: &Value, other: &Value) -> Resu
         IsSame (ty_view ty.now) (value_view value.now) (value_view other.now)) }
 {
     let shape = ty.as_type();
+    let rule = CanonicalRule::Der;
+    let writer = Writer { alloc, rule };
     let mut first = Vec::new(alloc);
-    put_value(alloc, CanonicalRule::Der, shape, value, &mut first)?;
+    writer.put_value(shape, value, &mut first)?;
     let mut second = Vec::new(alloc);
-    put_value(alloc, CanonicalRule::Der, shape, other, &mut second)?;
+    writer.put_value(shape, other, &mut second)?;
     Ok(first == second)
 }

@@ -53,25 +53,25 @@ no_slot_there : (slot : Option Value) → ((v : Value) → ¬ (slot ≡ Some v))
 no_slot_there None h = refl
 no_slot_there (Some v) h = absurd (h v refl)
 
-pub writing::put_value-put_leaf-requires-clause-leaf : goal.writing::put_value-put_leaf-requires-clause-leaf
-writing::put_value-put_leaf-requires-clause-leaf t c = leaf_conforms c.in-Some.tag (ty_view c.args.ty.now) (value_view c.args.value.now) (leaf_of c.in-Some.tag (ty_view c.args.ty.now) c.in-Some.ensures.leaf c.in-Some.ensures.tag) c.requires.conforms
+pub writer::Writer::put_value-put_leaf-requires-clause-leaf : goal.writer::Writer::put_value-put_leaf-requires-clause-leaf
+writer::Writer::put_value-put_leaf-requires-clause-leaf t c = leaf_conforms c.in-Some.tag (ty_view c.args.ty.now) (value_view c.args.value.now) (leaf_of c.in-Some.tag (ty_view c.args.ty.now) c.in-Some.ensures.leaf c.in-Some.ensures.tag) c.requires.conforms
 
-pub writing::put_value-returns-in-Some : goal.writing::put_value-returns-in-Some
-writing::put_value-returns-in-Some t c =
-    let alike = leaf_alike (rule_of c.args.rule) (rule_is_canonical c.args.rule) c.in-Some.tag (ty_view c.args.ty.now) (value_view c.args.value.now) (leaf_of c.in-Some.tag (ty_view c.args.ty.now) c.in-Some.ensures.leaf c.in-Some.ensures.tag) c.requires.conforms in
+pub writer::Writer::put_value-returns-in-Some : goal.writer::Writer::put_value-returns-in-Some
+writer::Writer::put_value-returns-in-Some t c =
+    let alike = leaf_alike (rule_of c.args.self.rule) (rule_is_canonical c.args.self.rule) c.in-Some.tag (ty_view c.args.ty.now) (value_view c.args.value.now) (leaf_of c.in-Some.tag (ty_view c.args.ty.now) c.in-Some.ensures.leaf c.in-Some.ensures.tag) c.requires.conforms in
     written_by c.put_leaf.ensures alike.to
 
-pub writing::put_constructed-index-requires : goal.writing::put_constructed-index-requires
-writing::put_constructed-index-requires t c =
+pub writer::Writer::put_constructed-index-requires : goal.writer::Writer::put_constructed-index-requires
+writer::Writer::put_constructed-index-requires t c =
     let alternatives = c.in-Choice.alternatives in
     let is = ap ty_view c.in-Choice.is ∙ ty-Choice alternatives in
     let parts = choice_parts alternatives.items (value_view c.args.value.now) (subst (λ (s : Shape). Conforms s (value_view c.args.value.now)) is c.requires.writable.conforms) (subst HasGoodNodes is c.requires.writable.nodes) in
     let told = c.in-Some.ensures parts.which parts.value parts.is in
     omega (arith, told.0, parts.alternative.there, alternatives.ok.0)
 
-pub writing::put_constructed-put_value-requires : goal.writing::put_constructed-put_value-requires
-writing::put_constructed-put_value-requires t c =
-    let rule = rule_of c.args.rule in
+pub writer::Writer::put_constructed-put_value-requires : goal.writer::Writer::put_constructed-put_value-requires
+writer::Writer::put_constructed-put_value-requires t c =
+    let rule = rule_of c.args.self.rule in
     let v = value_view c.args.value.now in
     let alternatives = c.in-Choice.alternatives in
     let is = ap ty_view c.in-Choice.is ∙ ty-Choice alternatives in
@@ -79,9 +79,9 @@ writing::put_constructed-put_value-requires t c =
     let here = chosen_in_choice rule alternatives.items (ty_view c.args.ty.now) v c.in-Some.which (value_view c.in-Some.chosen.now) c.index.result.now is parts (c.in-Some.ensures parts.which parts.value parts.is) c.index.ensures in
     (search (rules, node.the_lemmas, alternative.the_lemmas), here.writable)
 
-pub writing::put_constructed-returns-in-Some : goal.writing::put_constructed-returns-in-Some
-writing::put_constructed-returns-in-Some t c =
-    let rule = rule_of c.args.rule in
+pub writer::Writer::put_constructed-returns-in-Some : goal.writer::Writer::put_constructed-returns-in-Some
+writer::Writer::put_constructed-returns-in-Some t c =
+    let rule = rule_of c.args.self.rule in
     let v = value_view c.args.value.now in
     let alternatives = c.in-Choice.alternatives in
     let is = ap ty_view c.in-Choice.is ∙ ty-Choice alternatives in
@@ -90,90 +90,90 @@ writing::put_constructed-returns-in-Some t c =
     let here = chosen_in_choice rule alternatives.items (ty_view c.args.ty.now) v c.in-Some.which (value_view c.in-Some.chosen.now) a is parts (c.in-Some.ensures parts.which parts.value parts.is) c.index.ensures in
     written_by c.put_value.ensures here.alike.to
 
-pub writing::put_constructed-returns-in_ok-put_parts-in-Sequence : goal.writing::put_constructed-returns-in_ok-put_parts-in-Sequence
-writing::put_constructed-returns-in_ok-put_parts-in-Sequence t c =
-    let rule = rule_of c.args.rule in
+pub writer::Writer::put_constructed-returns-in_ok-put_parts-in-Sequence : goal.writer::Writer::put_constructed-returns-in_ok-put_parts-in-Sequence
+writer::Writer::put_constructed-returns-in_ok-put_parts-in-Sequence t c =
+    let rule = rule_of c.args.self.rule in
     let shape = ty_view c.args.ty.now in
     let v = value_view c.args.value.now in
     let tag = c.in-Sequence.tag in
     written_around c.put_closing.result rule tag (ArePartsOf rule shape v) (IsEncoding rule shape v) c.in_ok-place-in-Sequence.place c.args.out.now.items c.put_opening.new.out.items c.put_parts.new.out.items c.put_closing.new.out.items c.in_ok-place-in-Sequence.ensures.opened
-    c.in_ok-put_parts-in-Sequence.ensures.appended (parts_around rule tag shape v (rule_is_canonical c.args.rule) (framed_view c.args.ty.now tag c.in-Sequence.is) c.requires.writable.conforms) c.put_closing.ensures.closed c.put_closing.ensures.kept
+    c.in_ok-put_parts-in-Sequence.ensures.appended (parts_around rule tag shape v (rule_is_canonical c.args.self.rule) (framed_view c.args.ty.now tag c.in-Sequence.is) c.requires.writable.conforms) c.put_closing.ensures.closed c.put_closing.ensures.kept
 
-pub writing::put_constructed-returns-in_err-put_parts-in-Sequence : goal.writing::put_constructed-returns-in_err-put_parts-in-Sequence
-writing::put_constructed-returns-in_err-put_parts-in-Sequence t c =
+pub writer::Writer::put_constructed-returns-in_err-put_parts-in-Sequence : goal.writer::Writer::put_constructed-returns-in_err-put_parts-in-Sequence
+writer::Writer::put_constructed-returns-in_err-put_parts-in-Sequence t c =
     let old = c.args.out.now.items in
     let one = c.put_opening.new.out.items in
     refused _ c.from_residual-in_err-put_parts-in-Sequence.ensures.1
     (keeps_chain old one c.put_parts.new.out.items (opened_kept c.in-Sequence.tag true old one c.in_ok-place-in-Sequence.place c.in_ok-place-in-Sequence.ensures.opened) c.in_err-put_parts-in-Sequence.ensures.kept)
 
-pub writing::put_parts-returns-in-Sequence : goal.writing::put_parts-returns-in-Sequence
-writing::put_parts-returns-in-Sequence t c =
-    let rule = rule_of c.args.rule in
+pub writer::Writer::put_parts-returns-in-Sequence : goal.writer::Writer::put_parts-returns-in-Sequence
+writer::Writer::put_parts-returns-in-Sequence t c =
+    let rule = rule_of c.args.self.rule in
     let tag = c.in-Sequence.field-0 in
     let components = components_view c.in-Sequence.fields.items in
     let is : ty_view c.args.ty.now ≡ Shape.sequence tag components = ap ty_view c.in-Sequence.is ∙ ty-Sequence tag c.in-Sequence.fields in
     let parts = has_slots tag components (ty_view c.args.ty.now) (value_view c.args.value.now) (inl is) c.requires.conforms c.requires.nodes in
     put_as rule is parts.is (subst₂ (λ (fs : List Field) (s : Slots). Writes (AreComponents rule (components_view fs) s) c.put_components.result c.args.out.now.items c.put_components.new.out.items) c.deref.ensures.value (sym (c.slots_in.ensures parts.slots parts.is)) c.put_components.ensures)
 
-pub writing::put_parts-returns-in-Set : goal.writing::put_parts-returns-in-Set
-writing::put_parts-returns-in-Set t c =
-    let rule = rule_of c.args.rule in
+pub writer::Writer::put_parts-returns-in-Set : goal.writer::Writer::put_parts-returns-in-Set
+writer::Writer::put_parts-returns-in-Set t c =
+    let rule = rule_of c.args.self.rule in
     let tag = c.in-Set.field-0 in
     let components = components_view c.in-Set.fields.items in
     let is : ty_view c.args.ty.now ≡ Shape.set tag components = ap ty_view c.in-Set.is ∙ ty-Set tag c.in-Set.fields in
     let parts = has_slots tag components (ty_view c.args.ty.now) (value_view c.args.value.now) (inr is) c.requires.conforms c.requires.nodes in
     put_as rule is parts.is (subst₂ (λ (fs : List Field) (s : Slots). Writes (AreComponentsByTag rule (components_view fs) s) c.put_by_tag.result c.args.out.now.items c.put_by_tag.new.out.items) c.deref-in-Set.ensures.value (sym (c.slots_in-in-Set.ensures parts.slots parts.is)) c.put_by_tag.ensures)
 
-pub writing::put_parts-returns-in-SequenceOf : goal.writing::put_parts-returns-in-SequenceOf
-writing::put_parts-returns-in-SequenceOf t c =
-    let rule = rule_of c.args.rule in
+pub writer::Writer::put_parts-returns-in-SequenceOf : goal.writer::Writer::put_parts-returns-in-SequenceOf
+writer::Writer::put_parts-returns-in-SequenceOf t c =
+    let rule = rule_of c.args.self.rule in
     let tag = c.in-SequenceOf.field-0 in
     let inner = c.in-SequenceOf.inner in
     let is : ty_view c.args.ty.now ≡ Shape.sequence_of tag (ty_view inner.value) = ap ty_view c.in-SequenceOf.is ∙ ty-SequenceOf tag inner in
     let parts = has_items tag (ty_view inner.value) (ty_view c.args.ty.now) (value_view c.args.value.now) (inl is) c.requires.conforms c.requires.nodes in
     put_as rule is parts.is (subst₂ (λ (e : Ty) (vs : List Val). Writes (AreItems (IsEncoding rule (ty_view e)) vs) c.put_items.result c.args.out.now.items c.put_items.new.out.items) c.deref-in-SequenceOf.ensures (sym (c.items_in.ensures parts.items parts.is)) c.put_items.ensures)
 
-pub writing::put_parts-returns-in-SetOf : goal.writing::put_parts-returns-in-SetOf
-writing::put_parts-returns-in-SetOf t c =
-    let rule = rule_of c.args.rule in
+pub writer::Writer::put_parts-returns-in-SetOf : goal.writer::Writer::put_parts-returns-in-SetOf
+writer::Writer::put_parts-returns-in-SetOf t c =
+    let rule = rule_of c.args.self.rule in
     let tag = c.in-SetOf.field-0 in
     let inner = c.in-SetOf.inner in
     let is : ty_view c.args.ty.now ≡ Shape.set_of tag (ty_view inner.value) = ap ty_view c.in-SetOf.is ∙ ty-SetOf tag inner in
     let parts = has_items tag (ty_view inner.value) (ty_view c.args.ty.now) (value_view c.args.value.now) (inr is) c.requires.conforms c.requires.nodes in
     put_as rule is parts.is (subst₂ (λ (e : Ty) (vs : List Val). Writes (AreItemsInOrder (IsEncoding rule (ty_view e)) vs) c.put_in_order.result c.args.out.now.items c.put_in_order.new.out.items) c.deref-in-SetOf.ensures (sym (c.items_in-in-SetOf.ensures parts.items parts.is)) c.put_in_order.ensures)
 
-pub writing::put_items-put_leaves-requires-clause-leaves : goal.writing::put_items-put_leaves-requires-clause-leaves
-writing::put_items-put_leaves-requires-clause-leaves t c = leaves_conform c.in-Some.tag (ty_view c.args.ty.now) (leaf_of c.in-Some.tag (ty_view c.args.ty.now) c.in-Some.ensures.leaf c.in-Some.ensures.tag) (map value_view c.args.items.now) c.requires.conform
+pub writer::Writer::put_items-put_leaves-requires-clause-leaves : goal.writer::Writer::put_items-put_leaves-requires-clause-leaves
+writer::Writer::put_items-put_leaves-requires-clause-leaves t c = leaves_conform c.in-Some.tag (ty_view c.args.ty.now) (leaf_of c.in-Some.tag (ty_view c.args.ty.now) c.in-Some.ensures.leaf c.in-Some.ensures.tag) (map value_view c.args.items.now) c.requires.conform
 
-pub writing::put_items-returns-in-Some : goal.writing::put_items-returns-in-Some
-writing::put_items-returns-in-Some t c =
-    let alike = leaves_alike c.in-Some.tag (ty_view c.args.ty.now) (leaf_of c.in-Some.tag (ty_view c.args.ty.now) c.in-Some.ensures.leaf c.in-Some.ensures.tag) (rule_of c.args.rule) (rule_is_canonical c.args.rule) (map value_view c.args.items.now) c.requires.conform in
+pub writer::Writer::put_items-returns-in-Some : goal.writer::Writer::put_items-returns-in-Some
+writer::Writer::put_items-returns-in-Some t c =
+    let alike = leaves_alike c.in-Some.tag (ty_view c.args.ty.now) (leaf_of c.in-Some.tag (ty_view c.args.ty.now) c.in-Some.ensures.leaf c.in-Some.ensures.tag) (rule_of c.args.self.rule) (rule_is_canonical c.args.self.rule) (map value_view c.args.items.now) c.requires.conform in
     written_by c.put_leaves.ensures alike.to
 
-pub writing::put_items-put_constructed-requires : goal.writing::put_items-put_constructed-requires
-writing::put_items-put_constructed-requires t c =
+pub writer::Writer::put_items-put_constructed-requires : goal.writer::Writer::put_items-put_constructed-requires
+writer::Writer::put_items-put_constructed-requires t c =
     (search (rules, node.the_lemmas), (c.in_default.ensures.none refl, item_writable (ty_view c.args.ty.now) c.args.items.now c.loop-item.item-index c.item-item.result (omega arith) c.item-item.is c.requires))
 
-pub writing::put_items-loop-item-preserved : goal.writing::put_items-loop-item-preserved
-writing::put_items-loop-item-preserved t c =
-    item_behind (IsEncoding (rule_of c.args.rule) (ty_view c.args.ty.now)) c.args.items.now c.loop-item.item-index c.item-item.result c.args.out.now.items c.loop-item.out.items c.put_constructed.new.out.items (omega arith) c.item-item.is c.loop-item.invariant c.in_ok-put_constructed.ensures.appended
+pub writer::Writer::put_items-loop-item-preserved : goal.writer::Writer::put_items-loop-item-preserved
+writer::Writer::put_items-loop-item-preserved t c =
+    item_behind (IsEncoding (rule_of c.args.self.rule) (ty_view c.args.ty.now)) c.args.items.now c.loop-item.item-index c.item-item.result c.args.out.now.items c.loop-item.out.items c.put_constructed.new.out.items (omega arith) c.item-item.is c.loop-item.invariant c.in_ok-put_constructed.ensures.appended
 
-pub writing::put_items-returns-in_err-put_constructed : goal.writing::put_items-returns-in_err-put_constructed
-writing::put_items-returns-in_err-put_constructed t c =
+pub writer::Writer::put_items-returns-in_err-put_constructed : goal.writer::Writer::put_items-returns-in_err-put_constructed
+writer::Writer::put_items-returns-in_err-put_constructed t c =
     let so_far = c.loop-item.invariant in
     refused _ c.from_residual.ensures.1 (keeps_chain c.args.out.now.items c.loop-item.out.items c.put_constructed.new.out.items (so_far.0, so_far.1, tt) c.in_err-put_constructed.ensures.kept)
 
-pub writing::put_components-loop-place-init : goal.writing::put_components-loop-place-init
-writing::put_components-loop-place-init t c = none_joined (rule_of c.args.rule) c.args.fields.now c.args.slots.now c.args.out.now.items
+pub writer::Writer::put_components-loop-place-init : goal.writer::Writer::put_components-loop-place-init
+writer::Writer::put_components-loop-place-init t c = none_joined (rule_of c.args.self.rule) c.args.fields.now c.args.slots.now c.args.out.now.items
 
-pub writing::put_components-returns : goal.writing::put_components-returns
-writing::put_components-returns t c =
+pub writer::Writer::put_components-returns : goal.writer::Writer::put_components-returns
+writer::Writer::put_components-returns t c =
     let many = as_many_slots c.args.fields.now c.args.slots.now c.requires.conform in
-    let whole = all_joined (rule_of c.args.rule) c.args.fields.now c.args.slots.now c.loop-place.place c.args.out.now.items c.loop-place.out.items (omega (arith, c.min-count.ensures, many)) many c.loop-place.invariant in
+    let whole = all_joined (rule_of c.args.self.rule) c.args.fields.now c.args.slots.now c.loop-place.place c.args.out.now.items c.loop-place.out.items (omega (arith, c.min-count.ensures, many)) many c.loop-place.invariant in
     record { appended = whole; kept = tt }
 
-pub writing::put_components-put_value-requires : goal.writing::put_components-put_value-requires
-writing::put_components-put_value-requires t c =
+pub writer::Writer::put_components-put_value-requires : goal.writer::Writer::put_components-put_value-requires
+writer::Writer::put_components-put_value-requires t c =
     let place = c.loop-place.place in
     let bound : place < length c.args.fields.now = omega (arith, c.min-count.ensures) in
     let at = c.index-fields-place.is in (
@@ -181,9 +181,9 @@ writing::put_components-put_value-requires t c =
       part_writable c.args.fields.now c.args.slots.now place c.index-fields-place.result c.index-slots-place.result c.in-Some.value (omega (arith, c.min-count.ensures)) at c.index-slots-place.is c.in-Some.is c.requires,
     )
 
-pub writing::put_components-loop-place-preserved-in_default : goal.writing::put_components-loop-place-preserved-in_default
-writing::put_components-loop-place-preserved-in_default t c =
-    let rule = rule_of c.args.rule in
+pub writer::Writer::put_components-loop-place-preserved-in_default : goal.writer::Writer::put_components-loop-place-preserved-in_default
+writer::Writer::put_components-loop-place-preserved-in_default t c =
+    let rule = rule_of c.args.self.rule in
     let fields = c.args.fields.now in
     let slots = c.args.slots.now in
     let old = c.args.out.now.items in
@@ -193,11 +193,11 @@ writing::put_components-loop-place-preserved-in_default t c =
     let slot = c.index-slots-place.result in
     let stands = stands_at slots i slot None c.index-slots-place.is (no_slot_there slot c.in_default.not-Some) in
     subst (λ n. Appends (BeginsComponents rule fields slots n) old new) next
-    (absent_joined rule fields slots i old new (omega (arith, c.min-count.ensures)) (omega (arith, c.min-count.ensures)) stands (rule_is_canonical c.args.rule) c.requires.conform c.loop-place.invariant)
+    (absent_joined rule fields slots i old new (omega (arith, c.min-count.ensures)) (omega (arith, c.min-count.ensures)) stands (rule_is_canonical c.args.self.rule) c.requires.conform c.loop-place.invariant)
 
-pub writing::put_components-loop-place-preserved : goal.writing::put_components-loop-place-preserved
-writing::put_components-loop-place-preserved t c =
-    let rule = rule_of c.args.rule in
+pub writer::Writer::put_components-loop-place-preserved : goal.writer::Writer::put_components-loop-place-preserved
+writer::Writer::put_components-loop-place-preserved t c =
+    let rule = rule_of c.args.self.rule in
     let fields = c.args.fields.now in
     let slots = c.args.slots.now in
     let old = c.args.out.now.items in
@@ -216,26 +216,26 @@ writing::put_components-loop-place-preserved t c =
     let one = subst (λ (g : Field). Appends (IsEncoding rule (ty_view g.ty) (value_view v)) mid c.put_value.new.out.items) (sym at) c.in_ok-put_value.ensures.appended in
     subst (λ n. Appends (BeginsComponents rule fields slots n) old c.put_value.new.out.items) next (present_joined rule fields slots i f v old mid c.put_value.new.out.items there here at stands is c.loop-place.invariant one)
 
-pub writing::put_components-returns-in_err-put_value : goal.writing::put_components-returns-in_err-put_value
-writing::put_components-returns-in_err-put_value t c =
+pub writer::Writer::put_components-returns-in_err-put_value : goal.writer::Writer::put_components-returns-in_err-put_value
+writer::Writer::put_components-returns-in_err-put_value t c =
     let so_far = c.loop-place.invariant in
     refused _ c.from_residual.ensures.1 (keeps_chain c.args.out.now.items c.loop-place.out.items c.put_value.new.out.items (so_far.0, so_far.1, tt) c.in_err-put_value.ensures.kept)
 
-pub writing::put_in_order-returns-then-items-lt2 : goal.writing::put_in_order-returns-then-items-lt2
-writing::put_in_order-returns-then-items-lt2 t c =
+pub writer::Writer::put_in_order-returns-then-items-lt2 : goal.writer::Writer::put_in_order-returns-then-items-lt2
+writer::Writer::put_in_order-returns-then-items-lt2 t c =
     let items = c.args.items.now in
     let few : length (map value_view items) < 2 = omega (arith, c.if-items-lt2.true, length-map items value_view) in
-    written_by c.put_items.ensures (λ octets. few_in_order (IsEncoding (rule_of c.args.rule) (ty_view c.args.ty.now)) (map value_view items) octets few)
+    written_by c.put_items.ensures (λ octets. few_in_order (IsEncoding (rule_of c.args.self.rule) (ty_view c.args.ty.now)) (map value_view items) octets few)
 
-pub writing::put_in_order-put_span-requires : goal.writing::put_in_order-put_span-requires
-writing::put_in_order-put_span-requires t c =
+pub writer::Writer::put_in_order-put_span-requires : goal.writer::Writer::put_in_order-put_span-requires
+writer::Writer::put_in_order-put_span-requires t c =
     (search (rules, node.the_lemmas), item_writable (ty_view c.args.ty.now) c.args.items.now c.loop-item.item-index c.item-item.result (omega arith) c.item-item.is c.requires)
 
-pub writing::put_in_order-loop-item-preserved : goal.writing::put_in_order-loop-item-preserved
-writing::put_in_order-loop-item-preserved t c =
+pub writer::Writer::put_in_order-loop-item-preserved : goal.writer::Writer::put_in_order-loop-item-preserved
+writer::Writer::put_in_order-loop-item-preserved t c =
     let items = c.args.items.now in
     let i = c.loop-item.item-index in
-    let IsItem = IsEncoding (rule_of c.args.rule) (ty_view c.args.ty.now) in
+    let IsItem = IsEncoding (rule_of c.args.self.rule) (ty_view c.args.ty.now) in
     let old = c.args.out.now.items in
     let new = c.put_span.new.out.items in
     let span = c.in_ok-span.span in
@@ -243,17 +243,17 @@ writing::put_in_order-loop-item-preserved t c =
     let laid = laid_more IsItem items i c.item-item.result c.loop-item.parts.items (with_key new span) old c.loop-item.out.items new (omega arith) c.item-item.is c.loop-item.invariant c.in_ok-span.ensures.put refl in
     subst (λ (ps : List (Keyed ℕ)). AreLaid IsItem (map value_view (take (i + 1) items)) ps old new) (sym (c.in_ok-push.ensures.items ∙ ap (λ p. c.loop-item.parts.items ++ p ∷ []) one)) laid
 
-pub writing::put_in_order-arrange-requires : goal.writing::put_in_order-arrange-requires
-writing::put_in_order-arrange-requires t c =
+pub writer::Writer::put_in_order-arrange-requires : goal.writer::Writer::put_in_order-arrange-requires
+writer::Writer::put_in_order-arrange-requires t c =
     let parts = c.loop-item.parts.items in
     let old = c.args.out.now.items in
     let new = c.loop-item.out.items in
     record { cut = laid_cut _ _ parts old new c.loop-item.invariant c.len-from.result (omega (arith, c.len-from.ensures)); keys = laid_keys _ _ parts old new c.loop-item.invariant }
 
-pub writing::put_in_order-returns : goal.writing::put_in_order-returns
-writing::put_in_order-returns t c =
+pub writer::Writer::put_in_order-returns : goal.writer::Writer::put_in_order-returns
+writer::Writer::put_in_order-returns t c =
     let items = c.args.items.now in
-    let IsItem = IsEncoding (rule_of c.args.rule) (ty_view c.args.ty.now) in
+    let IsItem = IsEncoding (rule_of c.args.self.rule) (ty_view c.args.ty.now) in
     let old = c.args.out.now.items in
     let mid = c.loop-item.out.items in
     let new = c.arrange.new.out.items in
@@ -267,23 +267,23 @@ writing::put_in_order-returns t c =
       kept = kept c.arrange.result (Keeps (take from mid) new) (Keeps old new) (keeps_taken old _ mid new from at c.loop-item.invariant.is) c.arrange.ensures.kept;
     }
 
-pub writing::put_in_order-returns-in_err-span : goal.writing::put_in_order-returns-in_err-span
-writing::put_in_order-returns-in_err-span t c =
+pub writer::Writer::put_in_order-returns-in_err-span : goal.writer::Writer::put_in_order-returns-in_err-span
+writer::Writer::put_in_order-returns-in_err-span t c =
     refused _ c.from_residual-in_err-span.ensures.1 (keeps_chain c.args.out.now.items c.loop-item.out.items c.put_span.new.out.items (_, c.loop-item.invariant.is, tt) c.in_err-span.ensures.kept)
 
-pub writing::put_in_order-returns-in_err-push : goal.writing::put_in_order-returns-in_err-push
-writing::put_in_order-returns-in_err-push t c =
+pub writer::Writer::put_in_order-returns-in_err-push : goal.writer::Writer::put_in_order-returns-in_err-push
+writer::Writer::put_in_order-returns-in_err-push t c =
     let put = c.in_ok-span.ensures.put in
     refused _ c.from_residual-in_err-push.ensures.1 (keeps_more c.args.out.now.items c.loop-item.out.items c.put_span.new.out.items put.octets (_, c.loop-item.invariant.is, tt) put.is)
 
-pub writing::put_by_tag-loop-index-init : goal.writing::put_by_tag-loop-index-init
-writing::put_by_tag-loop-index-init t c =
-    let rule = rule_of c.args.rule in
+pub writer::Writer::put_by_tag-loop-index-init : goal.writer::Writer::put_by_tag-loop-index-init
+writer::Writer::put_by_tag-loop-index-init t c =
+    let rule = rule_of c.args.self.rule in
     let old = c.args.out.now.items in
     subst (λ (ts : List (Keyed Tag)). LaidTo rule c.args.fields.now c.args.slots.now 0 ts old old) (sym (c.in_ok-reserve.ensures.items ∙ c.new-parts.ensures.items)) (none_laid_by_tag rule c.args.fields.now c.args.slots.now old)
 
-pub writing::put_by_tag-put_span-requires : goal.writing::put_by_tag-put_span-requires
-writing::put_by_tag-put_span-requires t c =
+pub writer::Writer::put_by_tag-put_span-requires : goal.writer::Writer::put_by_tag-put_span-requires
+writer::Writer::put_by_tag-put_span-requires t c =
     let place = c.loop-index.index in
     let bound : place < length c.args.fields.now = omega (arith, c.min-count.ensures) in
     let at = c.index-fields-index.is in (
@@ -291,14 +291,14 @@ writing::put_by_tag-put_span-requires t c =
       part_writable c.args.fields.now c.args.slots.now place c.index-fields-index.result c.index-slots-index.result c.in-Some.value (omega (arith, c.min-count.ensures)) at c.index-slots-index.is c.in-Some.is c.requires.slots,
     )
 
-pub writing::put_by_tag-order_tag-tag-requires : goal.writing::put_by_tag-order_tag-tag-requires
-writing::put_by_tag-order_tag-tag-requires t c =
+pub writer::Writer::put_by_tag-order_tag-tag-requires : goal.writer::Writer::put_by_tag-order_tag-tag-requires
+writer::Writer::put_by_tag-order_tag-tag-requires t c =
     let here = part_writable c.args.fields.now c.args.slots.now c.loop-index.index c.index-fields-index.result c.index-slots-index.result c.in-Some.value (omega (arith, c.min-count.ensures)) c.index-fields-index.is c.index-slots-index.is c.in-Some.is c.requires.slots in
     here.nodes
 
-pub writing::put_by_tag-loop-index-preserved-in_default : goal.writing::put_by_tag-loop-index-preserved-in_default
-writing::put_by_tag-loop-index-preserved-in_default t c =
-    let rule = rule_of c.args.rule in
+pub writer::Writer::put_by_tag-loop-index-preserved-in_default : goal.writer::Writer::put_by_tag-loop-index-preserved-in_default
+writer::Writer::put_by_tag-loop-index-preserved-in_default t c =
+    let rule = rule_of c.args.self.rule in
     let fields = c.args.fields.now in
     let slots = c.args.slots.now in
     let old = c.args.out.now.items in
@@ -308,11 +308,11 @@ writing::put_by_tag-loop-index-preserved-in_default t c =
     let slot = c.index-slots-index.result in
     let stands = stands_at slots i slot None c.index-slots-index.is (no_slot_there slot c.in_default.not-Some) in
     subst (λ n. LaidTo rule fields slots n c.loop-index.parts.items old new) next
-    (absent_laid rule fields slots i c.loop-index.parts.items old new (omega (arith, c.min-count.ensures)) (omega (arith, c.min-count.ensures)) stands (rule_is_canonical c.args.rule) c.requires.slots.conform (distinct_drop fields i c.requires.distinct) c.loop-index.invariant)
+    (absent_laid rule fields slots i c.loop-index.parts.items old new (omega (arith, c.min-count.ensures)) (omega (arith, c.min-count.ensures)) stands (rule_is_canonical c.args.self.rule) c.requires.slots.conform (distinct_drop fields i c.requires.distinct) c.loop-index.invariant)
 
-pub writing::put_by_tag-loop-index-preserved : goal.writing::put_by_tag-loop-index-preserved
-writing::put_by_tag-loop-index-preserved t c =
-    let rule = rule_of c.args.rule in
+pub writer::Writer::put_by_tag-loop-index-preserved : goal.writer::Writer::put_by_tag-loop-index-preserved
+writer::Writer::put_by_tag-loop-index-preserved t c =
+    let rule = rule_of c.args.self.rule in
     let fields = c.args.fields.now in
     let slots = c.args.slots.now in
     let old = c.args.out.now.items in
@@ -335,16 +335,16 @@ writing::put_by_tag-loop-index-preserved t c =
     let ordered = subst (λ (g : Field). IsOrderTag rule (ty_view g.ty) c.part.result.now tag) (sym at) (c.order_tag-tag.ensures (value_view v) encodes) in
     let order : IsOrderTag rule (ty_view f.ty) put.octets tag = subst (λ (b : List ℕ). IsOrderTag rule (ty_view f.ty) b tag) stood ordered in
     let t : Keyed Tag = record { key = tag; span = span } in
-    let laid = present_laid rule fields slots i f v c.loop-index.parts.items t old mid new there here at stands (rule_is_canonical c.args.rule) is (distinct_drop fields i c.requires.distinct) c.loop-index.invariant put order in
+    let laid = present_laid rule fields slots i f v c.loop-index.parts.items t old mid new there here at stands (rule_is_canonical c.args.self.rule) is (distinct_drop fields i c.requires.distinct) c.loop-index.invariant put order in
     subst₂ (λ n (ts : List (Keyed Tag)). LaidTo rule fields slots n ts old new) next (sym c.in_ok-push.ensures.items) laid
 
-pub writing::put_by_tag-arrange_by_tag-requires : goal.writing::put_by_tag-arrange_by_tag-requires
-writing::put_by_tag-arrange_by_tag-requires t c =
-    tagged_cut (rule_of c.args.rule) c.args.fields.now c.args.slots.now c.loop-index.parts.items c.args.out.now.items c.loop-index.out.items c.loop-index.index c.len-from.result (omega (arith, c.len-from.ensures)) c.loop-index.invariant
+pub writer::Writer::put_by_tag-arrange_by_tag-requires : goal.writer::Writer::put_by_tag-arrange_by_tag-requires
+writer::Writer::put_by_tag-arrange_by_tag-requires t c =
+    tagged_cut (rule_of c.args.self.rule) c.args.fields.now c.args.slots.now c.loop-index.parts.items c.args.out.now.items c.loop-index.out.items c.loop-index.index c.len-from.result (omega (arith, c.len-from.ensures)) c.loop-index.invariant
 
-pub writing::put_by_tag-returns : goal.writing::put_by_tag-returns
-writing::put_by_tag-returns t c =
-    let rule = rule_of c.args.rule in
+pub writer::Writer::put_by_tag-returns : goal.writer::Writer::put_by_tag-returns
+writer::Writer::put_by_tag-returns t c =
+    let rule = rule_of c.args.self.rule in
     let fields = c.args.fields.now in
     let slots = c.args.slots.now in
     let old = c.args.out.now.items in
@@ -360,64 +360,64 @@ writing::put_by_tag-returns t c =
       kept = kept c.arrange_by_tag.result (Keeps (take from mid) new) (Keeps old new) (keeps_taken old _ mid new from at c.loop-index.invariant.is) c.arrange_by_tag.ensures.kept;
     }
 
-pub writing::put_by_tag-returns-in_err-span : goal.writing::put_by_tag-returns-in_err-span
-writing::put_by_tag-returns-in_err-span t c =
+pub writer::Writer::put_by_tag-returns-in_err-span : goal.writer::Writer::put_by_tag-returns-in_err-span
+writer::Writer::put_by_tag-returns-in_err-span t c =
     refused _ c.from_residual-in_err-span.ensures.1 (keeps_chain c.args.out.now.items c.loop-index.out.items c.put_span.new.out.items (_, c.loop-index.invariant.is, tt) c.in_err-span.ensures.kept)
 
-pub writing::put_by_tag-returns-in_err-push : goal.writing::put_by_tag-returns-in_err-push
-writing::put_by_tag-returns-in_err-push t c =
+pub writer::Writer::put_by_tag-returns-in_err-push : goal.writer::Writer::put_by_tag-returns-in_err-push
+writer::Writer::put_by_tag-returns-in_err-push t c =
     let put = c.in_ok-span.ensures.put in
     refused _ c.from_residual-in_err-push.ensures.1 (keeps_more c.args.out.now.items c.loop-index.out.items c.put_span.new.out.items put.octets (_, c.loop-index.invariant.is, tt) put.is)
 
-pub writing::put_span-returns-clause-put : goal.writing::put_span-returns-clause-put
-writing::put_span-returns-clause-put t c =
+pub writer::Writer::put_span-returns-clause-put : goal.writer::Writer::put_span-returns-clause-put
+writer::Writer::put_span-returns-clause-put t c =
     let put = c.in_ok-put_apart.ensures.appended in
     record { octets = put.0; is = put.1; holds = put.2; start = search rules; end = search rules }
 
-pub writing::put_constructed-returns-in-Explicit : goal.writing::put_constructed-returns-in-Explicit
-writing::put_constructed-returns-in-Explicit t c =
-    let rule = rule_of c.args.rule in
+pub writer::Writer::put_constructed-returns-in-Explicit : goal.writer::Writer::put_constructed-returns-in-Explicit
+writer::Writer::put_constructed-returns-in-Explicit t c =
+    let rule = rule_of c.args.self.rule in
     let tag = c.in-Explicit.tag in
     let inner = c.in-Explicit.inner in
     let is : ty_view c.args.ty.now ≡ Shape.explicit tag (ty_view inner.value) = ap ty_view c.in-Explicit.is ∙ ty-Explicit tag inner in
     written_as_explicit rule tag c.deref.ensures is c.put_explicit.ensures
 
-pub writing::put_node-returns-in-Explicit : goal.writing::put_node-returns-in-Explicit
-writing::put_node-returns-in-Explicit t c =
-    let rule = rule_of c.args.rule in
+pub writer::Writer::put_node-returns-in-Explicit : goal.writer::Writer::put_node-returns-in-Explicit
+writer::Writer::put_node-returns-in-Explicit t c =
+    let rule = rule_of c.args.self.rule in
     let tag = c.in-Explicit.tag in
     let inner = c.in-Explicit.inner in
     let is : ty_view c.args.ty.now ≡ Shape.explicit tag (ty_view inner.value) = ap ty_view c.in-Explicit.is ∙ ty-Explicit tag inner in
     written_as_explicit rule tag c.deref.ensures is c.put_explicit.ensures
 
-pub explicit::put_explicit-returns-then-moves_often : goal.explicit::put_explicit-returns-then-moves_often
-explicit::put_explicit-returns-then-moves_often t c =
+pub writer::Writer::put_explicit-returns-then-moves_often : goal.writer::Writer::put_explicit-returns-then-moves_often
+writer::Writer::put_explicit-returns-then-moves_often t c =
     let shape = Shape.explicit c.args.tag (ty_view c.args.ty.now) in
     subst (λ (r : Rule). Writes (IsEncoding r shape (value_view c.args.value.now)) c.put_from_inside.result c.args.out.now.items c.put_from_inside.new.out.items) (sym (c.moves_often.ensures c.if-moves_often.true)) c.put_from_inside.ensures
 
-pub explicit::put_under_tag-returns : goal.explicit::put_under_tag-returns
-explicit::put_under_tag-returns t c =
-    let rule = rule_of c.args.rule in
+pub writer::Writer::put_tagged-returns : goal.writer::Writer::put_tagged-returns
+writer::Writer::put_tagged-returns t c =
+    let rule = rule_of c.args.self.rule in
     let type = ty_view c.args.ty.now in
     let v = value_view c.args.value.now in
     let tag = c.args.tag in
-    written_around c.put_closing.result rule tag (IsEncoding rule type v) (IsEncoding rule (Shape.explicit tag type) v) c.in_ok-place.place c.args.out.now.items c.put_opening.new.out.items c.put_tagged.new.out.items c.put_closing.new.out.items c.in_ok-place.ensures.opened
-    c.in_ok-put_tagged.ensures.appended (explicit_alike rule tag type v).to c.put_closing.ensures.closed c.put_closing.ensures.kept
+    written_around c.put_closing.result rule tag (IsEncoding rule type v) (IsEncoding rule (Shape.explicit tag type) v) c.in_ok-place.place c.args.out.now.items c.put_opening.new.out.items c.put_inside.new.out.items c.put_closing.new.out.items c.in_ok-place.ensures.opened
+    c.in_ok-put_inside.ensures.appended (explicit_alike rule tag type v).to c.put_closing.ensures.closed c.put_closing.ensures.kept
 
-pub explicit::put_under_tag-returns-in_err-put_tagged : goal.explicit::put_under_tag-returns-in_err-put_tagged
-explicit::put_under_tag-returns-in_err-put_tagged t c =
+pub writer::Writer::put_tagged-returns-in_err-put_inside : goal.writer::Writer::put_tagged-returns-in_err-put_inside
+writer::Writer::put_tagged-returns-in_err-put_inside t c =
     let old = c.args.out.now.items in
     let one = c.put_opening.new.out.items in
-    refused _ c.from_residual-in_err-put_tagged.ensures.1
-    (keeps_chain old one c.put_tagged.new.out.items (opened_kept c.args.tag true old one c.in_ok-place.place c.in_ok-place.ensures.opened) c.in_err-put_tagged.ensures.kept)
+    refused _ c.from_residual-in_err-put_inside.ensures.1
+    (keeps_chain old one c.put_inside.new.out.items (opened_kept c.args.tag true old one c.in_ok-place.place c.in_ok-place.ensures.opened) c.in_err-put_inside.ensures.kept)
 
-pub explicit::put_tagged-returns-in-Explicit : goal.explicit::put_tagged-returns-in-Explicit
-explicit::put_tagged-returns-in-Explicit t c =
-    let rule = rule_of c.args.rule in
+pub writer::Writer::put_inside-returns-in-Explicit : goal.writer::Writer::put_inside-returns-in-Explicit
+writer::Writer::put_inside-returns-in-Explicit t c =
+    let rule = rule_of c.args.self.rule in
     let tag = c.in-Explicit.tag in
     let inner = c.in-Explicit.inner in
     let is : ty_view c.args.ty.now ≡ Shape.explicit tag (ty_view inner.value) = ap ty_view c.in-Explicit.is ∙ ty-Explicit tag inner in
-    written_as_explicit rule tag c.deref.ensures is c.put_under_tag.ensures
+    written_as_explicit rule tag c.deref.ensures is c.put_tagged.ensures
 
 pub explicit::put_turned-returns-in_ok-put_value-in_default : goal.explicit::put_turned-returns-in_ok-put_value-in_default
 explicit::put_turned-returns-in_ok-put_value-in_default t c =

@@ -9,14 +9,14 @@ use Rattle.canon.proofs.JoinLemmas.{BeginsComponents}
 use Rattle.canon.proofs.TagPutLemmas.{LaidTo}
 use Rattle.canon.proofs.+writing.Given as goal
 
-abbrev pub invariant-writing::put_items-loop-item : goal.invariant-writing::put_items-loop-item
-invariant-writing::put_items-loop-item l = Appends (AreItems (IsEncoding (rule_of l.rule) (ty_view l.ty)) (map value_view (take l.item-index l.items))) l.initial.out.items l.out.items
+abbrev pub invariant-writer::Writer::put_items-loop-item : goal.invariant-writer::Writer::put_items-loop-item
+invariant-writer::Writer::put_items-loop-item l = Appends (AreItems (IsEncoding (rule_of l.self.rule) (ty_view l.ty)) (map value_view (take l.item-index l.items))) l.initial.out.items l.out.items
 
-abbrev pub invariant-writing::put_in_order-loop-item : goal.invariant-writing::put_in_order-loop-item
-invariant-writing::put_in_order-loop-item l = AreLaid (IsEncoding (rule_of l.rule) (ty_view l.ty)) (map value_view (take l.item-index l.items)) l.parts.items l.initial.out.items l.out.items
+abbrev pub invariant-writer::Writer::put_in_order-loop-item : goal.invariant-writer::Writer::put_in_order-loop-item
+invariant-writer::Writer::put_in_order-loop-item l = AreLaid (IsEncoding (rule_of l.self.rule) (ty_view l.ty)) (map value_view (take l.item-index l.items)) l.parts.items l.initial.out.items l.out.items
 
-abbrev pub invariant-writing::put_components-loop-place : goal.invariant-writing::put_components-loop-place
-invariant-writing::put_components-loop-place l = Appends (BeginsComponents (rule_of l.rule) l.fields l.slots l.place) l.initial.out.items l.out.items
+abbrev pub invariant-writer::Writer::put_components-loop-place : goal.invariant-writer::Writer::put_components-loop-place
+invariant-writer::Writer::put_components-loop-place l = Appends (BeginsComponents (rule_of l.self.rule) l.fields l.slots l.place) l.initial.out.items l.out.items
 
-abbrev pub invariant-writing::put_by_tag-loop-index : goal.invariant-writing::put_by_tag-loop-index
-invariant-writing::put_by_tag-loop-index l = LaidTo (rule_of l.rule) l.fields l.slots l.index l.parts.items l.initial.out.items l.out.items
+abbrev pub invariant-writer::Writer::put_by_tag-loop-index : goal.invariant-writer::Writer::put_by_tag-loop-index
+invariant-writer::Writer::put_by_tag-loop-index l = LaidTo (rule_of l.self.rule) l.fields l.slots l.index l.parts.items l.initial.out.items l.out.items

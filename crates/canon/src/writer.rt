@@ -1,0 +1,13 @@
+//! What writes by a canonical rule.
+
+use crate::rule::CanonicalRule;
+use std::alloc::Global;
+
+/// What writes by a rule.
+#[derive(Clone, Copy)]
+pub(crate) struct Writer {
+    /// The memory for lists of parts, by which these are put in order.
+    pub alloc: Global,
+    /// The rule.
+    pub rule: CanonicalRule,
+}
