@@ -198,19 +198,8 @@ impl Writer {
         ensures kept { OnErr result (Keeps out.old.items out.new.items) }
     {
         let start = out.len();
-        self.put_apart(ty, value, out)?;
+        self.put_value(ty, value, out)?;
         let end = out.len();
         Ok(Span { start, end })
-    }
-
-    // Appends the encoding of `value`, out of the way of what puts parts in order.
-    #[cycle(writing)]
-    #[inline(never)]
-    fn put_apart(self, ty: &Ty, value: &Value, out: &mut Vec<u8>) -> Result<(), NoMemory>
-        requires { IsWritable (ty_view ty.now) (value_view value.now) }
-        ensures { Writes (IsEncoding (rule_of self.rule) (ty_view ty.now) (value_view value.now))
-            result out.old.items out.new.items }
-    {
-        self.put_value(ty, value, out)
     }
 }

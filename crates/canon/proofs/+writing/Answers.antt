@@ -371,7 +371,7 @@ writer::Writer::put_by_tag-returns-in_err-push t c =
 
 pub writer::Writer::put_span-returns-clause-put : goal.writer::Writer::put_span-returns-clause-put
 writer::Writer::put_span-returns-clause-put t c =
-    let put = c.in_ok-put_apart.ensures.appended in
+    let put = c.in_ok-put_value.ensures.appended in
     record { octets = put.0; is = put.1; holds = put.2; start = search rules; end = search rules }
 
 pub writer::Writer::put_constructed-returns-in-Explicit : goal.writer::Writer::put_constructed-returns-in-Explicit
