@@ -1,10 +1,8 @@
 //! Encodings of types without parts: primitive ones, and constructed strings (X.690 8.6.4, 8.7.3 and 8.23).
 
-ghost use Rattle.std.specs.Prelude.{◌≡◌, ◌≤◌, ℕ, [], length, take, IsTrue, IfSome};
-ghost use Rattle.octets.specs.Rule.{ber};
+ghost use Rattle.std.specs.Prelude.{◌≡◌, ◌≤◌, ℕ, [], length, take, IfSome};
 ghost use Rattle.types.specs.Leaf.{tag_of, IsLeaf};
-ghost use Rattle.types.specs.View.{ty_view, value_view};
-ghost use Rattle.encoding_parts.specs.Contents.{HoldsValue};
+ghost use Rattle.types.specs.View.{ty_view};
 ghost use Rattle.encoding_parts.specs.Parts.{IsGoodType};
 ghost use Rattle.encoding_parts.specs.Segments.{IsPassed, IsSound};
 ghost use Rattle.berslice.specs.Heads.{IsIdentifierOf};
@@ -32,7 +30,7 @@ pub fn read_leaf(
     ensures { IfSome result (λ used. IsRead levels (ty_view ty.now) octets.now value.new used) }
 {
     match short_primitive(tag, octets.len(), octets) {
-        Some(used) => fill_leaf(alloc, ty, &octets[2..used], value).then_some(used),
+        Some(used) => fill(alloc, ty, &octets[2..used], value).then_some(used),
         None if may_begin(tag, octets) => read_long_leaf(alloc, ty, tag, levels, octets, value),
         None => None,
     }
@@ -62,7 +60,7 @@ pub fn read_leaf_behind(
     ensures { IfSome result (λ used. IsRead levels (ty_view ty.now) octets.now value.new used) }
 {
     match behind(identifier, octets) {
-        Some((contents, used)) => fill_leaf(alloc, ty, contents, value).then_some(used),
+        Some((contents, used)) => fill(alloc, ty, contents, value).then_some(used),
         None => read_long_leaf(alloc, ty, identifier.tag, levels, octets, value),
     }
 }
@@ -83,19 +81,9 @@ fn read_long_leaf(
     ensures { IfSome result (λ used. IsRead levels (ty_view ty.now) octets.now value.new used) }
 {
     match primitive(tag, octets) {
-        Some((contents, used)) => fill_leaf(alloc, ty, contents, value).then_some(used),
+        Some((contents, used)) => fill(alloc, ty, contents, value).then_some(used),
         None => read_string(alloc, ty, tag, levels, octets, value),
     }
-}
-
-// Makes the value that of the contents octets of a primitive encoding, and says whether it has. This alone is a call: a
-// component that is absent, as its tag shows, costs none.
-#[inline(never)]
-fn fill_leaf(alloc: Global, ty: &Ty, contents: &[u8], value: &mut Value) -> bool
-    requires { IsLeaf (ty_view ty.now) }
-    ensures { IsTrue result → HoldsValue ber (ty_view ty.now) (value_view value.new) contents.now }
-{
-    fill(alloc, ty, contents, value)
 }
 
 // Reads the constructed string at the front.

@@ -88,6 +88,7 @@ pub(crate) fn set_integer(number: i128, value: &mut Value)
 
 /// Makes the value one of the alternative at this place, in the box that is there, if one is, and says whether it has;
 /// not where memory runs out. In the box is the old value then, or NULL.
+#[inline(always)]
 pub fn choose(alloc: Global, which: usize, value: &mut Value) -> bool
     ensures { IsTrue result → (v : Val) × (value_view value.new ≡ Val.chosen which v) }
 {

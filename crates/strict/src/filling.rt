@@ -42,9 +42,8 @@ pub fn read_shortly(
 
 // Makes the value that of a type without parts that the contents octets are, as CER and DER have them, and says whether
 // it has. Where they are those of none, or memory runs out, it says no more. Of BOOLEAN and BIT STRING BER has others
-// (X.690 11.1 and 11.2): these stand apart, so that all other types are told apart once. A call of its own, so that a
-// component that is absent, as its tag shows, costs none.
-#[inline(never)]
+// (X.690 11.1 and 11.2): these stand apart, so that all other types are told apart once.
+#[inline(always)]
 fn fill_canonical(alloc: Global, ty: &Ty, contents: &[u8], value: &mut Value) -> bool
     requires { IsLeaf (ty_view ty.now) }
     ensures { IsTrue result → HoldsValue der (ty_view ty.now) (value_view value.new) contents.now }

@@ -6,4 +6,4 @@ pub returns-in-Some : goal.returns-in-Some
 returns-in-Some c =
     let octets = c.args.octets.now in
     let at = short_at c.args.tag octets c.in-Some.used c.in-Some.ensures in
-    leaf_filled c.args.levels (ty_view c.args.ty.now) c.args.tag _ octets c.fill_leaf.new.value c.in-Some.used c.fill_leaf.result c.then_some.result c.requires.leaf c.requires.tag c.requires.good at c.fill_leaf.ensures c.then_some.ensures
+    leaf_filled c.args.levels (ty_view c.args.ty.now) c.args.tag _ octets c.fill.new.value c.in-Some.used c.fill.result c.then_some.result c.requires.leaf c.requires.tag c.requires.good at c.fill.ensures c.then_some.ensures

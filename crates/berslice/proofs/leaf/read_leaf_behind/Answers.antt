@@ -4,4 +4,4 @@ use Rattle.berslice.proofs.leaf.read_leaf_behind.Goals as goal
 
 pub returns-in-Some : goal.returns-in-Some
 returns-in-Some c =
-    leaf_filled c.args.levels (ty_view c.args.ty.now) c.args.identifier.tag c.in-Some.contents.now c.args.octets.now c.fill_leaf.new.value c.in-Some.used c.fill_leaf.result c.then_some.result c.requires.leaf c.requires.tag c.requires.good c.in-Some.ensures c.fill_leaf.ensures c.then_some.ensures
+    leaf_filled c.args.levels (ty_view c.args.ty.now) c.args.identifier.tag c.in-Some.contents.now c.args.octets.now c.fill.new.value c.in-Some.used c.fill.result c.then_some.result c.requires.leaf c.requires.tag c.requires.good c.in-Some.ensures c.fill.ensures c.then_some.ensures
