@@ -1,14 +1,14 @@
 //! A reader over pieces that takes the one encoding which CER or DER gives a value.
 
-ghost use Rattle.std.specs.Prelude.{◌≡◌, ◌++◌, ◌≤◌, ℕ, List, [], MatchOption, OnOk, IfOk, IfErr, length};
+ghost use Rattle.std.specs.Prelude.{◌≡◌, ◌++◌, ◌≤◌, ℕ, List, [], OnOk, IfOk, IfErr, length};
 ghost use Rattle.octets.specs.Rule.{ber};
-ghost use Rattle.types.specs.Encoding.{IsAccepted, IsSomeAccepted};
+ghost use Rattle.types.specs.Encoding.{IsSomeAccepted};
 ghost use Rattle.types.specs.Shape.{Shape};
-ghost use Rattle.types.specs.View.{ty_view, value_view};
+ghost use Rattle.types.specs.View.{ty_view};
 ghost use Rattle.types.specs.WellFormed.{IsWellFormed};
 ghost use Rattle.engine.specs.Feeding.{IsFed, IsFinished};
 ghost use Rattle.engine.specs.Rule.{canonical_rule_of};
-ghost use Rattle.engine.specs.StrictReader.{IsOfJudging, StandsStrictly};
+ghost use Rattle.engine.specs.StrictReader.{IsJudged, StandsStrictly};
 
 use crate::Canonical;
 use berreader::Reader;
@@ -107,11 +107,8 @@ fn judge(
     slot: &mut Option<Value>,
 ) -> Result<(), Refusal>
     requires { IsSomeAccepted ber (ty_view ty.now) (begun.old.items ++ last.now) }
-    ensures accepted { OnOk result (MatchOption slot.new ⊥ (λ value.
-        IsAccepted (canonical_rule_of rule) (ty_view ty.now) (value_view value) (begun.old.items ++ last.now))) }
+    ensures judged { IsJudged (canonical_rule_of rule) (ty_view ty.now) (begun.old.items ++ last.now) slot.new result }
     ensures none_kept { OnOk result (begun.new.items ≡ []) }
-    ensures never { result ≡ Err Refusal.NotCanonical → ¬ IsSomeAccepted (canonical_rule_of rule) (ty_view ty.now) (begun.old.items ++ last.now) }
-    ensures numbers { IfErr result IsOfJudging }
 {
     keep(begun, last)?;
     let octets = begun.as_slice();
@@ -129,10 +126,7 @@ fn read_all(
     slot: &mut Option<Value>,
 ) -> Result<(), Refusal>
     requires { IsSomeAccepted ber (ty_view ty.now) octets.now }
-    ensures accepted { OnOk result (MatchOption slot.new ⊥ (λ value.
-        IsAccepted (canonical_rule_of rule) (ty_view ty.now) (value_view value) octets.now)) }
-    ensures never { result ≡ Err Refusal.NotCanonical → ¬ IsSomeAccepted (canonical_rule_of rule) (ty_view ty.now) octets.now }
-    ensures numbers { IfErr result IsOfJudging }
+    ensures { IsJudged (canonical_rule_of rule) (ty_view ty.now) octets.now slot.new result }
 {
     match read_into(alloc, rule, ty, octets, slot) {
         Ok(_) => Ok(()),

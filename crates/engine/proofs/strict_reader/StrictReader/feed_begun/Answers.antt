@@ -25,7 +25,7 @@ returns-clause-fed c = λ shape old s.
     let fed = open_fed shape c.args.self.now.reader c.feed_into.new.self old c.args.piece.now (Ok c.in_ok-used.used) (Some c.in-Some.field-0) s.reader_stands
     c.in_ok-used.ensures.shape (rw c.in-Some.is at c.in_ok-used.ensures.value) (λ _. tt) tt in
     done_in_slot (canonical_rule_of c.args.self.now.rule) shape c.args.self.now _ old c.args.piece.now c.split_at.result.0.now c.in-Some.field-0 c.judge.new.slot c.in_ok-used.used
-    s refl fed c.split_at.ensures.front c.in_ok-judge.ensures.accepted c.in_ok-judge.ensures.none_kept
+    s refl fed c.split_at.ensures.front c.in_ok-judge.ensures.judged.accepted c.in_ok-judge.ensures.none_kept
 
 pub returns-in_err-judge-clause-fed : goal.returns-in_err-judge-clause-fed
 returns-in_err-judge-clause-fed c = λ shape old s.
@@ -33,7 +33,7 @@ returns-in_err-judge-clause-fed c = λ shape old s.
     c.in_ok-used.ensures.shape (rw c.in-Some.is at c.in_ok-used.ensures.value) (λ _. tt) tt in
     rw (Err-same c.from_residual-in_err-judge.result _ c.from_residual-in_err-judge.ensures.1)
     (strict_refused (canonical_rule_of c.args.self.now.rule) shape c.args.self.now c.feed_into.new.self old c.args.piece.now c.split_at.result.0.now c.in-Some.field-0 c.in_ok-used.used c.in_err-judge.field-0.0
-    (to_is_canonical c.args.self.now.rule) s fed c.split_at.ensures.front c.in_err-judge.ensures.numbers (λ is. c.in_err-judge.ensures.never (ap Err is)))
+    (to_is_canonical c.args.self.now.rule) s fed c.split_at.ensures.front c.in_err-judge.ensures.judged.numbers (λ is. c.in_err-judge.ensures.judged.never (ap Err is)))
 
 pub returns-in_err-used-clause-fed : goal.returns-in_err-used-clause-fed
 returns-in_err-used-clause-fed c = λ shape old s.
