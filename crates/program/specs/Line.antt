@@ -1,23 +1,17 @@
 -- Command lines and exit statuses of the program.
 use Rattle.std.specs.Prelude.{◌≡◌, ◌≢◌, ◌↔◌, ◌⊎◌, ℕ, IsSome, List, codes, string_bytes}
-use Rattle.octets.specs.declared.tag.Class.TheVariants.{Universal}
-use Rattle.octets.specs.declared.tag.Tag.{Tag}
-use Rattle.types.specs.Shape.{SimpleType, StringType, Shape}
+use Rattle.types.specs.Shape.{Shape}
+use Rattle.types.specs.Universal.{boolean_type, integer_type, octet_string_type, null_type}
 use Rattle.types.specs.WellFormed.{IsWellFormed}
 use Rattle.program.specs.declared.command_line.Line.{Line}
 use Rattle.program.specs.declared.command_line.Verb.TheVariants.{Convert}
 use Rattle.convert.specs.ModuleFile.{FileMeans}
 
-abbrev pub universal : ℕ → Tag
-universal number = record { class = Universal; number = number }
-
 -- the built-in types, each with its universal tag
 abbrev pub IsBuiltIn : List ℕ → Shape → Type 0
 IsBuiltIn name shape =
-    ((name ≡ codes "BOOLEAN") × (shape ≡ Shape.simple (universal 1) SimpleType.boolean))
-    ⊎ ((name ≡ codes "INTEGER") × (shape ≡ Shape.simple (universal 2) SimpleType.integer))
-    ⊎ ((name ≡ codes "OCTET STRING") × (shape ≡ Shape.string (universal 4) StringType.octet_string))
-    ⊎ ((name ≡ codes "NULL") × (shape ≡ Shape.simple (universal 5) SimpleType.null))
+    ((name ≡ codes "BOOLEAN") × (shape ≡ boolean_type)) ⊎ ((name ≡ codes "INTEGER") × (shape ≡ integer_type))
+    ⊎ ((name ≡ codes "OCTET STRING") × (shape ≡ octet_string_type)) ⊎ ((name ≡ codes "NULL") × (shape ≡ null_type))
 
 -- a line to convert says by which rule to write
 abbrev pub IsTask : Line → Type 0

@@ -14,7 +14,6 @@ use crate::tasks::{Task, perform};
 use crate::{Line, Verb};
 use convert::{MAX_HEX_TEXT, type_from, unhex};
 use devices::{FromReader, FromSlice};
-use octets::{Class, Tag};
 use std::alloc::Global;
 use std::io::{ErrorKind, Read, Write};
 use types::{Refusal, Ty, WellTyped};
@@ -89,17 +88,12 @@ fn built_in(name: &str) -> Option<WellTyped>
     ensures well_formed { IfSome result (λ ty. IsWellFormed (ty_view ty)) }
     ensures none { IfNone result ((shape : Shape) → ¬ IsBuiltIn name.now shape) }
 {
-    let class = Class::Universal;
-    let ty = if name == "BOOLEAN" {
-        Ty::Boolean(Tag { class, number: 1 })
-    } else if name == "INTEGER" {
-        Ty::Integer(Tag { class, number: 2 })
-    } else if name == "OCTET STRING" {
-        Ty::Octets(Tag { class, number: 4 })
-    } else if name == "NULL" {
-        Ty::Null(Tag { class, number: 5 })
-    } else {
-        return None;
+    let ty = match name {
+        "BOOLEAN" => Ty::boolean(),
+        "INTEGER" => Ty::integer(),
+        "OCTET STRING" => Ty::octets(),
+        "NULL" => Ty::null(),
+        _ => return None,
     };
     WellTyped::new(ty).ok()
 }
