@@ -70,12 +70,10 @@ fn verb_of(word: &str) -> Verb
     requires { (verb : Verb) × (word.now ≡ word_of_verb verb) }
     ensures { word.now ≡ word_of_verb result }
 {
-    if word == "show" {
-        Verb::Show
-    } else if word == "check" {
-        Verb::Check
-    } else {
-        Verb::Convert
+    match word {
+        "show" => Verb::Show,
+        "check" => Verb::Check,
+        _ => Verb::Convert,
     }
 }
 
@@ -84,10 +82,9 @@ fn canonical_of(word: &str) -> Canonical
     requires { (rule : Canonical) × (word.now ≡ word_of_canonical rule) }
     ensures { word.now ≡ word_of_canonical result }
 {
-    if word == "cer" {
-        Canonical::Cer
-    } else {
-        Canonical::Der
+    match word {
+        "cer" => Canonical::Cer,
+        _ => Canonical::Der,
     }
 }
 
@@ -96,11 +93,9 @@ fn rule_of(word: &str) -> Rule
     requires { (rule : Rule) × (word.now ≡ word_of_rule rule) }
     ensures { word.now ≡ word_of_rule result }
 {
-    if word == "ber" {
-        Rule::Ber
-    } else if word == "cer" {
-        Rule::Cer
-    } else {
-        Rule::Der
+    match word {
+        "ber" => Rule::Ber,
+        "cer" => Rule::Cer,
+        _ => Rule::Der,
     }
 }
