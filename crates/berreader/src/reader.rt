@@ -110,6 +110,7 @@ impl<'a> Reader<'a> {
     /// until then, beside what `held` counts.
     ///
     /// Refused as `feed` refuses. The slot is then empty.
+    #[inline(always)]
     pub fn feed_into(&mut self, piece: &[u8], slot: &mut Option<Value>) -> Result<usize, Refusal>
         ensures shape { OnOk result (shape_of self.new ≡ shape_of self.old) }
         ensures used { IfOk result (λ used. used ≤ length piece.now) }

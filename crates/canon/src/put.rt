@@ -17,6 +17,7 @@ use types::{Refusal, Value, WellTyped};
 
 // Appends the encoding of `value`. Its octets are counted where it is too long or memory ran out: being
 // out of memory never hides that it is too long.
+#[inline(always)]
 pub(crate) fn put_within(
     alloc: Global,
     rule: CanonicalRule,
