@@ -2,6 +2,7 @@
 
 ghost use Rattle.std.specs.Prelude.{◌≡◌, ◌≤◌, None, IfSome, vec_len};
 ghost use Rattle.types.specs.FirstTags.{IsUsable};
+ghost use Rattle.types.specs.Leaf.{IsLeaf, tag_of};
 ghost use Rattle.types.specs.Shape.{Shape};
 ghost use Rattle.types.specs.View.{ty_view};
 ghost use Rattle.encoding_parts.specs.Parts.{IsGoodType};
@@ -9,6 +10,7 @@ ghost use Rattle.encoding_parts.specs.Renewed.{new_items};
 ghost use Rattle.berslice.specs.Reading.{IsRead, IsItemRead, AreMoreItemsRead};
 
 use crate::heads::{ends_at, identifier_of, opened};
+use crate::leaf::read_leaf;
 use crate::places::Places;
 use crate::reading::{read_alternative, read_one};
 use encoding_parts::Renewed;
@@ -71,11 +73,21 @@ pub fn read_items(
     ensures { AreMoreItemsRead levels (ty_view inner.now) octets.now (new_items list.old) (new_items list.new) result }
 {
     let before = list.count;
+    let leaf = inner.leaf_tag();
     let mut places = Places::of(inner);
     let mut at = 0;
     while !ends_at(&octets[at..], definite) {
         let rest = &octets[at..];
-        match read_item(alloc, inner, levels, rest, before, &mut places, list) {
+        match read_item(
+            alloc,
+            inner,
+            leaf,
+            levels,
+            rest,
+            before,
+            &mut places,
+            list,
+        ) {
             Some(used) => at += used,
             None => {
                 drop_begun(list);
@@ -101,13 +113,16 @@ fn drop_begun(list: &mut Renewed)
 fn read_item(
     alloc: Global,
     inner: &Ty,
+    leaf: Option<Tag>,
     levels: usize,
     octets: &[u8],
     before: usize,
     places: &mut Option<Places>,
     list: &mut Renewed,
 ) -> Option<usize>
-    requires { IsGoodType (ty_view inner.now) }
+    requires good { IsGoodType (ty_view inner.now) }
+    requires leaf { IfSome leaf (λ _. IsLeaf (ty_view inner.now)) }
+    requires tag { IfSome leaf (λ tag. tag_of (ty_view inner.now) ≡ tag) }
     ensures some { IfSome result (λ used. IsItemRead levels (ty_view inner.now) octets.now (new_items list.old) (new_items list.new) used) }
     ensures none { result ≡ None → new_items list.new ≡ new_items list.old }
 {
@@ -115,7 +130,8 @@ fn read_item(
         return read_growing(alloc, inner, levels, octets, before, list);
     }
     let next = list.count;
-    let used = read_among(alloc, inner, levels, octets, places, &mut list.items[next])?;
+    let item = &mut list.items[next];
+    let used = read_among(alloc, inner, leaf, levels, octets, places, item)?;
     list.keep();
     Some(used)
 }
@@ -146,20 +162,27 @@ fn read_growing(
     }
 }
 
-// Reads the encoding at the front into the value, of a type of which others may have come.
+// Reads the encoding at the front into the value, of a type of which others may have come: of a `leaf`, whose tag is
+// asked for once for all of them, or of a CHOICE with its `places`, or of any other.
 #[cycle(reading)]
 #[inline(always)]
 fn read_among(
     alloc: Global,
     ty: &Ty,
+    leaf: Option<Tag>,
     levels: usize,
     octets: &[u8],
     places: &mut Option<Places>,
     value: &mut Value,
 ) -> Option<usize>
-    requires { IsGoodType (ty_view ty.now) }
+    requires good { IsGoodType (ty_view ty.now) }
+    requires leaf { IfSome leaf (λ _. IsLeaf (ty_view ty.now)) }
+    requires tag { IfSome leaf (λ tag. tag_of (ty_view ty.now) ≡ tag) }
     ensures { IfSome result (λ used. IsRead levels (ty_view ty.now) octets.now value.new used) }
 {
+    if let Some(tag) = leaf {
+        return read_leaf(alloc, ty, tag, levels, octets, value);
+    }
     if let Some(places) = places {
         if let Ty::Choice(alternatives) = ty {
             let identifier = identifier_of(octets)?;
