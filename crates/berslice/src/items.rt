@@ -78,16 +78,7 @@ pub fn read_items(
     let mut at = 0;
     while !ends_at(&octets[at..], definite) {
         let rest = &octets[at..];
-        match read_item(
-            alloc,
-            inner,
-            leaf,
-            levels,
-            rest,
-            before,
-            &mut places,
-            list,
-        ) {
+        match read_item(alloc, inner, leaf, levels, rest, before, &mut places, list) {
             Some(used) => at += used,
             None => {
                 drop_begun(list);

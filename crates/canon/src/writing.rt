@@ -5,7 +5,8 @@ ghost use Rattle.std.specs.Prelude.{map, IfOk, OnErr};
 ghost use Rattle.types.specs.Encoding.{IsEncoding};
 ghost use Rattle.types.specs.FirstTags.{tags_of_components, AreDistinct};
 ghost use Rattle.types.specs.Leaf.{IsLeaf};
-ghost use Rattle.types.specs.View.{ty_view, value_view, components_view, slots_view};
+ghost use Rattle.types.specs.Shape.{Shape};
+ghost use Rattle.types.specs.View.{ty_view, value_view, alternatives_view, components_view, slots_view};
 ghost use Rattle.canon.specs.Node.{ArePartsOf, AreItems, AreItemsInOrder, AreComponents, AreComponentsByTag};
 ghost use Rattle.canon.specs.Part.{IsPut, Keeps};
 ghost use Rattle.canon.specs.Rule.{rule_of};
@@ -19,7 +20,7 @@ use crate::spans::{Keyed, Span, arrange, arrange_by_tag, part, with_key_of};
 use crate::tags::order_tag;
 use crate::writer::Writer;
 use octets::NoMemory;
-use types::{Field, Ty, Value};
+use types::{Alternative, Field, Ty, Value};
 
 impl Writer {
     // Appends the encoding of `value`, or a part of it where memory runs out.
@@ -63,12 +64,7 @@ impl Writer {
             result out.old.items out.new.items }
     {
         match ty {
-            Ty::Choice(alternatives) => {
-                let Some((which, chosen)) = chosen_in(value) else {
-                    unreachable!()
-                };
-                self.put_value(&alternatives[which].ty, chosen, out)
-            }
+            Ty::Choice(alternatives) => self.put_alternative(alternatives, value, out),
             Ty::Explicit(tag, inner) => self.put_explicit(*tag, inner, value, out),
             Ty::Sequence(tag, _) | Ty::Set(tag, _) | Ty::SequenceOf(tag, _) | Ty::SetOf(tag, _) => {
                 let place = put_opening(*tag, true, out)?;
@@ -77,6 +73,25 @@ impl Writer {
             }
             _ => unreachable!(),
         }
+    }
+
+    // Appends the encoding of the alternative that `value` has of a CHOICE.
+    #[cycle(writing)]
+    #[inline(always)]
+    fn put_alternative(
+        self,
+        alternatives: &[Alternative],
+        value: &Value,
+        out: &mut Vec<u8>,
+    ) -> Result<(), NoMemory>
+        requires { IsWritable (Shape.choice (alternatives_view alternatives.now)) (value_view value.now) }
+        ensures { Writes (IsEncoding (rule_of self.rule) (Shape.choice (alternatives_view alternatives.now)) (value_view value.now))
+            result out.old.items out.new.items }
+    {
+        let Some((which, chosen)) = chosen_in(value) else {
+            unreachable!()
+        };
+        self.put_value(&alternatives[which].ty, chosen, out)
     }
 
     // Appends the contents octets of a constructed encoding of `value`; nothing where it has none.
@@ -95,6 +110,25 @@ impl Writer {
         }
     }
 
+    // Appends the encodings of the alternatives that items have of a CHOICE, one behind another.
+    #[cycle(writing)]
+    #[inline(never)]
+    fn put_alternatives(
+        self,
+        alternatives: &[Alternative],
+        items: &[Value],
+        out: &mut Vec<u8>,
+    ) -> Result<(), NoMemory>
+        requires { AreWritable (Shape.choice (alternatives_view alternatives.now)) (map value_view items.now) }
+        ensures { Writes (AreItems (IsEncoding (rule_of self.rule) (Shape.choice (alternatives_view alternatives.now))) (map value_view items.now))
+            result out.old.items out.new.items }
+    {
+        for item in items {
+            self.put_alternative(alternatives, item, out)?;
+        }
+        Ok(())
+    }
+
     // Appends the encodings of items, one behind another.
     #[cycle(writing)]
     fn put_items(self, ty: &Ty, items: &[Value], out: &mut Vec<u8>) -> Result<(), NoMemory>
@@ -104,6 +138,9 @@ impl Writer {
     {
         if let Some(tag) = ty.leaf_tag() {
             return put_leaves(self.rule, tag, items, out);
+        }
+        if let Ty::Choice(alternatives) = ty {
+            return self.put_alternatives(alternatives, items, out);
         }
         for item in items {
             self.put_constructed(ty, item, out)?;

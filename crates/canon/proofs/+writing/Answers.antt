@@ -1,4 +1,4 @@
-use Rattle.std.proofs.Common.{true, ◌≡◌, ◌∙◌, ◌+◌, ◌-◌, ◌<◌, ℕ, suc, List, [], ◌∷◌, ◌++◌, Option, Some, None, length, take, get_or, map, inl, inr, refl, sym, ap, subst, subst₂, arith, rules}
+use Rattle.std.proofs.Common.{true, ◌≡◌, ◌∙◌, ◌+◌, ◌-◌, ◌<◌, ℕ, suc, List, [], ◌∷◌, ◌++◌, Option, Some, None, Vec, Global, length, take, get_or, map, inl, inr, refl, sym, ap, subst, subst₂, arith, rules}
 use Rattle.std.proofs.lemmas.List.{length-map, take_all}
 use Rattle.std.specs.declared.result.Result.{Result}
 use Rattle.octets.specs.declared.no_memory.NoMemory.{NoMemory}
@@ -8,6 +8,7 @@ use Rattle.octets.specs.Rule.{Rule}
 use Rattle.octets.proofs.ResultLemmas.{OnOk-map}
 use Rattle.types.specs.declared.ty.Ty.{Ty}
 use Rattle.types.specs.declared.ty.Ty as node
+use Rattle.types.specs.declared.ty.Alternative.{Alternative}
 use Rattle.types.specs.declared.ty.Alternative as alternative
 use Rattle.types.specs.declared.ty.Field.{Field}
 use Rattle.types.specs.declared.ty.Field as field
@@ -16,7 +17,7 @@ use Rattle.types.specs.Conforms.{Conforms}
 use Rattle.types.specs.Encoding.{IsEncoding}
 use Rattle.types.specs.Order.{IsOrderTag}
 use Rattle.types.specs.Shape.{Shape, Slots, Val}
-use Rattle.types.specs.View.{ty_view, value_view, components_view}
+use Rattle.types.specs.View.{ty_view, value_view, alternatives_view, components_view}
 use Rattle.types.proofs.ViewLemmas.{ty-Sequence, ty-Set, ty-SequenceOf, ty-SetOf, ty-Choice, ty-Explicit}
 use Rattle.canon.specs.declared.spans.Keyed.{Keyed}
 use Rattle.canon.specs.Keyed.{with_key}
@@ -24,7 +25,7 @@ use Rattle.canon.specs.Node.{HasGoodNodes, ArePartsOf, AreItems, AreItemsInOrder
 use Rattle.canon.specs.Part.{AreLaid, IsPut, Keeps}
 use Rattle.canon.specs.Rule.{rule_of}
 use Rattle.canon.specs.Span.{part_of}
-use Rattle.canon.specs.Writes.{Writes}
+use Rattle.canon.specs.Writes.{IsWritable, AreWritable, Writes}
 use Rattle.canon.proofs.JoinLemmas.{BeginsComponents, none_joined, present_joined, absent_joined, all_joined}
 use Rattle.canon.proofs.KeptLemmas.{kept, keeps_more, keeps_chain, keeps_taken}
 use Rattle.canon.proofs.LeafLemmas.{leaf_alike, leaf_conforms}
@@ -48,6 +49,10 @@ written_as_explicit : {shape : Shape} {v : Val} {r : Result (Unit {0}) NoMemory}
 written_as_explicit {v = v} {r = r} {old = old} {new = new} rule tag same is put =
     subst (λ (s : Shape). Writes (IsEncoding rule s v) r old new) (sym is) (subst (λ (e : Ty). Writes (IsEncoding rule (Shape.explicit tag (ty_view e)) v) r old new) same put)
 
+-- a type that is a CHOICE, by its alternatives
+as_choice : {type : Ty} (alternatives : Vec Alternative Global) {listed : List Alternative} → type ≡ node.Choice alternatives → listed ≡ alternatives.items → ty_view type ≡ Shape.choice (alternatives_view listed)
+as_choice alternatives is same = ap ty_view is ∙ (ty-Choice alternatives ∙ ap (λ l. Shape.choice (alternatives_view l)) (sym same))
+
 -- no value in a slot
 no_slot_there : (slot : Option Value) → ((v : Value) → ¬ (slot ≡ Some v)) → slot ≡ None
 no_slot_there None h = refl
@@ -61,34 +66,42 @@ writer::Writer::put_value-returns-in-Some t c =
     let alike = leaf_alike (rule_of c.args.self.rule) (rule_is_canonical c.args.self.rule) c.in-Some.tag (ty_view c.args.ty.now) (value_view c.args.value.now) (leaf_of c.in-Some.tag (ty_view c.args.ty.now) c.in-Some.ensures.leaf c.in-Some.ensures.tag) c.requires.conforms in
     written_by c.put_leaf.ensures alike.to
 
-pub writer::Writer::put_constructed-index-requires : goal.writer::Writer::put_constructed-index-requires
-writer::Writer::put_constructed-index-requires t c =
-    let alternatives = c.in-Choice.alternatives in
-    let is = ap ty_view c.in-Choice.is ∙ ty-Choice alternatives in
-    let parts = choice_parts alternatives.items (value_view c.args.value.now) (subst (λ (s : Shape). Conforms s (value_view c.args.value.now)) is c.requires.writable.conforms) (subst HasGoodNodes is c.requires.writable.nodes) in
+pub writer::Writer::put_alternative-offset_bounds-alternatives-which : goal.writer::Writer::put_alternative-offset_bounds-alternatives-which
+writer::Writer::put_alternative-offset_bounds-alternatives-which t c =
+    let parts = choice_parts c.args.alternatives.now (value_view c.args.value.now) c.requires.conforms c.requires.nodes in
     let told = c.in-Some.ensures parts.which parts.value parts.is in
-    omega (arith, told.0, parts.alternative.there, alternatives.ok.0)
+    let bound : c.in-Some.which < length c.args.alternatives.now = omega (arith, told.0, parts.alternative.there) in
+    search (rules, bound)
 
-pub writer::Writer::put_constructed-put_value-requires : goal.writer::Writer::put_constructed-put_value-requires
-writer::Writer::put_constructed-put_value-requires t c =
-    let rule = rule_of c.args.self.rule in
-    let v = value_view c.args.value.now in
-    let alternatives = c.in-Choice.alternatives in
-    let is = ap ty_view c.in-Choice.is ∙ ty-Choice alternatives in
-    let parts = choice_parts alternatives.items v (subst (λ (s : Shape). Conforms s v) is c.requires.writable.conforms) (subst HasGoodNodes is c.requires.writable.nodes) in
-    let here = chosen_in_choice rule alternatives.items (ty_view c.args.ty.now) v c.in-Some.which (value_view c.in-Some.chosen.now) c.index.result.now is parts (c.in-Some.ensures parts.which parts.value parts.is) c.index.ensures in
-    (search (rules, node.the_lemmas, alternative.the_lemmas), here.writable)
+pub writer::Writer::put_alternative-bounds-alternatives-which : goal.writer::Writer::put_alternative-bounds-alternatives-which
+writer::Writer::put_alternative-bounds-alternatives-which t c =
+    let parts = choice_parts c.args.alternatives.now (value_view c.args.value.now) c.requires.conforms c.requires.nodes in
+    let told = c.in-Some.ensures parts.which parts.value parts.is in
+    omega (arith, told.0, parts.alternative.there)
 
-pub writer::Writer::put_constructed-returns-in-Some : goal.writer::Writer::put_constructed-returns-in-Some
-writer::Writer::put_constructed-returns-in-Some t c =
-    let rule = rule_of c.args.self.rule in
+pub writer::Writer::put_alternative-put_value-requires : goal.writer::Writer::put_alternative-put_value-requires
+writer::Writer::put_alternative-put_value-requires t c =
+    let alternatives = c.args.alternatives.now in
     let v = value_view c.args.value.now in
-    let alternatives = c.in-Choice.alternatives in
-    let is = ap ty_view c.in-Choice.is ∙ ty-Choice alternatives in
-    let parts = choice_parts alternatives.items v (subst (λ (s : Shape). Conforms s v) is c.requires.writable.conforms) (subst HasGoodNodes is c.requires.writable.nodes) in
-    let a = c.index.result.now in
-    let here = chosen_in_choice rule alternatives.items (ty_view c.args.ty.now) v c.in-Some.which (value_view c.in-Some.chosen.now) a is parts (c.in-Some.ensures parts.which parts.value parts.is) c.index.ensures in
-    written_by c.put_value.ensures here.alike.to
+    let parts = choice_parts alternatives v c.requires.conforms c.requires.nodes in
+    let here = chosen_in_choice (rule_of c.args.self.rule) alternatives (Shape.choice (alternatives_view alternatives)) v c.in-Some.which (value_view c.in-Some.chosen.now) c.index-alternatives-which.result refl parts (c.in-Some.ensures parts.which parts.value parts.is) c.index-alternatives-which.is in
+    (search (rules, node.the_lemmas, alternative.the_lemmas), subst (λ (x : Alternative). IsWritable (ty_view x.ty) (value_view c.in-Some.chosen.now)) c.index-alternatives-which.is here.writable)
+
+pub writer::Writer::put_alternative-returns : goal.writer::Writer::put_alternative-returns
+writer::Writer::put_alternative-returns t c =
+    let alternatives = c.args.alternatives.now in
+    let v = value_view c.args.value.now in
+    let parts = choice_parts alternatives v c.requires.conforms c.requires.nodes in
+    let here = chosen_in_choice (rule_of c.args.self.rule) alternatives (Shape.choice (alternatives_view alternatives)) v c.in-Some.which (value_view c.in-Some.chosen.now) c.index-alternatives-which.result refl parts (c.in-Some.ensures parts.which parts.value parts.is) c.index-alternatives-which.is in
+    written_by c.put_value.ensures (subst (λ (x : Alternative). (b : List ℕ) → IsEncoding (rule_of c.args.self.rule) (ty_view x.ty) (value_view c.in-Some.chosen.now) b → IsEncoding (rule_of c.args.self.rule) (Shape.choice (alternatives_view alternatives)) v b) c.index-alternatives-which.is here.alike.to)
+
+pub writer::Writer::put_constructed-put_alternative-requires : goal.writer::Writer::put_constructed-put_alternative-requires
+writer::Writer::put_constructed-put_alternative-requires t c =
+    (search (rules, node.the_lemmas), subst (λ (s : Shape). IsWritable s (value_view c.args.value.now)) (as_choice c.in-Choice.alternatives c.in-Choice.is c.deref.ensures.value) c.requires.writable)
+
+pub writer::Writer::put_constructed-returns-in-Choice : goal.writer::Writer::put_constructed-returns-in-Choice
+writer::Writer::put_constructed-returns-in-Choice t c =
+    subst (λ (s : Shape). Writes (IsEncoding (rule_of c.args.self.rule) s (value_view c.args.value.now)) c.put_alternative.result c.args.out.now.items c.put_alternative.new.out.items) (sym (as_choice c.in-Choice.alternatives c.in-Choice.is c.deref.ensures.value)) c.put_alternative.ensures
 
 pub writer::Writer::put_constructed-returns-in_ok-put_parts-in-Sequence : goal.writer::Writer::put_constructed-returns-in_ok-put_parts-in-Sequence
 writer::Writer::put_constructed-returns-in_ok-put_parts-in-Sequence t c =
@@ -149,6 +162,27 @@ pub writer::Writer::put_items-returns-in-Some : goal.writer::Writer::put_items-r
 writer::Writer::put_items-returns-in-Some t c =
     let alike = leaves_alike c.in-Some.tag (ty_view c.args.ty.now) (leaf_of c.in-Some.tag (ty_view c.args.ty.now) c.in-Some.ensures.leaf c.in-Some.ensures.tag) (rule_of c.args.self.rule) (rule_is_canonical c.args.self.rule) (map value_view c.args.items.now) c.requires.conform in
     written_by c.put_leaves.ensures alike.to
+
+pub writer::Writer::put_items-put_alternatives-requires : goal.writer::Writer::put_items-put_alternatives-requires
+writer::Writer::put_items-put_alternatives-requires t c =
+    (search (rules, node.the_lemmas), subst (λ (s : Shape). AreWritable s (map value_view c.args.items.now)) (as_choice c.in-Choice.alternatives c.in-Choice.is c.deref.ensures.value) c.requires)
+
+pub writer::Writer::put_items-returns-in-Choice : goal.writer::Writer::put_items-returns-in-Choice
+writer::Writer::put_items-returns-in-Choice t c =
+    subst (λ (s : Shape). Writes (AreItems (IsEncoding (rule_of c.args.self.rule) s) (map value_view c.args.items.now)) c.put_alternatives.result c.args.out.now.items c.put_alternatives.new.out.items) (sym (as_choice c.in-Choice.alternatives c.in-Choice.is c.deref.ensures.value)) c.put_alternatives.ensures
+
+pub writer::Writer::put_alternatives-put_alternative-requires : goal.writer::Writer::put_alternatives-put_alternative-requires
+writer::Writer::put_alternatives-put_alternative-requires t c =
+    (search (rules, node.the_lemmas), item_writable (Shape.choice (alternatives_view c.args.alternatives.now)) c.args.items.now c.loop-item.item-index c.item-item.result (omega arith) c.item-item.is c.requires)
+
+pub writer::Writer::put_alternatives-loop-item-preserved : goal.writer::Writer::put_alternatives-loop-item-preserved
+writer::Writer::put_alternatives-loop-item-preserved t c =
+    item_behind (IsEncoding (rule_of c.args.self.rule) (Shape.choice (alternatives_view c.args.alternatives.now))) c.args.items.now c.loop-item.item-index c.item-item.result c.args.out.now.items c.loop-item.out.items c.put_alternative.new.out.items (omega arith) c.item-item.is c.loop-item.invariant c.in_ok-put_alternative.ensures.appended
+
+pub writer::Writer::put_alternatives-returns-in_err-put_alternative : goal.writer::Writer::put_alternatives-returns-in_err-put_alternative
+writer::Writer::put_alternatives-returns-in_err-put_alternative t c =
+    let so_far = c.loop-item.invariant in
+    refused _ c.from_residual.ensures.1 (keeps_chain c.args.out.now.items c.loop-item.out.items c.put_alternative.new.out.items (so_far.0, so_far.1, tt) c.in_err-put_alternative.ensures.kept)
 
 pub writer::Writer::put_items-put_constructed-requires : goal.writer::Writer::put_items-put_constructed-requires
 writer::Writer::put_items-put_constructed-requires t c =
@@ -380,7 +414,7 @@ writer::Writer::put_constructed-returns-in-Explicit t c =
     let tag = c.in-Explicit.tag in
     let inner = c.in-Explicit.inner in
     let is : ty_view c.args.ty.now ≡ Shape.explicit tag (ty_view inner.value) = ap ty_view c.in-Explicit.is ∙ ty-Explicit tag inner in
-    written_as_explicit rule tag c.deref.ensures is c.put_explicit.ensures
+    written_as_explicit rule tag c.deref-in-Explicit.ensures is c.put_explicit.ensures
 
 pub writer::Writer::put_node-returns-in-Explicit : goal.writer::Writer::put_node-returns-in-Explicit
 writer::Writer::put_node-returns-in-Explicit t c =
