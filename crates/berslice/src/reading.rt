@@ -28,6 +28,7 @@ use types::{Alternative, Ty, Value};
 /// Takes memory as the value does, beside the room of the value that `whole` holds, into which goes what has room
 /// there, but no constructed string; None where there is too little. A list that `whole` holds then goes to `room`, with
 /// what items it has, unless `whole` held nothing before. More than eight open encodings of such a string take memory too.
+#[inline(always)]
 pub fn read_whole(
     alloc: Global,
     ty: &Ty,
