@@ -1,10 +1,9 @@
 -- Lemmas on strings that are appended in pieces.
-use Rattle.std.proofs.Common.{◌≡◌, ◌∙◌, ◌≤◌, ◌++◌, ◌&&◌, ℕ, zero, suc, Bool, true, false, List, [], ◌∷◌, flat_map, replicate, refl, sym, ap, leb, arith, append_assoc}
+use Rattle.std.proofs.Common.{◌≡◌, ◌∙◌, ◌≤◌, ◌++◌, ◌&&◌, ℕ, zero, suc, Bool, true, false, List, [], ◌∷◌, map, replicate, refl, sym, ap, leb, arith, append_assoc}
 use Rattle.std.specs.Str.{IsAscii}
 use Rattle.std.proofs.lemmas.Bool.{leb-true}
 use Rattle.std.proofs.lemmas.Str.Ascii.{IsAscii-nil, IsAscii-cons}
-use Rattle.std.proofs.lemmas.Grind.{flat_map-append}
-use Rattle.texts.specs.Leaf.{is_printable, are_printable}
+use Rattle.texts.specs.Leaf.{bit_digit, is_printable, are_printable}
 
 pub ascii_zeros : (n : ℕ) → IsAscii (replicate n 0)
 ascii_zeros zero = IsAscii-nil
@@ -29,8 +28,12 @@ printable_ascii (x ∷ xs) h =
     let above : x ≤ 126 = leb-true x 126 (both (leb 32 x) (leb x 126) parts.0).1 in
     IsAscii-cons x xs (omega (arith, above)) (printable_ascii xs parts.1)
 
+pub ascii_digits : (bits : List Bool) → IsAscii (map bit_digit bits)
+ascii_digits [] = IsAscii-nil
+ascii_digits (true ∷ bits) = IsAscii-cons 49 (map bit_digit bits) (omega arith) (ascii_digits bits)
+ascii_digits (false ∷ bits) = IsAscii-cons 48 (map bit_digit bits) (omega arith) (ascii_digits bits)
+
 -- a chunk was appended, and others are left
-pub chunk_more : (f : ℕ → List ℕ) (now new chunk rest left whole : List ℕ) → left ≡ chunk ++ rest → now ++ flat_map f left ≡ whole → new ≡ now ++ flat_map f chunk → new ++ flat_map f rest ≡ whole
-chunk_more f now new chunk rest left whole parts h put =
-    ap (λ n. n ++ flat_map f rest) put
-    ∙ (append_assoc now (flat_map f chunk) (flat_map f rest) ∙ (ap (λ t. now ++ t) (sym (flat_map-append f chunk rest) ∙ ap (flat_map f) (sym parts)) ∙ h))
+pub chunk_more : (f : List ℕ → List ℕ) (now new chunk rest left whole : List ℕ) → f (chunk ++ rest) ≡ f chunk ++ f rest → left ≡ chunk ++ rest → now ++ f left ≡ whole → new ≡ now ++ f chunk → new ++ f rest ≡ whole
+chunk_more f now new chunk rest left whole splits parts h put =
+    ap (λ n. n ++ f rest) put ∙ (append_assoc now (f chunk) (f rest) ∙ (ap (λ t. now ++ t) (sym splits ∙ ap f (sym parts)) ∙ h))

@@ -1,9 +1,11 @@
 -- Lemmas on texts of values, part by part.
-use Rattle.std.proofs.Common.{◌≡◌, ◌∙◌, ◌+◌, ◌-◌, ◌/◌, ◌%◌, ◌<◌, ◌≤◌, ◌++◌, ℕ, zero, suc, Bool, false, cond, List, [], ◌∷◌, Option, Some, None, OnOk, codes, length, map, take, drop, get_or, min, nat_eq, replicate, refl, sym, ap, ap₂, subst, subst₂, arith, append_assoc, length-drop, take_all}
-use Rattle.std.proofs.lemmas.List.{append-nil, map-append, take-map, take_more, take-append-drop, length-replicate}
+use Rattle.std.proofs.Common.{◌≡◌, ◌∙◌, ◌+◌, ◌*◌, ◌-◌, ◌<◌, ◌≤◌, ◌++◌, ℕ, zero, suc, Bool, false, cond, List, [], ◌∷◌, Option, Some, None, OnOk, codes, length, map, take, drop, get_or, min, replicate, refl, sym, ap, ap₂, subst, subst₂, arith, append_assoc, length-drop}
+use Rattle.std.proofs.lemmas.List.{append-nil, map-append, take_more, take-append-drop, length-map, length-replicate}
+use Rattle.std.proofs.lemmas.Slice.{take-put_mid}
+use borrow.Rule.Slice.PartMut.{put_mid}
 use Rattle.std.specs.declared.result.Result.{Result}
 use Rattle.octets.proofs.ResultLemmas.{OnOk-map}
-use Rattle.primitives.specs.Bits.{bit_of, bits_of, bits_of_octet, bits_before, IsPadded}
+use Rattle.primitives.specs.Bits.{bits_of, bits_of_octet, bits_before, IsPadded}
 use Rattle.primitives.proofs.BitsLemmas.{length-bits_of_octet, bits_of-append, bits_before-parts, one_padding}
 use Rattle.types.specs.declared.ty.Ty.{Ty}
 use Rattle.types.specs.declared.ty.Field.{Field}
@@ -122,49 +124,23 @@ pub bits_padded : (bits : List Bool) (octets others : List ℕ) (unused other : 
 bits_padded bits octets others unused other h g =
     ap (λ u. bits_before octets u) (sym (one_padding bits octets others other unused h g).unused) ∙ bits_before-parts octets other bits (replicate other false) h.bits_are (length-replicate other false)
 
--- the digits of an octet are those of its high four bits, and then those of its low ones
-pub eight_digits : (octet : ℕ) (old mid new : List ℕ) → mid ≡ old ++ map bit_digit (drop 4 (bits_of_octet (octet / 16))) → new ≡ mid ++ map bit_digit (drop 4 (bits_of_octet (octet % 16)))
-    → new ≡ old ++ map bit_digit (bits_of_octet octet)
-unfolding bits_of_octet
-eight_digits octet old mid new first second =
-    let bit = λ (n : ℕ) (rest : List Bool). nat_eq n 1 ∷ rest in
-    let high = drop 4 (bits_of_octet (octet / 16)) in
-    let low = drop 4 (bits_of_octet (octet % 16)) in
-    let same : bits_of_octet octet ≡ high ++ low =
-    ap₂ bit (let e : octet / 128 % 2 ≡ octet / 16 / 8 % 2 = omega arith in e)
-    (ap₂ bit (let e : octet / 64 % 2 ≡ octet / 16 / 4 % 2 = omega arith in e)
-    (ap₂ bit (let e : octet / 32 % 2 ≡ octet / 16 / 2 % 2 = omega arith in e)
-    (ap₂ bit (let e : octet / 16 % 2 ≡ octet / 16 / 1 % 2 = omega arith in e)
-    (ap₂ bit (let e : octet / 8 % 2 ≡ octet % 16 / 8 % 2 = omega arith in e)
-    (ap₂ bit (let e : octet / 4 % 2 ≡ octet % 16 / 4 % 2 = omega arith in e)
-    (ap₂ bit (let e : octet / 2 % 2 ≡ octet % 16 / 2 % 2 = omega arith in e)
-    (ap₂ bit (let e : octet / 1 % 2 ≡ octet % 16 / 1 % 2 = omega arith in e) refl))))))) in
-    second ∙ (ap (λ m. m ++ map bit_digit low) first ∙ (append_assoc old (map bit_digit high) (map bit_digit low) ∙ ap (λ d. old ++ d) (sym (ap (map bit_digit) same ∙ map-append bit_digit high low))))
+pub digits-append : (xs ys : List ℕ) → map bit_digit (bits_of (xs ++ ys)) ≡ map bit_digit (bits_of xs) ++ map bit_digit (bits_of ys)
+digits-append xs ys = ap (map bit_digit) (bits_of-append xs ys) ∙ map-append bit_digit (bits_of xs) (bits_of ys)
 
-pub digits_more : (front : List ℕ) (i x : ℕ) (old now new : List ℕ) → i < length front → x ≡ get_or front i 0 → now ≡ old ++ map bit_digit (bits_of (take i front)) → new ≡ now ++ map bit_digit (bits_of_octet x) → new ≡ old ++ map bit_digit (bits_of (take (i + 1) front))
-unfolding bits_of_octet
-digits_more front i x old now new below at h g =
-    let before = take i front in
-    let whole : take (i + 1) front ≡ before ++ x ∷ [] = take_more front i 0 below ∙ ap (λ y. before ++ y ∷ []) (sym at) in
-    let bits : bits_of (take (i + 1) front) ≡ bits_of before ++ (bits_of_octet x ++ []) = ap bits_of whole ∙ bits_of-append before (x ∷ []) in
-    let digits : map bit_digit (bits_of (take (i + 1) front)) ≡ map bit_digit (bits_of before) ++ map bit_digit (bits_of_octet x) =
-    ap (map bit_digit) bits ∙ (ap (λ bs. map bit_digit (bits_of before ++ bs)) (append-nil (bits_of_octet x)) ∙ map-append bit_digit (bits_of before) (bits_of_octet x)) in
-    g ∙ (ap (λ n. n ++ map bit_digit (bits_of_octet x)) h ∙ (append_assoc old (map bit_digit (bits_of before)) (map bit_digit (bits_of_octet x)) ∙ ap (λ d. old ++ d) (sym digits)))
+-- the digits of one more octet stand behind those of the octets before
+pub digits_more : (octets digits eight : List ℕ) (i x k : ℕ) → i < length octets → x ≡ get_or octets i 0 → 8 * i ≤ length digits → eight ≡ map bit_digit (bits_of_octet x) → take (8 * i) digits ≡ map bit_digit (bits_of (take i octets))
+    → take (8 * (i + 1)) (put_mid (8 * i) k digits eight) ≡ map bit_digit (bits_of (take (i + 1) octets))
+digits_more octets digits eight i x k below at fits is h =
+    let long : length eight ≡ 8 = ap length is ∙ (length-map (bits_of_octet x) bit_digit ∙ length-bits_of_octet x) in
+    let all : take (i + 1) octets ≡ take i octets ++ x ∷ [] = take_more octets i 0 below ∙ ap (λ y. take i octets ++ y ∷ []) (sym at) in
+    let one : map bit_digit (bits_of (x ∷ [])) ≡ eight = ap (map bit_digit) (append-nil (bits_of_octet x)) ∙ sym is in
+    take-put_mid (8 * i) k digits eight (8 * (i + 1)) (omega arith) fits ∙ ap₂ (λ front back. front ++ back) h (sym one) ∙ sym (ap (λ xs. map bit_digit (bits_of xs)) all ∙ digits-append (take i octets) (x ∷ []))
 
 pub digits_end : {E : Type 0} (r : Result (Unit {0}) E) (octets front : List ℕ) (last unused n : ℕ) (old now new : List ℕ) → octets ≡ front ++ last ∷ [] → unused ≤ 7 → n ≡ 8 - unused → now ≡ old ++ map bit_digit (bits_of front) → Added r now (map bit_digit (take n (bits_of_octet last))) new
     → Added r old (map bit_digit (bits_before octets unused)) new
 digits_end r octets front last unused n old now new is few many h g =
     let bits = ap (map bit_digit) (bits_before_last octets front last unused is few) ∙ map-append bit_digit (bits_of front) (take (8 - unused) (bits_of_octet last)) in
     OnOk-map r _ _ (λ e. e ∙ (ap₂ (λ m k. m ++ map bit_digit (take k (bits_of_octet last))) h many ∙ (append_assoc old (map bit_digit (bits_of front)) (map bit_digit (take (8 - unused) (bits_of_octet last))) ∙ ap (λ d. old ++ d) (sym bits)))) g
-
--- the first bits of an octet by their place values
-abbrev pub places : List ℕ
-places = 128 ∷ 64 ∷ 32 ∷ 16 ∷ 8 ∷ 4 ∷ 2 ∷ 1 ∷ []
-
-pub first_bits : (o count i : ℕ) → length (take count places) ≤ i → map (bit_of o) (take i (take count places)) ≡ take count (bits_of_octet o)
-unfolding bits_of_octet
-first_bits o count i past =
-    ap (map (bit_of o)) (take_all i (take count places) past) ∙ sym (take-map (bit_of o) count places)
 
 pub quoted : (old opened mid new digits bits : List ℕ) → opened ≡ old ++ codes "'" → mid ≡ opened ++ digits → digits ≡ bits → new ≡ mid ++ codes "'B" → new ≡ old ++ (codes "'" ++ bits ++ codes "'B")
 quoted old opened mid new digits bits a b same c =

@@ -1,7 +1,7 @@
 //! Texts of strings.
 
-ghost use Rattle.std.specs.Prelude.{◌≡◌, ◌≤◌, ◌<◌, ◌++◌, IsAscii, IsTrue, OnOk, drop, flat_map, length, map, string_bytes, take, true};
-ghost use Rattle.primitives.specs.Bits.{bits_of_octet, bits_before};
+ghost use Rattle.std.specs.Prelude.{◌≡◌, ◌≤◌, ◌<◌, ◌++◌, IsAscii, IsTrue, OnOk, flat_map, length, map, string_bytes, take, true};
+ghost use Rattle.primitives.specs.Bits.{bit_of, bits_of, bits_of_octet, bits_before};
 ghost use Rattle.texts.specs.Leaf.{bit_digit as digit_of_bit, hex_digit as digit_of_hex, bits_text, octets_text, hex_digits, quoted_octet, quoted_text, are_printable, readable_text, text_of_kind};
 
 use octets::NoMemory;
@@ -13,8 +13,8 @@ use strings::TextKind;
 // How many octets become digits before these are appended.
 const AT_ONCE: usize = 64;
 
-// The place values of the bits of an octet, bit 8 first.
-const PLACES: [u8; 8] = [128, 64, 32, 16, 8, 4, 2, 1];
+// The same where an octet becomes eight digits, and not two.
+const BITS_AT_ONCE: usize = AT_ONCE / 4;
 
 // Appends a digit for each bit, in quotes.
 pub(crate) fn put_bits(bits: &Bits, out: &mut String) -> Result<(), NoMemory>
@@ -43,45 +43,22 @@ fn put_digits(octets: &[u8], unused: u8, out: &mut String) -> Result<(), NoMemor
     let Some((last, front)) = octets.split_last() else {
         return Ok(());
     };
-    for octet in front {
-        put_eight_digits(*octet, out)?;
+    for chunk in front.chunks(BITS_AT_ONCE) {
+        put_bit_digits(chunk, out)?;
     }
     put_first_digits(*last, 8 - unused as usize, out)
 }
 
-// Appends a digit for each bit of an octet.
-fn put_eight_digits(octet: u8, out: &mut String) -> Result<(), NoMemory>
-    ensures { OnOk result (string_bytes out.new ≡ string_bytes out.old ++ map digit_of_bit (bits_of_octet octet)) }
+// Appends a digit for each bit of a few octets.
+fn put_bit_digits(octets: &[u8], out: &mut String) -> Result<(), NoMemory>
+    requires { length octets.now ≤ 16 }
+    ensures { OnOk result (string_bytes out.new ≡ string_bytes out.old ++ map digit_of_bit (bits_of octets.now)) }
 {
-    out.push_str(four_digits(octet / 16))?;
-    out.push_str(four_digits(octet % 16))?;
-    Ok(())
-}
-
-// A digit for each of the last four bits.
-#[tactic(auto, unfolding(primitives::specs::Bits::bits_of_octet))]
-fn four_digits(value: u8) -> &'static str
-    requires { value < 16 }
-    ensures { result.now ≡ map digit_of_bit (drop 4 (bits_of_octet value)) }
-{
-    match value {
-        0 => "0000",
-        1 => "0001",
-        2 => "0010",
-        3 => "0011",
-        4 => "0100",
-        5 => "0101",
-        6 => "0110",
-        7 => "0111",
-        8 => "1000",
-        9 => "1001",
-        10 => "1010",
-        11 => "1011",
-        12 => "1100",
-        13 => "1101",
-        14 => "1110",
-        _ => "1111",
+    let mut digits = [0u8; 2 * AT_ONCE];
+    for (place, octet) in octets.iter().enumerate() {
+        digits[8 * place..8 * place + 8].copy_from_slice(&eight_digits(*octet));
     }
+    put_ascii(&digits[..8 * octets.len()], out)
 }
 
 // Appends a digit for each of the first bits of an octet.
@@ -89,16 +66,32 @@ fn put_first_digits(octet: u8, count: usize, out: &mut String) -> Result<(), NoM
     requires { count ≤ 8 }
     ensures { OnOk result (string_bytes out.new ≡ string_bytes out.old ++ map digit_of_bit (take count (bits_of_octet octet))) }
 {
-    for place in &PLACES[..count] {
-        out.push(bit_digit(octet / *place % 2 == 1))?;
-    }
-    Ok(())
+    put_ascii(&eight_digits(octet)[..count], out)
 }
 
-fn bit_digit(bit: bool) -> char
-    ensures { result ≡ digit_of_bit bit }
+// A digit for each bit of an octet.
+#[tactic(auto, unfolding(primitives::specs::Bits::bits_of_octet))]
+fn eight_digits(octet: u8) -> [u8; 8]
+    ensures { result ≡ map digit_of_bit (bits_of_octet octet) }
 {
-    if bit { '1' } else { '0' }
+    [
+        bit_digit(octet, 128),
+        bit_digit(octet, 64),
+        bit_digit(octet, 32),
+        bit_digit(octet, 16),
+        bit_digit(octet, 8),
+        bit_digit(octet, 4),
+        bit_digit(octet, 2),
+        bit_digit(octet, 1),
+    ]
+}
+
+// The digit for the bit of this place value.
+fn bit_digit(octet: u8, place: u8) -> u8
+    requires { 0 < place }
+    ensures { result ≡ digit_of_bit (bit_of octet place) }
+{
+    b'0' + octet / place % 2
 }
 
 /// Appends two hexadecimal digits for each octet, in quotes.

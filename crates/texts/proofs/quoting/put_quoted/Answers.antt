@@ -1,4 +1,5 @@
-use Rattle.std.proofs.Common.{◌≡◌, rules, IsAscii, string_bytes, subst}
+use Rattle.std.proofs.Common.{◌≡◌, rules, IsAscii, flat_map, string_bytes, subst}
+use Rattle.std.proofs.lemmas.Grind.{flat_map-append}
 use Rattle.std.specs.Slice.Iter.{chunks_rest}
 use Rattle.texts.specs.Leaf.{quoted_octet}
 use Rattle.texts.proofs.AppendLemmas.{printable_ascii, ascii_front, ascii_back, chunk_more}
@@ -21,5 +22,5 @@ loop-chunk-preserved c =
       tt,
       search rules,
       ascii_back chunk rest (subst IsAscii parts c.loop-chunk.invariant.3),
-      chunk_more quoted_octet (string_bytes c.loop-chunk.out) (string_bytes c.put_characters.new.out) chunk rest left _ parts c.loop-chunk.invariant.4 c.in_ok-put_characters.ensures,
+      chunk_more (flat_map quoted_octet) (string_bytes c.loop-chunk.out) (string_bytes c.put_characters.new.out) chunk rest left _ (flat_map-append quoted_octet chunk rest) parts c.loop-chunk.invariant.4 c.in_ok-put_characters.ensures,
     )
