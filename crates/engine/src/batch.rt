@@ -21,6 +21,8 @@ use types::{Refusal, Value};
 pub struct Batch {
     pub octets: Vec<u8>,
     pub lengths: Vec<usize>,
+    /// Memory for the line of one value.
+    pub room: Vec<u8>,
     /// Whether the encoding that a value is read from stands for it.
     pub copies: bool,
 }
@@ -35,6 +37,7 @@ impl Batch {
         Batch {
             octets: Vec::new(alloc),
             lengths: Vec::new(alloc),
+            room: Vec::new(alloc),
             copies,
         }
     }
@@ -56,7 +59,7 @@ impl Batch {
         ensures refused { IfErr result (IsNotAdded (P.stands writer.now (value_view value.now)) P.can_be_too_long) }
     {
         let before = self.octets.len();
-        put(writer, value, encoding, &mut self.octets)?;
+        put(writer, value, encoding, &mut self.room, &mut self.octets)?;
         let length = self.octets.len() - before;
         match self.lengths.push(length) {
             Ok(()) => Ok(()),
@@ -117,6 +120,7 @@ fn put<P: Put>(
     writer: &P,
     value: &Value,
     encoding: Option<&[u8]>,
+    room: &mut Vec<u8>,
     out: &mut Vec<u8>,
 ) -> Result<(), Refusal>
     requires conforms { Conforms (P.shape writer.now) (value_view value.now) }
@@ -126,7 +130,7 @@ fn put<P: Put>(
     ensures refused { IfErr result (IsNotAdded (P.stands writer.now (value_view value.now)) P.can_be_too_long) }
 {
     let Some(octets) = encoding else {
-        return writer.put(value, out);
+        return writer.put(value, room, out);
     };
     out.extend_from_slice(octets)?;
     Ok(())

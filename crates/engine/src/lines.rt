@@ -8,7 +8,7 @@ ghost use Rattle.engine.specs.Stream.{IsLine};
 
 use crate::putting::Put;
 use std::alloc::Global;
-use texts::{show, show_behind};
+use texts::show_behind;
 use types::{Refusal, Value, WellTyped};
 
 /// Writes a value's text and a line feed.
@@ -25,18 +25,20 @@ impl Put for Lines<'_> {
 
     ghost can_be_too_long = { ⊥ };
 
-    fn put(&self, value: &Value, out: &mut Vec<u8>) -> Result<(), Refusal> {
+    fn put(&self, value: &Value, room: &mut Vec<u8>, out: &mut Vec<u8>) -> Result<(), Refusal> {
         if out.is_empty() {
-            return self.put_first(value, out);
+            return self.put_alone(value, out);
         }
-        let text = show(self.alloc, self.ty, value)?;
-        put_line(text, out)
+        room.clear();
+        self.put_alone(value, room)?;
+        out.extend_from_slice(room)?;
+        Ok(())
     }
 }
 
 impl Lines<'_> {
     // Puts the line of a value into a vector without octets, in the room that it has.
-    fn put_first(&self, value: &Value, out: &mut Vec<u8>) -> Result<(), Refusal>
+    fn put_alone(&self, value: &Value, out: &mut Vec<u8>) -> Result<(), Refusal>
         requires conforms { Conforms (ty_view self.now.ty.now) (value_view value.now) }
         requires none { out.old.items ≡ [] }
         ensures line { OnOk result (IsLine (IsShown (ty_view self.now.ty.now)) (value_view value.now) out.new.items) }
@@ -52,17 +54,6 @@ impl Lines<'_> {
         *out = text.into_bytes();
         Ok(())
     }
-}
-
-// Appends a text and a line feed.
-fn put_line(mut text: String, out: &mut Vec<u8>) -> Result<(), Refusal>
-    ensures appended { OnOk result (out.new.items ≡ out.old.items ++ (string_bytes text ++ 10 ∷ [])) }
-    ensures unchanged { OnErr result (out.new.items ≡ out.old.items) }
-    ensures refused { IfErr result (λ refusal. refusal ≡ Refusal.NoMemory) }
-{
-    end_line(&mut text)?;
-    out.extend_from_slice(text.as_bytes())?;
-    Ok(())
 }
 
 // Appends a line feed.

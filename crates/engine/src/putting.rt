@@ -25,8 +25,8 @@ pub trait Put {
     // There may be a value for which nothing stands.
     ghost can_be_too_long: { Type 0 };
 
-    /// Appends what stands for a value.
-    fn put(&self, value: &Value, out: &mut Vec<u8>) -> Result<(), Refusal>
+    /// Appends what stands for a value. What is in `room` is lost: a writer may use its memory.
+    fn put(&self, value: &Value, room: &mut Vec<u8>, out: &mut Vec<u8>) -> Result<(), Refusal>
         requires { Conforms (shape self.now) (value_view value.now) }
         ensures appended { OnOk result
             (Appends (stands self.now (value_view value.now)) out.old.items out.new.items) }
@@ -52,7 +52,7 @@ impl Put for Encodings<'_> {
 
     ghost can_be_too_long = { ⊤ };
 
-    fn put(&self, value: &Value, out: &mut Vec<u8>) -> Result<(), Refusal> {
+    fn put(&self, value: &Value, _room: &mut Vec<u8>, out: &mut Vec<u8>) -> Result<(), Refusal> {
         match self.to {
             Canonical::Cer => Cer.put(self.alloc, self.ty, value, out),
             Canonical::Der => Der.put(self.alloc, self.ty, value, out),
@@ -73,7 +73,7 @@ impl Put for Nothing<'_> {
 
     ghost can_be_too_long = { ⊥ };
 
-    fn put(&self, _value: &Value, _out: &mut Vec<u8>) -> Result<(), Refusal> {
+    fn put(&self, _value: &Value, _room: &mut Vec<u8>, _out: &mut Vec<u8>) -> Result<(), Refusal> {
         Ok(())
     }
 }
