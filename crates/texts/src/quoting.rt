@@ -10,10 +10,10 @@ use simdutf8::basic::from_utf8;
 use std::string::String;
 use strings::TextKind;
 
-// How many octets become digits before these are appended.
+// How many octets become two digits each before these are appended.
 const AT_ONCE: usize = 64;
 
-// The same where an octet becomes eight digits, and not two.
+// How many octets become eight digits each before these are appended.
 const BITS_AT_ONCE: usize = AT_ONCE / 4;
 
 // Appends a digit for each bit, in quotes.
