@@ -62,6 +62,7 @@ impl<'a> StrictReader<'a> {
     }
 
     /// Takes octets as `AnyReader` does.
+    #[inline(always)]
     pub fn feed(&mut self, piece: &[u8], slot: &mut Option<Value>) -> Result<usize, Refusal>
         requires { (shape : Shape) × (old : List ℕ) × StandsStrictly shape self.old old }
         ensures used { IfOk result (λ used. used ≤ length piece.now) }

@@ -93,6 +93,7 @@ pub fn read_canonical(
 /// Reads the one encoding at the front of `octets` under the rule into the slot, as `read_canonical` returns it, and
 /// returns how many octets the encoding has. What the slot holds gives the value room. Where the octets are refused, the
 /// slot may hold anything.
+#[inline(always)]
 pub fn read_into(
     alloc: Global,
     rule: Canonical,
