@@ -1,5 +1,5 @@
 -- Lemmas on texts of values, part by part.
-use Rattle.std.proofs.Common.{◌≡◌, ◌∙◌, ◌+◌, ◌*◌, ◌-◌, ◌<◌, ◌≤◌, ◌++◌, ℕ, zero, suc, Bool, false, cond, List, [], ◌∷◌, Option, Some, None, OnOk, codes, length, map, take, drop, get_or, min, replicate, refl, sym, ap, ap₂, subst, subst₂, arith, append_assoc, length-drop}
+use Rattle.std.proofs.Common.{◌≡◌, ◌∙◌, ◌+◌, ◌*◌, ◌-◌, ◌/◌, ◌%◌, ◌<◌, ◌≤◌, ◌++◌, ℕ, zero, suc, Bool, false, cond, List, [], ◌∷◌, Option, Some, None, OnOk, codes, length, map, take, drop, get_or, min, nat_eq, replicate, refl, sym, ap, ap₂, subst, subst₂, arith, append_assoc, length-drop}
 use Rattle.std.proofs.lemmas.List.{append-nil, map-append, take_more, take-append-drop, length-map, length-replicate}
 use Rattle.std.proofs.lemmas.Slice.{take-put_mid}
 use borrow.Rule.Slice.PartMut.{put_mid}
@@ -123,6 +123,24 @@ bits_before_last octets front last unused is few =
 pub bits_padded : (bits : List Bool) (octets others : List ℕ) (unused other : ℕ) → IsPadded bits octets other → IsPadded bits others unused → bits_before octets unused ≡ bits
 bits_padded bits octets others unused other h g =
     ap (λ u. bits_before octets u) (sym (one_padding bits octets others other unused h g).unused) ∙ bits_before-parts octets other bits (replicate other false) h.bits_are (length-replicate other false)
+
+-- the digits of an octet are those of its high four bits, and then those of its low ones
+digits_by_four : (octet : ℕ) → map bit_digit (bits_of_octet octet) ≡ map bit_digit (drop 4 (bits_of_octet (octet / 16))) ++ map bit_digit (drop 4 (bits_of_octet (octet % 16)))
+unfolding bits_of_octet
+digits_by_four octet =
+    let digit = λ (n : ℕ) (rest : List ℕ). bit_digit (nat_eq n 1) ∷ rest in
+    ap₂ digit (let e : octet / 128 % 2 ≡ octet / 16 / 8 % 2 = omega arith in e)
+    (ap₂ digit (let e : octet / 64 % 2 ≡ octet / 16 / 4 % 2 = omega arith in e)
+    (ap₂ digit (let e : octet / 32 % 2 ≡ octet / 16 / 2 % 2 = omega arith in e)
+    (ap₂ digit (let e : octet / 16 % 2 ≡ octet / 16 / 1 % 2 = omega arith in e)
+    (ap₂ digit (let e : octet / 8 % 2 ≡ octet % 16 / 8 % 2 = omega arith in e)
+    (ap₂ digit (let e : octet / 4 % 2 ≡ octet % 16 / 4 % 2 = omega arith in e)
+    (ap₂ digit (let e : octet / 2 % 2 ≡ octet % 16 / 2 % 2 = omega arith in e)
+    (ap₂ digit (let e : octet / 1 % 2 ≡ octet % 16 / 1 % 2 = omega arith in e) refl)))))))
+
+pub eight_digits : (octet : ℕ) (high low : List ℕ) → high ≡ map bit_digit (drop 4 (bits_of_octet (octet / 16))) → low ≡ map bit_digit (drop 4 (bits_of_octet (octet % 16))) → put_mid 4 4 (high ++ replicate 4 0) low ≡ map bit_digit (bits_of_octet octet)
+unfolding bits_of_octet
+eight_digits octet high low first second = ap₂ (λ front back. put_mid 4 4 (front ++ replicate 4 0) back) first second ∙ sym (digits_by_four octet)
 
 pub digits-append : (xs ys : List ℕ) → map bit_digit (bits_of (xs ++ ys)) ≡ map bit_digit (bits_of xs) ++ map bit_digit (bits_of ys)
 digits-append xs ys = ap (map bit_digit) (bits_of-append xs ys) ∙ map-append bit_digit (bits_of xs) (bits_of ys)

@@ -1,7 +1,7 @@
 //! Texts of strings.
 
-ghost use Rattle.std.specs.Prelude.{◌≡◌, ◌≤◌, ◌<◌, ◌++◌, IsAscii, IsTrue, OnOk, flat_map, length, map, string_bytes, take, true};
-ghost use Rattle.primitives.specs.Bits.{bit_of, bits_of, bits_of_octet, bits_before};
+ghost use Rattle.std.specs.Prelude.{◌≡◌, ◌≤◌, ◌<◌, ◌++◌, IsAscii, IsTrue, OnOk, drop, flat_map, length, map, string_bytes, take, true};
+ghost use Rattle.primitives.specs.Bits.{bits_of, bits_of_octet, bits_before};
 ghost use Rattle.texts.specs.Leaf.{bit_digit as digit_of_bit, hex_digit as digit_of_hex, bits_text, octets_text, hex_digits, quoted_octet, quoted_text, are_printable, readable_text, text_of_kind};
 
 use octets::NoMemory;
@@ -10,11 +10,8 @@ use simdutf8::basic::from_utf8;
 use std::string::String;
 use strings::TextKind;
 
-// How many octets become two digits each before these are appended.
+// How many octets become digits before these are appended.
 const AT_ONCE: usize = 64;
-
-// How many octets become eight digits each before these are appended.
-const BITS_AT_ONCE: usize = AT_ONCE / 4;
 
 // Appends a digit for each bit, in quotes.
 pub(crate) fn put_bits(bits: &Bits, out: &mut String) -> Result<(), NoMemory>
@@ -43,55 +40,58 @@ fn put_digits(octets: &[u8], unused: u8, out: &mut String) -> Result<(), NoMemor
     let Some((last, front)) = octets.split_last() else {
         return Ok(());
     };
-    for chunk in front.chunks(BITS_AT_ONCE) {
+    for chunk in front.chunks(AT_ONCE) {
         put_bit_digits(chunk, out)?;
     }
-    put_first_digits(*last, 8 - unused as usize, out)
+    put_ascii(&eight_digits(*last)[..8 - unused as usize], out)
 }
 
 // Appends a digit for each bit of a few octets.
 fn put_bit_digits(octets: &[u8], out: &mut String) -> Result<(), NoMemory>
-    requires { length octets.now ≤ 16 }
+    requires { length octets.now ≤ 64 }
     ensures { OnOk result (string_bytes out.new ≡ string_bytes out.old ++ map digit_of_bit (bits_of octets.now)) }
 {
-    let mut digits = [0u8; 2 * AT_ONCE];
+    let mut digits = [0u8; 8 * AT_ONCE];
     for (place, octet) in octets.iter().enumerate() {
         digits[8 * place..8 * place + 8].copy_from_slice(&eight_digits(*octet));
     }
     put_ascii(&digits[..8 * octets.len()], out)
 }
 
-// Appends a digit for each of the first bits of an octet.
-fn put_first_digits(octet: u8, count: usize, out: &mut String) -> Result<(), NoMemory>
-    requires { count ≤ 8 }
-    ensures { OnOk result (string_bytes out.new ≡ string_bytes out.old ++ map digit_of_bit (take count (bits_of_octet octet))) }
-{
-    put_ascii(&eight_digits(octet)[..count], out)
-}
-
 // A digit for each bit of an octet.
-#[tactic(auto, unfolding(primitives::specs::Bits::bits_of_octet))]
 fn eight_digits(octet: u8) -> [u8; 8]
     ensures { result ≡ map digit_of_bit (bits_of_octet octet) }
 {
-    [
-        bit_digit(octet, 128),
-        bit_digit(octet, 64),
-        bit_digit(octet, 32),
-        bit_digit(octet, 16),
-        bit_digit(octet, 8),
-        bit_digit(octet, 4),
-        bit_digit(octet, 2),
-        bit_digit(octet, 1),
-    ]
+    let mut digits = [0u8; 8];
+    digits[..4].copy_from_slice(four_digits(octet / 16));
+    digits[4..].copy_from_slice(four_digits(octet % 16));
+    digits
 }
 
-// The digit for the bit of this place value.
-fn bit_digit(octet: u8, place: u8) -> u8
-    requires { 0 < place }
-    ensures { result ≡ digit_of_bit (bit_of octet place) }
+// A digit for each of the last four bits.
+#[tactic(auto, unfolding(primitives::specs::Bits::bits_of_octet))]
+fn four_digits(value: u8) -> &'static [u8; 4]
+    requires { value < 16 }
+    ensures { result.now ≡ map digit_of_bit (drop 4 (bits_of_octet value)) }
 {
-    b'0' + octet / place % 2
+    match value {
+        0 => b"0000",
+        1 => b"0001",
+        2 => b"0010",
+        3 => b"0011",
+        4 => b"0100",
+        5 => b"0101",
+        6 => b"0110",
+        7 => b"0111",
+        8 => b"1000",
+        9 => b"1001",
+        10 => b"1010",
+        11 => b"1011",
+        12 => b"1100",
+        13 => b"1101",
+        14 => b"1110",
+        _ => b"1111",
+    }
 }
 
 /// Appends two hexadecimal digits for each octet, in quotes.

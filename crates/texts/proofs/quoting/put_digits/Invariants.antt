@@ -9,5 +9,5 @@ abbrev pub invariant-loop-chunk : goal.invariant-loop-chunk
 invariant-loop-chunk l =
     goal.iterator-loop-chunk.can_next l.chunk-iterator
     × goal.iterator-loop-chunk.is_finite l.chunk-iterator
-    × (chunks_size l.chunk-iterator ≡ 16)
+    × (chunks_size l.chunk-iterator ≡ 64)
     × (string_bytes l.out ++ map bit_digit (bits_of (chunks_rest l.chunk-iterator)) ≡ string_bytes l.initial.out ++ map bit_digit (bits_of (chunks_rest l.initial.chunk-iterator)))
