@@ -3,18 +3,13 @@
 
 use command_words::status;
 use convert::read_module;
-use program::{Line, cannot_open, cannot_read_module, cannot_share_input, line, no_words, run};
+use program::{Line, cannot_open, cannot_read_module, cannot_share_input, run};
 use std::fs::File;
 use std::io::{self, Read};
 use std::process::ExitCode;
 
 fn main(rt: HostRuntime) -> ExitCode {
-    ExitCode::from(status(
-        &rt,
-        |alloc, words| line(alloc, words),
-        |alloc, error| no_words(alloc, error),
-        |line| run_line(&rt, line),
-    ))
+    ExitCode::from(status(&rt, |line: &Line| run_line(&rt, line)))
 }
 
 // Reads the module's file, opens the input and runs a command line over them. The path `-` is the standard input.

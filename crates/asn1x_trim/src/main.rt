@@ -6,7 +6,7 @@ use std::alloc::Global;
 use std::fs::File;
 use std::io;
 use std::process::ExitCode;
-use trimmer::{Files, Line, line, no_words, read_file, run};
+use trimmer::{Files, Line, read_file, run};
 
 /// The files of the system.
 #[derive(Drop)]
@@ -21,12 +21,7 @@ impl Files for Disk<'_> {
 }
 
 fn main(rt: HostRuntime) -> ExitCode {
-    ExitCode::from(status(
-        &rt,
-        |alloc, words| line(alloc, words),
-        |alloc, error| no_words(alloc, error),
-        |line| run_line(&rt, line),
-    ))
+    ExitCode::from(status(&rt, |line: &Line| run_line(&rt, line)))
 }
 
 // Runs a command line over the files of the system.

@@ -5,15 +5,10 @@ use command_words::status;
 use std::fs::{self, File};
 use std::io::{self, Read, Stdin};
 use std::process::ExitCode;
-use view::{FileSystem, Line, line, no_words, run};
+use view::{FileSystem, Line, run};
 
 fn main(rt: HostRuntime) -> ExitCode {
-    ExitCode::from(status(
-        &rt,
-        |alloc, words| line(alloc, words),
-        |alloc, error| no_words(alloc, error),
-        |line| run_line(&rt, line),
-    ))
+    ExitCode::from(status(&rt, |line: &Line| run_line(&rt, line)))
 }
 
 // Runs a command line over the files of the process.

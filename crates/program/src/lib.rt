@@ -6,7 +6,6 @@ mod commands;
 mod fault;
 mod hex_sink;
 mod missing_files;
-mod missing_words;
 mod output;
 mod printed_path;
 mod running;
@@ -14,9 +13,7 @@ mod tasks;
 mod words;
 
 pub use command_line::{Line, Verb};
-pub use command_words::LineFault;
+pub use command_words::{CommandLine, LineFault};
 pub use missing_files::{cannot_open, cannot_read_module, cannot_share_input};
-pub use missing_words::no_words;
 pub use printed_path::PrintedPath;
 pub use running::run;
-pub use words::line;

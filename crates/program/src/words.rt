@@ -1,6 +1,7 @@
 //! Judges the program's words.
 
 ghost use Rattle.std.specs.Prelude.{◌≡◌, ◌↔◌, IfOk, IfErr, IsSome, Some, codes};
+ghost use Rattle.std.specs.IoError.{error_kind};
 ghost use Rattle.clap.specs.Words.{first_value, found_of};
 ghost use Rattle.program.specs.CommandLine.{texts_of, word_of_canonical, word_of_rule, word_of_verb};
 ghost use Rattle.program.specs.Entries.{HasEntries, HasWords, IsLineOf};
@@ -10,21 +11,41 @@ ghost use Rattle.program.specs.Line.{IsVerbWithRule};
 use crate::commands::program;
 use crate::{Line, LineFault, Verb};
 use clap::ArgMatches;
-use clap::error::ErrorKind;
-use command_words::fault_of_kind;
+use clap::error::ErrorKind as WordsFault;
+use command_words::{CommandLine, fault_of_kind};
 use convert::{Canonical, Rule};
 use std::alloc::Global;
+use std::io::{self, ErrorKind};
 
-/// The command line that the program's words are, its own name first. `clap` judges them: `--help` and
-/// `--version` are its faults too.
-pub fn line(alloc: Global, words: &[&str]) -> Result<Line, LineFault>
-    ensures value { IfOk result (IsLineOf (texts_of words.now)) }
-    ensures to { IfOk result IsVerbWithRule }
-    ensures refused { IfErr result (IsRefusalOf (texts_of words.now)) }
-{
-    let matches = program(alloc)?.try_get_matches_from(words)?;
-    let (name, matches) = matches.subcommand().unwrap();
-    line_of(alloc, verb_of(name), matches)
+impl CommandLine for Line {
+    ghost use Rattle.std.specs.declared.io.ErrorKind.TheVariants.{OutOfMemory};
+    ghost use Rattle.command_words.specs.declared.line_fault.LineFault.TheVariants.{NoMemory};
+
+    ghost made_of = { λ words made. IfOk made (IsLineOf (texts_of words)) × IfOk made IsVerbWithRule × IfErr made (IsRefusalOf (texts_of words)) };
+
+    ghost missing_by = { λ error fault. (error_kind error ≡ OutOfMemory → fault ≡ NoMemory) × IsNotText fault };
+
+    // `clap` judges the words: `--help` and `--version` are its faults too.
+    fn from_words(alloc: Global, words: &[&str]) -> Result<Line, LineFault>
+        ensures value { IfOk result (IsLineOf (texts_of words.now)) }
+        ensures to { IfOk result IsVerbWithRule }
+        ensures refused { IfErr result (IsRefusalOf (texts_of words.now)) }
+    {
+        let matches = program(alloc)?.try_get_matches_from(words)?;
+        let (name, matches) = matches.subcommand().unwrap();
+        line_of(alloc, verb_of(name), matches)
+    }
+
+    // Out of memory, or a word is not UTF-8.
+    fn no_words(alloc: Global, error: &io::Error) -> LineFault
+        ensures memory { error_kind error.now ≡ ErrorKind.OutOfMemory → result ≡ LineFault.NoMemory }
+        ensures text { IsNotText result }
+    {
+        match error.kind() {
+            ErrorKind::OutOfMemory => LineFault::NoMemory,
+            _ => fault_of_kind(program(alloc), WordsFault::Io, "a word is not UTF-8"),
+        }
+    }
 }
 
 // The command line of a subcommand.
@@ -56,13 +77,6 @@ fn to_of(verb: Verb, matches: &ArgMatches<'_>) -> Option<Canonical>
         Verb::Show | Verb::Check => None,
         Verb::Convert => Some(canonical_of(matches.get_str("to").unwrap())),
     }
-}
-
-/// A word that is not UTF-8.
-pub fn not_text(alloc: Global) -> LineFault
-    ensures { IsNotText result }
-{
-    fault_of_kind(program(alloc), ErrorKind::Io, "a word is not UTF-8")
 }
 
 // What a word asks for that is one of the three subcommands.

@@ -3,7 +3,7 @@
 use std::alloc::{AllocError, Global};
 use std::io;
 use std::io::ErrorKind;
-use trimmer::{Files, LineFault, line, run};
+use trimmer::{CommandLine, Files, Line, LineFault, run};
 
 mod bodies;
 mod devices;
@@ -41,7 +41,7 @@ fn ran(alloc: Global, text: &str, words: &str) -> Result<Outcome, LineFault> {
     for word in words.split(' ') {
         list.push(word)?;
     }
-    let line = line(alloc, list.as_slice())?;
+    let line = Line::from_words(alloc, list.as_slice())?;
     let mut out = Vec::new(alloc);
     let mut err = Vec::new(alloc);
     let mut files = OneFile(text.as_bytes());

@@ -9,8 +9,6 @@ mod running;
 mod words;
 
 pub use command_line::Line;
-pub use command_words::LineFault;
-pub use lines::no_words;
+pub use command_words::{CommandLine, LineFault};
 pub use reading::{Files, read_file};
 pub use running::run;
-pub use words::line;

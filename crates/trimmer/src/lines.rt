@@ -1,19 +1,9 @@
 //! The lines that the program prints.
 
-use crate::LineFault;
-use crate::words::wrong;
 use published::{Fault, Place};
 use std::alloc::{AllocError, Global};
-use std::io::{self, ErrorKind, Write};
+use std::io::Write;
 use trimming::Message;
-
-/// Why the program has no words.
-pub fn no_words(alloc: Global, error: &io::Error) -> LineFault {
-    match error.kind() {
-        ErrorKind::OutOfMemory => LineFault::NoMemory,
-        _ => wrong(alloc, "a word is not UTF-8"),
-    }
-}
 
 /// Prints a line for a message: where, what kind, what.
 pub fn print_message<E: Write>(

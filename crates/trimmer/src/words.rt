@@ -1,32 +1,48 @@
 //! Judges the program's words.
 
+ghost use Rattle.std.specs.Prelude.{⊤};
+
 use crate::command::command;
 use crate::{Line, LineFault};
 use clap::ArgMatches;
-use clap::error::ErrorKind;
-use command_words::fault_of_kind;
+use clap::error::ErrorKind as WordsFault;
+use command_words::{CommandLine, fault_of_kind};
 use std::alloc::Global;
+use std::io::{self, ErrorKind};
 use trimming::{Given, Request, given_of, with_module};
 
 /// The deepest that a type is written out.
 const MAX_UNROLL: u8 = 60;
 
-/// The command line that the program's words are, its own name first. `clap` judges them: `--help` and
-/// `--version` are its faults too.
-pub fn line(alloc: Global, words: &[&str]) -> Result<Line, LineFault> {
-    let matches = command(alloc)?.try_get_matches_from(words)?;
-    let Some(words) = matches.get_strs("WORDS") else {
-        return Err(wrong(alloc, "no files"));
-    };
-    let Some((ty, paths)) = words.split_last() else {
-        return Err(wrong(alloc, "no type"));
-    };
-    let mut files = Vec::new(alloc);
-    for path in paths {
-        files.push(String::from_str(alloc, path)?)?;
+impl CommandLine for Line {
+    ghost made_of = { λ _ _. ⊤ };
+
+    ghost missing_by = { λ _ _. ⊤ };
+
+    // `clap` judges the words: `--help` and `--version` are its faults too.
+    fn from_words(alloc: Global, words: &[&str]) -> Result<Line, LineFault> {
+        let matches = command(alloc)?.try_get_matches_from(words)?;
+        let Some(words) = matches.get_strs("WORDS") else {
+            return Err(wrong(alloc, "no files"));
+        };
+        let Some((ty, paths)) = words.split_last() else {
+            return Err(wrong(alloc, "no type"));
+        };
+        let mut files = Vec::new(alloc);
+        for path in paths {
+            files.push(String::from_str(alloc, path)?)?;
+        }
+        let request = request_of(alloc, &matches, ty)?;
+        Ok(Line { files, request })
     }
-    let request = request_of(alloc, &matches, ty)?;
-    Ok(Line { files, request })
+
+    // Out of memory, or a word is not UTF-8.
+    fn no_words(alloc: Global, error: &io::Error) -> LineFault {
+        match error.kind() {
+            ErrorKind::OutOfMemory => LineFault::NoMemory,
+            _ => wrong(alloc, "a word is not UTF-8"),
+        }
+    }
 }
 
 // What is asked for, the type being named by this word.
@@ -68,7 +84,7 @@ fn unroll_of(alloc: Global, matches: &ArgMatches<'_>) -> Result<usize, LineFault
     }
 }
 
-/// Words that are no command line, for this reason.
-pub fn wrong(alloc: Global, why: &str) -> LineFault {
-    fault_of_kind(command(alloc), ErrorKind::ValueValidation, why)
+// Words that are no command line, for this reason.
+fn wrong(alloc: Global, why: &str) -> LineFault {
+    fault_of_kind(command(alloc), WordsFault::ValueValidation, why)
 }

@@ -30,7 +30,6 @@ mod values;
 mod words;
 
 pub use command_line::{Form, Line, Reading, Task, Wanted};
-pub use command_words::LineFault;
+pub use command_words::{CommandLine, LineFault};
 pub use file_system::FileSystem;
 pub use running::run;
-pub use words::{line, no_words};

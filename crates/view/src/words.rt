@@ -1,27 +1,42 @@
 //! Judges the program's words.
 
-ghost use Rattle.std.specs.Prelude.{◌≡◌};
+ghost use Rattle.std.specs.Prelude.{◌≡◌, ⊤};
 ghost use Rattle.std.specs.IoError.{error_kind};
 
 use crate::commands::program;
 use crate::{Form, Line, LineFault, Reading, Task, Wanted};
 use clap::ArgMatches;
 use clap::error::ErrorKind as WordsFault;
-use command_words::fault_of_kind;
+use command_words::{CommandLine, fault_of_kind};
 use engine::Rule;
 use std::alloc::{AllocError, Global};
-use std::io;
-use std::io::ErrorKind;
+use std::io::{self, ErrorKind};
 
-/// The command line that the program's words are, its own name first. `clap` judges them: `--help` and
-/// `--version` are its faults too.
-pub fn line(alloc: Global, words: &[&str]) -> Result<Line, LineFault> {
-    let matches = program(alloc)?.try_get_matches_from(words)?;
-    let task = match matches.subcommand() {
-        Some((name, matches)) => task_of(alloc, name, matches)?,
-        None => return Err(not_a_line(alloc, "no command")),
-    };
-    Ok(Line { task })
+impl CommandLine for Line {
+    ghost use Rattle.std.specs.declared.io.ErrorKind.TheVariants.{OutOfMemory};
+    ghost use Rattle.command_words.specs.declared.line_fault.LineFault.TheVariants.{NoMemory};
+
+    ghost made_of = { λ _ _. ⊤ };
+
+    ghost missing_by = { λ error fault. error_kind error ≡ OutOfMemory → fault ≡ NoMemory };
+
+    // `clap` judges the words: `--help` and `--version` are its faults too.
+    fn from_words(alloc: Global, words: &[&str]) -> Result<Line, LineFault> {
+        let matches = program(alloc)?.try_get_matches_from(words)?;
+        let task = match matches.subcommand() {
+            Some((name, matches)) => task_of(alloc, name, matches)?,
+            None => return Err(not_a_line(alloc, "no command")),
+        };
+        Ok(Line { task })
+    }
+
+    // Out of memory, or a word is not UTF-8.
+    fn no_words(alloc: Global, error: &io::Error) -> LineFault {
+        match error.kind() {
+            ErrorKind::OutOfMemory => LineFault::NoMemory,
+            _ => not_a_line(alloc, "a word is not UTF-8"),
+        }
+    }
 }
 
 // What a command asks.
@@ -46,16 +61,6 @@ fn task_of(alloc: Global, name: &str, matches: &ArgMatches<'_>) -> Result<Task, 
             least: number(alloc, matches, "octets")?,
             prefix: owned(alloc, matches, "into")?,
         }),
-    }
-}
-
-/// Why the system gives the program no words: out of memory, or one of them is not UTF-8.
-pub fn no_words(alloc: Global, error: &io::Error) -> LineFault
-    ensures { error_kind error.now ≡ ErrorKind.OutOfMemory → result ≡ LineFault.NoMemory }
-{
-    match error.kind() {
-        ErrorKind::OutOfMemory => LineFault::NoMemory,
-        _ => not_a_line(alloc, "a word is not UTF-8"),
     }
 }
 

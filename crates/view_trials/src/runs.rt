@@ -9,7 +9,7 @@ use convert::unhex;
 use serde_json::Value;
 use std::alloc::Global;
 use std::test::Fail;
-use view::{line, run};
+use view::{CommandLine, Line, run};
 
 // A line for each identifier: where the standard puts heads, and what the text of each value is.
 const LINES: &str = "
@@ -146,7 +146,7 @@ fn check_run(alloc: Global, module: &str, row: &str) -> Result<(), Fail> {
     let input = unhex(alloc, input.as_bytes())?;
     let words = format!(in alloc; "asn1x-view,{}", words.trim())?;
     let words: Vec<&str> = words.as_str().split(',').collect(alloc)?;
-    let line = match line(alloc, words.as_slice()) {
+    let line = match Line::from_words(alloc, words.as_slice()) {
         Ok(line) => line,
         Err(_) => return Err(Fail::new(format_args!("no command line at {row}"))),
     };

@@ -1,7 +1,7 @@
 //! Which words are a command line, and what they say.
 
 use convert::{Canonical, Rule};
-use program::{Line, LineFault, Verb, line, no_words};
+use program::{CommandLine, Line, LineFault, Verb};
 use std::alloc::Global;
 use std::io;
 use std::io::ErrorKind;
@@ -10,7 +10,7 @@ use std::test::Fail;
 // The command line of some words with commas between them.
 fn line_of(alloc: Global, words: &str) -> Result<Line, LineFault> {
     let words: Vec<&str> = words.split(',').collect(alloc)?;
-    line(alloc, words.as_slice())
+    Line::from_words(alloc, words.as_slice())
 }
 
 // The exit status of words, or 1 where they are a command line.
@@ -120,7 +120,7 @@ fn words_that_the_system_does_not_give(rt: HostRuntime) {
     // (why not, exit status)
     let cases = [(ErrorKind::OutOfMemory, 4), (ErrorKind::InvalidData, 64)];
     for (kind, want) in cases {
-        let fault = no_words(rt.alloc(), &io::Error::from(kind));
+        let fault = Line::no_words(rt.alloc(), &io::Error::from(kind));
         assert_eq!(rt; fault.status(), want, "at {kind:?}");
     }
 }

@@ -4,7 +4,7 @@ use super::{OneFile, ran};
 use std::io;
 use std::io::{ErrorKind, Write};
 use std::test::Fail;
-use trimmer::{line, run};
+use trimmer::{CommandLine, Line, run};
 
 // A device whose every write fails.
 #[derive(Drop)]
@@ -23,7 +23,7 @@ impl Write for Failing {
 #[test]
 fn a_full_disk(rt: HostRuntime) -> Result<(), Fail> {
     let words = ["asn1x-trim", "m.asn", "T"];
-    let line = line(rt.alloc(), words.as_slice())?;
+    let line = Line::from_words(rt.alloc(), words.as_slice())?;
     let mut files = OneFile(b"M DEFINITIONS ::= BEGIN T ::= NULL END");
     let mut err = Vec::new(rt.alloc());
     let status = run(rt.alloc(), &line, &mut files, &mut Failing, &mut err);
@@ -63,7 +63,7 @@ fn wrong_words(rt: HostRuntime) -> Result<(), Fail> {
         for word in words.split_whitespace() {
             list.push(word)?;
         }
-        let status = match line(rt.alloc(), list.as_slice()) {
+        let status = match Line::from_words(rt.alloc(), list.as_slice()) {
             Ok(_) => 1,
             Err(fault) => fault.status(),
         };
