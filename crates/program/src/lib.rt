@@ -17,3 +17,4 @@ pub use command_words::{CommandLine, LineFault};
 pub use missing_files::{cannot_open, cannot_read_module, cannot_share_input};
 pub use printed_path::PrintedPath;
 pub use running::run;
+pub use words::line;

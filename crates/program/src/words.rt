@@ -17,6 +17,18 @@ use convert::{Canonical, Rule};
 use std::alloc::Global;
 use std::io::{self, ErrorKind};
 
+/// The command line that the program's words are, its own name first. `clap` judges them: `--help` and
+/// `--version` are its faults too.
+pub fn line(alloc: Global, words: &[&str]) -> Result<Line, LineFault>
+    ensures value { IfOk result (IsLineOf (texts_of words.now)) }
+    ensures to { IfOk result IsVerbWithRule }
+    ensures refused { IfErr result (IsRefusalOf (texts_of words.now)) }
+{
+    let matches = program(alloc)?.try_get_matches_from(words)?;
+    let (name, matches) = matches.subcommand().unwrap();
+    line_of(alloc, verb_of(name), matches)
+}
+
 impl CommandLine for Line {
     ghost use Rattle.std.specs.declared.io.ErrorKind.TheVariants.{OutOfMemory};
     ghost use Rattle.command_words.specs.declared.line_fault.LineFault.TheVariants.{NoMemory};
@@ -25,15 +37,8 @@ impl CommandLine for Line {
 
     ghost missing_by = { λ error fault. (error_kind error ≡ OutOfMemory → fault ≡ NoMemory) × IsNotText fault };
 
-    // `clap` judges the words: `--help` and `--version` are its faults too.
-    fn from_words(alloc: Global, words: &[&str]) -> Result<Line, LineFault>
-        ensures value { IfOk result (IsLineOf (texts_of words.now)) }
-        ensures to { IfOk result IsVerbWithRule }
-        ensures refused { IfErr result (IsRefusalOf (texts_of words.now)) }
-    {
-        let matches = program(alloc)?.try_get_matches_from(words)?;
-        let (name, matches) = matches.subcommand().unwrap();
-        line_of(alloc, verb_of(name), matches)
+    fn from_words(alloc: Global, words: &[&str]) -> Result<Line, LineFault> {
+        line(alloc, words)
     }
 
     // Out of memory, or a word is not UTF-8.

@@ -8,7 +8,7 @@ use convert::{
     Canonical, FromReader, FromSlice, Refusal, Rule, Stopped, ToVec, Value, WellTyped, check,
     conforms, convert, list, show, transcode,
 };
-use program::{CommandLine, Line, LineFault, run};
+use program::{Line, LineFault, line, run};
 use std::alloc::Global;
 use std::io;
 use std::io::Read;
@@ -126,7 +126,7 @@ impl Read for Parted<'_> {
 /// The command line of words with commas between them.
 pub fn line_of(alloc: Global, words: &str) -> Result<Line, LineFault> {
     let words: Vec<&str> = words.split(',').collect(alloc)?;
-    Line::from_words(alloc, words.as_slice())
+    line(alloc, words.as_slice())
 }
 
 /// What a command line prints, on the standard output and on the standard error, and its status.

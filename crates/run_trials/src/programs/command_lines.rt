@@ -1,7 +1,7 @@
 //! Which words are a command line, and what they say.
 
 use convert::{Canonical, Rule};
-use program::{CommandLine, Line, LineFault, Verb};
+use program::{CommandLine, Line, LineFault, Verb, line};
 use std::alloc::Global;
 use std::io;
 use std::io::ErrorKind;
@@ -10,7 +10,7 @@ use std::test::Fail;
 // The command line of some words with commas between them.
 fn line_of(alloc: Global, words: &str) -> Result<Line, LineFault> {
     let words: Vec<&str> = words.split(',').collect(alloc)?;
-    Line::from_words(alloc, words.as_slice())
+    line(alloc, words.as_slice())
 }
 
 // The exit status of words, or 1 where they are a command line.

@@ -4,7 +4,7 @@ use Rattle.clap.specs.Words.{app_of, found_of, kind_of, rows_of, subcommand_name
 use Rattle.program.specs.CommandLine.{texts_of}
 use Rattle.program.proofs.ProgramLemmas.{program_free}
 use Rattle.program.proofs.WordLemmas.{line_of, met, met_by, refused_by, some_met, words_of}
-use Rattle.program.proofs.words.LineCommandLine.from_words.Goals as goal
+use Rattle.program.proofs.words.line.Goals as goal
 
 pub returns-in_err-matches-clause-refused : goal.returns-in_err-matches-clause-refused
 returns-in_err-matches-clause-refused c =
