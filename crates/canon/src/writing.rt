@@ -54,7 +54,7 @@ impl Writer {
     }
 
     // Appends the encoding of a value that has parts, of an alternative, or of a value under an explicit tag: items
-    // come here at once.
+    // come here at once, unless they are of a CHOICE.
     #[cycle(writing)]
     #[inline(never)]
     fn put_constructed(self, ty: &Ty, value: &Value, out: &mut Vec<u8>) -> Result<(), NoMemory>
