@@ -13,7 +13,6 @@ use Rattle.types.specs.declared.ty.Alternative as alternative
 use Rattle.types.specs.declared.ty.Field.{Field}
 use Rattle.types.specs.declared.ty.Field as field
 use Rattle.types.specs.declared.value.Value.{Value}
-use Rattle.types.specs.Conforms.{Conforms}
 use Rattle.types.specs.Encoding.{IsEncoding}
 use Rattle.types.specs.Order.{IsOrderTag}
 use Rattle.types.specs.Shape.{Shape, Slots, Val}
@@ -21,7 +20,7 @@ use Rattle.types.specs.View.{ty_view, value_view, alternatives_view, components_
 use Rattle.types.proofs.ViewLemmas.{ty-Sequence, ty-Set, ty-SequenceOf, ty-SetOf, ty-Choice, ty-Explicit}
 use Rattle.canon.specs.declared.spans.Keyed.{Keyed}
 use Rattle.canon.specs.Keyed.{with_key}
-use Rattle.canon.specs.Node.{HasGoodNodes, ArePartsOf, AreItems, AreItemsInOrder, AreComponents, AreComponentsByTag}
+use Rattle.canon.specs.Node.{ArePartsOf, AreItems, AreItemsInOrder, AreComponents, AreComponentsByTag}
 use Rattle.canon.specs.Part.{AreLaid, IsPut, Keeps}
 use Rattle.canon.specs.Rule.{rule_of}
 use Rattle.canon.specs.Span.{part_of}
