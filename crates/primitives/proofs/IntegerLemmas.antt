@@ -342,3 +342,12 @@ IsInteger-from_spelling negative above rest start spelt h small =
     let next : start ≡ at + 1 = omega (arith, h.some) in
     let more : drop at (set spelt at d) ≡ d ∷ drop start spelt = drop-set spelt at d (omega (arith, h.size, h.within, h.some)) ∙ ap (λ k. d ∷ drop k spelt) (sym next) in
     subst (IsInteger (number_at negative above)) (sym more) (h.joined (d ∷ []) (IsInteger-last negative rest small))
+
+-- the number of four octets
+pub four_octets : (cs : List ℕ) → length cs ≡ 4 → integer_of cs ≡ pos (get_or cs 0 0 % 128 * 16777216 + ((get_or cs 1 0 * 256 + get_or cs 2 0) * 256 + get_or cs 3 0)) -ℤ pos (get_or cs 0 0 / 128 * (128 * 16777216))
+four_octets (a ∷ b ∷ c ∷ d ∷ []) four = omega (arith, ints)
+four_octets [] four = cc
+four_octets (a ∷ []) four = cc
+four_octets (a ∷ b ∷ []) four = cc
+four_octets (a ∷ b ∷ c ∷ []) four = cc
+four_octets (a ∷ b ∷ c ∷ d ∷ e ∷ es) four = cc

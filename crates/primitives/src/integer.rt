@@ -1,10 +1,10 @@
 //! Contents octets of an INTEGER and of an ENUMERATED number (X.690 8.3 and 8.4).
 
-ghost use Rattle.std.specs.Prelude.{◌≡◌, ◌+◌, ◌*◌, ◌^◌, ◌<◌, ◌≤◌, ◌↔◌, ℤ, length, drop, FitsSigned, IsTrue, IfSome, IfNone, OnOk, OnErr};
+ghost use Rattle.std.specs.Prelude.{◌≡◌, ◌+◌, ◌*◌, ◌^◌, ◌<◌, ◌≤◌, ◌↔◌, ◌/◌, ◌%◌, ◌-ℤ◌, ℤ, pos, length, drop, FitsSigned, IsTrue, IfSome, IfNone, OnOk, OnErr};
 ghost use Rattle.std.specs.Int.{w128};
 ghost use Rattle.octets.specs.Digits.{number_of};
 ghost use Rattle.octets.specs.Front.{Appends};
-ghost use Rattle.primitives.specs.Integer.{IsInteger, IsWideInteger, NineBitsDiffer, number_at, last_octet_at};
+ghost use Rattle.primitives.specs.Integer.{integer_of, IsInteger, IsWideInteger, NineBitsDiffer, number_at, last_octet_at};
 
 use crate::MAX_INTEGER_OCTETS;
 use octets::NoMemory;
@@ -21,10 +21,13 @@ pub fn read_integer(contents: &[u8]) -> Option<i128>
     if contents.len() > 16 || !is_shortest(contents) {
         return None;
     }
+    if let Some(number) = few_octets(contents) {
+        return Some(i128::from(number));
+    }
     if first < 0x80 {
-        Some(number_above(contents) as i128)
+        Some(long_number_above(contents) as i128)
     } else {
-        Some(-1 - number_below(contents) as i128)
+        Some(-1 - long_number_below(contents) as i128)
     }
 }
 
@@ -50,18 +53,6 @@ fn is_shortest(contents: &[u8]) -> bool
     }
 }
 
-// The number that the octets spell without a sign.
-#[inline(always)]
-fn number_above(contents: &[u8]) -> u128
-    requires { length contents.now ≤ 16 }
-    ensures { result ≡ number_of 256 contents.now }
-{
-    match few_octets(contents) {
-        Some((number, _)) => u128::from(number),
-        None => long_number_above(contents),
-    }
-}
-
 // The number that up to sixteen octets spell without a sign.
 #[inline(never)]
 fn long_number_above(contents: &[u8]) -> u128
@@ -73,18 +64,6 @@ fn long_number_above(contents: &[u8]) -> u128
         number = number * 256 + u128::from(*octet);
     }
     number
-}
-
-// How far below -1 the octets stand, by the bits that are not set.
-#[inline(always)]
-fn number_below(contents: &[u8]) -> u128
-    requires { length contents.now ≤ 16 }
-    ensures { result + number_of 256 contents.now + 1 ≡ 256 ^ length contents.now }
-{
-    match few_octets(contents) {
-        Some((number, most)) => u128::from(most - number),
-        None => long_number_below(contents),
-    }
 }
 
 // How far below -1 up to sixteen octets stand.
@@ -100,27 +79,36 @@ fn long_number_below(contents: &[u8]) -> u128
     number
 }
 
-// The number that one to four octets spell without a sign, and the greatest that as many spell: most numbers have no
-// more.
+// The number of one to four contents octets: most have no more. No branch tells its sign, since nobody guesses which
+// comes next.
 #[inline(always)]
-fn few_octets(contents: &[u8]) -> Option<(u32, u32)>
-    ensures number { IfSome result (λ few. few.0 ≡ number_of 256 contents.now) }
-    ensures most { IfSome result (λ few. (few.0 ≤ few.1) × (few.1 + 1 ≡ 256 ^ length contents.now)) }
+fn few_octets(contents: &[u8]) -> Option<i64>
+    ensures { IfSome result (λ number. integer_of contents.now ≡ number) }
 {
     match contents {
-        [a] => Some((u32::from(*a), 0xFF)),
-        [a, b] => Some((u32::from(*a) * 256 + u32::from(*b), 0xFFFF)),
+        [a] => Some(signed(*a, 1, 0)),
+        [a, b] => Some(signed(*a, 0x100, u32::from(*b))),
         [a, b, c] => {
-            let front = u32::from(*a) * 256 + u32::from(*b);
-            Some((front * 256 + u32::from(*c), 0xFF_FFFF))
+            let others = u32::from(*b) * 256 + u32::from(*c);
+            Some(signed(*a, 0x1_0000, others))
         }
         [a, b, c, d] => {
-            let front = u32::from(*a) * 256 + u32::from(*b);
-            let back = u32::from(*c) * 256 + u32::from(*d);
-            Some((front * 0x1_0000 + back, 0xFFFF_FFFF))
+            let others = (u32::from(*b) * 256 + u32::from(*c)) * 256 + u32::from(*d);
+            Some(signed(*a, 0x100_0000, others))
         }
         _ => None,
     }
+}
+
+// The number of a first octet at this place, and of others that spell a number without a sign: the place values of the
+// bits that are set, less that of bit 8 of the first where it is (X.690 8.3.3).
+#[inline(always)]
+fn signed(first: u8, place: u32, others: u32) -> i64
+    ensures { result ≡ pos (first % 128 * place + others) -ℤ pos (first / 128 * (128 * place)) }
+{
+    let counted = u64::from(first % 128) * u64::from(place) + u64::from(others);
+    let less = u64::from(first / 128) * (128 * u64::from(place));
+    counted as i64 - less as i64
 }
 
 /// Appends the contents octets of `number`.

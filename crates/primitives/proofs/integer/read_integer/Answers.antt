@@ -27,7 +27,7 @@ overflow_cast-result c =
     let octets : All (λ d. d < 256) cs = All-from_get_or {X = ℕ} (λ d. d < 256) cs 0 (λ i below. omega (arith, c.type_inv.contents i)) in
     let half : 2 * number_of 256 cs < 256 ^ length cs = subst (λ x. 2 * number_of 256 x < 256 ^ length x) (sym whole) (half_below first rest (subst (All (λ d. d < 256)) whole octets) c.if-first-lt128.true) in
     let most = sixteen (length cs) c.if-contents-gt16.false in
-    omega (arith, ints, half, most, c.number_above.ensures)
+    omega (arith, ints, half, most, c.long_number_above.ensures)
 
 pub overflow_cast-result-else-first-lt128 : goal.overflow_cast-result-else-first-lt128
 overflow_cast-result-else-first-lt128 c =
@@ -37,23 +37,23 @@ overflow_cast-result-else-first-lt128 c =
     let whole : cs ≡ first ∷ rest = c.in-Some.ensures.cases.0 in
     let half : 256 ^ length cs ≤ 2 * number_of 256 cs = subst (λ x. 256 ^ length x ≤ 2 * number_of 256 x) (sym whole) (half_above first rest c.if-first-lt128.false) in
     let most = sixteen (length cs) c.if-contents-gt16.false in
-    omega (arith, ints, half, most, c.number_below.ensures)
+    omega (arith, ints, half, most, c.long_number_below.ensures)
 
 pub returns-then-first-lt128-clause-value : goal.returns-then-first-lt128-clause-value
 returns-then-first-lt128-clause-value c =
     let cs = c.args.contents.now in
     let first = c.in-Some.field-0-0.now in
     let rest = c.in-Some.field-0-1.now in
-    let n = c.number_above.result in
+    let n = c.long_number_above.result in
     let whole : cs ≡ first ∷ rest = c.in-Some.ensures.cases.0 in
     let octets : All (λ d. d < 256) cs = All-from_get_or {X = ℕ} (λ d. d < 256) cs 0 (λ i below. omega (arith, c.type_inv.contents i)) in
     let half : 2 * number_of 256 cs < 256 ^ length cs = subst (λ x. 2 * number_of 256 x < 256 ^ length x) (sym whole) (half_below first rest (subst (All (λ d. d < 256)) whole octets) c.if-first-lt128.true) in
     let most = sixteen (length cs) c.if-contents-gt16.false in
-    let same : to_z w128 n ≡ pos n = omega (arith, ints, half, most, c.number_above.ensures) in
+    let same : to_z w128 n ≡ pos n = omega (arith, ints, half, most, c.long_number_above.ensures) in
     let shortest : NineBitsDiffer cs = c.is_shortest.ensures.0 c.if-not-is_shortest.false in
     let h : IsInteger (pos n) cs = IsInteger-from false n cs (omega (arith, c.in-Some.ensures.cases.1)) octets shortest record {
-      value = sym c.number_above.ensures;
-      half = omega (arith, half, c.number_above.ensures);
+      value = sym c.long_number_above.ensures;
+      half = omega (arith, half, c.long_number_above.ensures);
     } in
     subst (λ z. IsInteger z cs) (sym same) h
 
@@ -62,15 +62,15 @@ returns-else-first-lt128-clause-value c =
     let cs = c.args.contents.now in
     let first = c.in-Some.field-0-0.now in
     let rest = c.in-Some.field-0-1.now in
-    let n = c.number_below.result in
+    let n = c.long_number_below.result in
     let whole : cs ≡ first ∷ rest = c.in-Some.ensures.cases.0 in
     let octets : All (λ d. d < 256) cs = All-from_get_or {X = ℕ} (λ d. d < 256) cs 0 (λ i below. omega (arith, c.type_inv.contents i)) in
     let half : 256 ^ length cs ≤ 2 * number_of 256 cs = subst (λ x. 256 ^ length x ≤ 2 * number_of 256 x) (sym whole) (half_above first rest c.if-first-lt128.false) in
     let most = sixteen (length cs) c.if-contents-gt16.false in
-    let same : to_z w128 (of_z w128 (negsuc 0 -ℤ to_z w128 n)) ≡ negsuc n = omega (arith, ints, half, most, c.number_below.ensures) in
+    let same : to_z w128 (of_z w128 (negsuc 0 -ℤ to_z w128 n)) ≡ negsuc n = omega (arith, ints, half, most, c.long_number_below.ensures) in
     let shortest : NineBitsDiffer cs = c.is_shortest.ensures.0 c.if-not-is_shortest.false in
     let h : IsInteger (negsuc n) cs = IsInteger-from true n cs (omega (arith, c.in-Some.ensures.cases.1)) octets shortest record {
-      value = omega (arith, c.number_below.ensures);
-      half = omega (arith, half, c.number_below.ensures);
+      value = omega (arith, c.long_number_below.ensures);
+      half = omega (arith, half, c.long_number_below.ensures);
     } in
     subst (λ z. IsInteger z cs) (sym same) h
