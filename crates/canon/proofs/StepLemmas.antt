@@ -1,6 +1,7 @@
 -- Lemmas on one item or component in front of the later ones.
 use Rattle.std.specs.List.{AllByRecursion}
-use Rattle.std.proofs.Common.{◌≡◌, ◌+◌, ◌<◌, ℕ, zero, suc, List, [], ◌∷◌, Option, Some, None, length, drop, get_or, map, min, refl, sym, ap, ◌∙◌, subst, arith}
+use Rattle.std.proofs.Common.{[], ◌++◌, ◌≡◌, ◌+◌, ◌<◌, ℕ, zero, suc, List, ◌∷◌, Option, Some, None, length, drop, get_or, map, min, refl, sym, ap, ◌∙◌, subst, arith}
+use Rattle.octets.specs.declared.tag.Tag.{Tag}
 use Rattle.octets.specs.Rule.{Rule, IsCanonical}
 use Rattle.types.specs.declared.ty.Field.{Field}
 use Rattle.types.specs.declared.value.Value.{Value}
@@ -9,6 +10,7 @@ use Rattle.types.specs.View.{value_view, ty_view, field_view, ComponentView, com
 use Rattle.types.specs.WellFormed.{nodes_of, nodes_of_components}
 use Rattle.types.specs.Conforms.{Conforms, SlotsConform, MayBeAbsent, DiffersFromDefault}
 use Rattle.types.specs.Encoding.{Meaning, IsEncoding}
+use Rattle.types.specs.FirstTags.{first_tags, tags_of_components}
 use Rattle.types.proofs.ListLemmas.{all_append}
 use Rattle.types.proofs.ViewLemmas.{field_is}
 use Rattle.canon.specs.Size.{HasSize}
@@ -52,6 +54,11 @@ as_many_slots (f ∷ fields) (Some v ∷ slots) h = omega (arith, as_many_slots 
 
 pub type_of_field : (f : Field) → (field_view f).type ≡ ty_view f.ty
 type_of_field f = ap (λ (w : ComponentView). w.type) (field_is f)
+
+-- the tags of components of which the first has this one
+pub tags_with : (f : Field) (fields : List Field) (tag : Tag) → first_tags (ty_view f.ty) ≡ tag ∷ [] → tags_of_components (components_view (f ∷ fields)) ≡ tag ∷ tags_of_components (components_view fields)
+tags_with f fields tag h = ap (λ ts. ts ++ tags_of_components (components_view fields)) (ap first_tags (type_of_field f) ∙ h)
+
 
 -- a component whose slot has a value
 pub record IsPresent (f : Field) (v : Val) : Type 0 where

@@ -1,10 +1,10 @@
 -- Lemmas on the tags by which the components of a SET are ordered.
-use Rattle.std.proofs.Common.{◌≡◌, ◌≢◌, ◌⊎◌, inl, inr, ℕ, Bool, true, false, Decides, List, [], ◌∷◌, ◌++◌, Option, Some, None, length, get_or, map, refl, sym, ap, ◌∙◌, subst, arith, All, AllPairs, Contains, IsPermutation}
+use Rattle.std.proofs.Common.{suc, ◌≡◌, ◌≢◌, ◌⊎◌, inl, inr, ℕ, Bool, true, false, Decides, List, [], ◌∷◌, ◌++◌, Option, Some, None, length, get_or, map, refl, sym, ap, ◌∙◌, subst, arith, All, AllPairs, Contains, IsPermutation}
 use Rattle.std.proofs.lemmas.List.Elements.{All-nil, All-cons}
 use Rattle.std.proofs.lemmas.List.Kept.{AllPairs-cons}
-use Rattle.std.proofs.lemmas.List.Sorted.{All-permutation, IsPermutation-map}
+use Rattle.std.proofs.lemmas.List.Sorted.{All-permutation, IsPermutation-map, IsPermutation-refl}
 use Rattle.std.specs.List.{concat}
-use Rattle.std.specs.Ordering.{MatchOrdering}
+use Rattle.std.specs.Ordering.{MatchOrdering, is_lt}
 use Rattle.std.specs.declared.cmp.Ordering.{Ordering}
 use Rattle.std.specs.declared.cmp.Ordering.TheVariants.{Less, Equal, Greater}
 use Rattle.std.proofs.lemmas.Bool.Decides.{same_from_decides}
@@ -19,9 +19,10 @@ use Rattle.types.specs.Order.{BeginsWithOneOf, IsLeast, IsOrderTag, IsOrderTagIn
 use Rattle.types.specs.Encoding.{IsEncoding, AreSlotEncodings, standing}
 use Rattle.types.proofs.BeginningLemmas.{begins_once, encoding_begins}
 use Rattle.types.proofs.DepthLemmas.{absent_is_none}
-use Rattle.types.proofs.ListLemmas.{AllPairs-nil, contains_left, contains_right, distinct_apart, distinct_right}
+use Rattle.types.proofs.ListLemmas.{AllPairs-nil, contains_cases, contains_left, contains_right, distinct_apart, distinct_right, not_in_nil}
 use Rattle.types.proofs.OrderLemmas.{ComesBefore-total, ComesBefore-trans, ComesBefore-irrefl, least_tag}
 use Rattle.types.proofs.SlotLemmas.{begin_apart}
+use Rattle.types.proofs.SortedLemmas.{AllPairs-first, AllPairs-rest}
 use Rattle.canon.specs.Node.{AreComponents, AreComponentsByTag}
 use Rattle.canon.specs.Size.{HasSize}
 use Rattle.canon.proofs.NodeSizeLemmas.{length_permuted}
@@ -181,10 +182,26 @@ rises_chain p q r h g back = elim (ComesBefore-total p.tag q.tag) [
   | inr other ↦ elim other [ inl same ↦ g (subst (ComesBefore r.tag) same back) | inr after ↦ h after ]
 ]
 
--- the encodings that stand have order tags
+before_across : (xs ys : List Tag) (x y : Tag) → AllPairs ComesBefore (xs ++ ys) → Contains xs x → Contains ys y → ComesBefore x y
+before_across [] ys x y h l r = absurd (not_in_nil x l)
+before_across (a ∷ xs) ys x y h l r =
+    elim (contains_cases a x xs l) [
+      | inl same ↦ subst (λ t. ComesBefore t y) same (AllPairs-first ComesBefore a y (xs ++ ys) h (contains_right xs ys y r))
+      | inr later ↦ before_across xs ys x y (AllPairs-rest ComesBefore a (xs ++ ys) h) later r
+    ]
+
+rise_right : (xs ys : List Tag) → AllPairs ComesBefore (xs ++ ys) → AllPairs ComesBefore ys
+rise_right [] ys h = h
+rise_right (x ∷ xs) ys h = rise_right xs ys (AllPairs-rest ComesBefore x (xs ++ ys) h)
+
+-- no part has a tag that comes before that of an earlier one
+abbrev pub DoNotFall : List TaggedOctets → Type 0
+DoNotFall parts = AllPairs (λ (p q : TaggedOctets). ComesBefore q.tag p.tag → ⊥) parts
+
+-- the encodings that stand have order tags, which do not fall where the components are declared in their order
 pub tagged_there : (rule : Rule) (components : Components) (slots : Slots) (encodings : List (Option (List ℕ))) → IsCanonical rule → AreDistinct (tags_of_components components) → AreSlotEncodings rule components slots encodings
-    → (parts : List TaggedOctets) × AreTagged rule components parts × (map (λ p. p.octets) parts ≡ standing encodings)
-tagged_there rule no_component no_slot [] canonical distinct h = ([], no_tagged rule no_component, refl)
+    → (parts : List TaggedOctets) × AreTagged rule components parts × (map (λ p. p.octets) parts ≡ standing encodings) × (AllPairs ComesBefore (tags_of_components components) → DoNotFall parts)
+tagged_there rule no_component no_slot [] canonical distinct h = ([], no_tagged rule no_component, refl, λ rise. AllPairs-nil (λ (p q : TaggedOctets). ComesBefore q.tag p.tag → ⊥))
 tagged_there rule no_component no_slot (e ∷ es) canonical distinct h = elim h [ ]
 tagged_there rule no_component (absent slots) encodings canonical distinct h = elim h [ ]
 tagged_there rule no_component (present v slots) encodings canonical distinct h = elim h [ ]
@@ -193,13 +210,44 @@ tagged_there rule (component name type requirement others) (absent slots) [] can
 tagged_there rule (component name type requirement others) (absent slots) (e ∷ es) canonical distinct h =
     let none : e ≡ None = absent_is_none rule requirement (IsEncoding rule type) e canonical h.0 in
     let rest = tagged_there rule others slots es canonical (distinct_right (first_tags type) (tags_of_components others) distinct) h.1 in
-    (rest.0, later_tagged rule name type requirement others rest.0 distinct rest.1, rest.2 ∙ sym (ap (λ x. standing (x ∷ es)) none))
+    (rest.0, later_tagged rule name type requirement others rest.0 distinct rest.1, rest.2 ∙ sym (ap (λ x. standing (x ∷ es)) none), λ rise. rest.3 (rise_right (first_tags type) (tags_of_components others) rise))
 tagged_there rule (component name type requirement others) (present v slots) [] canonical distinct h = elim h [ ]
 tagged_there rule (component name type requirement others) (present v slots) (None ∷ es) canonical distinct h = elim h [ ]
 tagged_there rule (component name type requirement others) (present v slots) (Some octets ∷ es) canonical distinct h =
     let rest = tagged_there rule others slots es canonical (distinct_right (first_tags type) (tags_of_components others) distinct) h.2 in
     let order = order_tag_there rule type v octets canonical h.0 in
-    (record { tag = order.0; octets = octets } ∷ rest.0, more_tagged rule name type requirement others v order.0 octets rest.0 canonical distinct h.0 order.1 rest.1, ap (λ x. octets ∷ x) rest.2)
+    let p : TaggedOctets = record { tag = order.0; octets = octets } in
+    let among = order_tag_among rule type v octets order.0 canonical h.0 order.1 in (
+      p ∷ rest.0,
+      more_tagged rule name type requirement others v order.0 octets rest.0 canonical distinct h.0 order.1 rest.1,
+      ap (λ x. octets ∷ x) rest.2,
+      λ rise. AllPairs-cons (λ (q r : TaggedOctets). ComesBefore r.tag q.tag → ⊥) p rest.0
+          (λ k d l back.
+          let later = before_across (first_tags type) (tags_of_components others) order.0 (get_or rest.0 k d).tag rise among (rest.1.among k d l) in
+          ComesBefore-irrefl order.0 (ComesBefore-trans order.0 (get_or rest.0 k d).tag order.0 later back))
+          (rest.3 (rise_right (first_tags type) (tags_of_components others) rise)),
+    )
+
+-- components that are declared in the order of their tags, in that order
+pub in_declared_order : (rule : Rule) (components : Components) (slots : Slots) (octets : List ℕ) → IsCanonical rule → AreDistinct (tags_of_components components) → AllPairs ComesBefore (tags_of_components components) → AreComponents rule components slots octets
+    → AreComponentsByTag rule components slots octets
+in_declared_order rule components slots octets canonical distinct rise h =
+    let parts = tagged_there rule components slots h.encodings canonical distinct h.each in
+    record {
+      encodings = h.encodings;
+      each = h.each;
+      order = standing h.encodings;
+      permutes = IsPermutation-refl (standing h.encodings);
+      ascends = subst (AscendsByTag rule components) parts.2 (in_tag_order rule components parts.0 parts.0 parts.1 (IsPermutation-refl parts.0) (parts.3 rise));
+      joined = h.joined;
+    }
+
+-- a tag before such tags
+pub rise_before : (before tag : Tag) (tags : List Tag) → ComesBefore before tag → AllPairs ComesBefore (tag ∷ tags) → AllPairs ComesBefore (before ∷ tag ∷ tags)
+rise_before before tag tags first h =
+    AllPairs-cons ComesBefore before (tag ∷ tags)
+    (All-cons (ComesBefore before) tag tags first (λ k d l. ComesBefore-trans before tag (get_or tags k d) first (h 0 (suc k) d (omega arith) (omega (arith, l)))))
+    h
 
 -- in the order of tags they are as many octets
 pub by_tag_size : (rule : Rule) (components : Components) (slots : Slots) (n : ℕ) → IsCanonical rule → AreDistinct (tags_of_components components) → HasSize (AreComponents rule components slots) n → HasSize (AreComponentsByTag rule components slots) n
@@ -221,3 +269,8 @@ by_tag_size rule components slots n canonical distinct h = record {
         },
       );
 }
+-- what `order` says of two tags where it is the first that comes before
+pub less_before : (a b : Tag) (o : Ordering) → MatchOrdering o (ComesBefore a b) (a ≡ b) (ComesBefore b a) → is_lt o ≡ true → ComesBefore a b
+less_before a b Less h is = h
+less_before a b Equal h is = cc
+less_before a b Greater h is = cc

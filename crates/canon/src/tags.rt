@@ -1,18 +1,21 @@
 //! The tags by which the components of a SET are ordered (X.690 9.3 and 10.3).
 
-ghost use Rattle.std.specs.Prelude.{◌≤◌};
+ghost use Rattle.std.specs.Prelude.{◌≤◌, ◌∷◌, IsTrue};
+ghost use Rattle.std.specs.List.{AllPairs};
 ghost use Rattle.octets.specs.declared.TheConstants.{MAX_TAG_NUMBER};
 ghost use Rattle.octets.specs.declared.tag.Tag.{Tag as TagOf};
+ghost use Rattle.octets.specs.Tag.{ComesBefore};
+ghost use Rattle.types.specs.FirstTags.{tags_of_components};
 ghost use Rattle.types.specs.Shape.{Val};
 ghost use Rattle.types.specs.Encoding.{IsEncoding};
 ghost use Rattle.types.specs.Order.{BeginsWith, IsOrderTag};
-ghost use Rattle.types.specs.View.{ty_view};
+ghost use Rattle.types.specs.View.{components_view, ty_view};
 ghost use Rattle.canon.specs.Node.{HasGoodNodes};
 ghost use Rattle.canon.specs.Rule.{rule_of};
 
 use crate::rule::CanonicalRule;
 use octets::{Head, Tag, read_identifier};
-use types::{Ty, least_tag};
+use types::{Field, Ty, least_tag};
 
 // The tag by which an encoding of the type is ordered. Takes no memory.
 pub(crate) fn order_tag(rule: CanonicalRule, ty: &Ty, encoding: &[u8]) -> Tag
@@ -26,6 +29,32 @@ pub(crate) fn order_tag(rule: CanonicalRule, ty: &Ty, encoding: &[u8]) -> Tag
     match rule {
         CanonicalRule::Cer => least_tag(ty),
         CanonicalRule::Der => tag_at_front(encoding),
+    }
+}
+
+// Whether each component has a tag of its own, and they are declared in the order of these. Takes no memory.
+pub(crate) fn are_declared_by_tag(fields: &[Field]) -> bool
+    ensures { IsTrue result → AllPairs ComesBefore (tags_of_components (components_view fields.now)) }
+{
+    let Some((first, others)) = fields.split_first() else {
+        return true;
+    };
+    match first.ty.tag() {
+        Some(tag) => rise_from(tag, others),
+        None => false,
+    }
+}
+
+// Whether that is so of these components, and their tags come behind this one.
+fn rise_from(before: Tag, fields: &[Field]) -> bool
+    ensures { IsTrue result → AllPairs ComesBefore (before ∷ tags_of_components (components_view fields.now)) }
+{
+    let Some((first, others)) = fields.split_first() else {
+        return true;
+    };
+    match first.ty.tag() {
+        Some(tag) => before.order(tag).is_lt() && rise_from(tag, others),
+        None => false,
     }
 }
 

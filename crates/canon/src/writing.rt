@@ -17,7 +17,7 @@ use crate::leaf::put_leaf;
 use crate::leaves::put_leaves;
 use crate::parts::{chosen_in, items_in, slots_in};
 use crate::spans::{Keyed, Span, arrange, arrange_by_tag, part, with_key_of};
-use crate::tags::order_tag;
+use crate::tags::{are_declared_by_tag, order_tag};
 use crate::writer::Writer;
 use octets::NoMemory;
 use types::{Alternative, Field, Ty, Value};
@@ -102,8 +102,13 @@ impl Writer {
             result out.old.items out.new.items }
     {
         match ty {
-            Ty::Sequence(_, fields) => self.put_components(fields, slots_in(value), out),
-            Ty::Set(_, fields) => self.put_by_tag(fields, slots_in(value), out),
+            Ty::Sequence(_, fields) | Ty::Set(_, fields) => {
+                let slots = slots_in(value);
+                if matches!(ty, Ty::Set(..)) && !are_declared_by_tag(fields) {
+                    return self.put_by_tag(fields, slots, out);
+                }
+                self.put_components(fields, slots, out)
+            }
             Ty::SequenceOf(_, inner) => self.put_items(inner, items_in(value), out),
             Ty::SetOf(_, inner) => self.put_in_order(inner, items_in(value), out),
             _ => Ok(()),
@@ -193,6 +198,7 @@ impl Writer {
 
     // Appends the encodings of components in ascending order of their tags.
     #[cycle(writing)]
+    #[inline(never)]
     fn put_by_tag(
         self,
         fields: &[Field],

@@ -1,4 +1,4 @@
-use Rattle.std.proofs.Common.{true, ◌≡◌, ◌∙◌, ◌+◌, ◌-◌, ◌<◌, ℕ, suc, List, [], ◌∷◌, ◌++◌, Option, Some, None, Vec, Global, length, take, get_or, map, inl, inr, refl, sym, ap, subst, subst₂, arith, rules}
+use Rattle.std.proofs.Common.{AllPairs, true, ◌≡◌, ◌∙◌, ◌+◌, ◌-◌, ◌<◌, ℕ, suc, List, [], ◌∷◌, ◌++◌, Option, Some, None, Vec, Global, length, take, get_or, map, inl, inr, refl, sym, ap, subst, subst₂, arith, rules}
 use Rattle.std.proofs.lemmas.List.{length-map, take_all}
 use Rattle.std.specs.declared.result.Result.{Result}
 use Rattle.octets.specs.declared.no_memory.NoMemory.{NoMemory}
@@ -16,7 +16,7 @@ use Rattle.types.specs.declared.value.Value.{Value}
 use Rattle.types.specs.Encoding.{IsEncoding}
 use Rattle.types.specs.Order.{IsOrderTag}
 use Rattle.types.specs.Shape.{Shape, Slots, Val}
-use Rattle.types.specs.View.{ty_view, value_view, alternatives_view, components_view}
+use Rattle.types.specs.View.{slots_view, ty_view, value_view, alternatives_view, components_view}
 use Rattle.types.proofs.ViewLemmas.{ty-Sequence, ty-Set, ty-SequenceOf, ty-SetOf, ty-Choice, ty-Explicit}
 use Rattle.canon.specs.declared.spans.Keyed.{Keyed}
 use Rattle.canon.specs.Keyed.{with_key}
@@ -36,12 +36,17 @@ use Rattle.canon.proofs.PutLemmas.{laid_more, laid_cut, laid_keys, order_made}
 use Rattle.canon.proofs.SimpleLemmas.{rule_is_canonical}
 use Rattle.canon.proofs.StepLemmas.{as_many_slots, present_at}
 use Rattle.canon.proofs.ForwardLemmas.{chosen_in_choice}
+use Rattle.octets.specs.Tag.{ComesBefore}
+use Rattle.types.specs.FirstTags.{tags_of_components}
+use Rattle.canon.specs.Node.{HasGoodNodes}
+use Rattle.canon.proofs.TagOrderLemmas.{in_declared_order}
 use Rattle.canon.proofs.TagPutLemmas.{LaidTo, none_laid_by_tag, present_laid, absent_laid, all_laid, tagged_cut, by_tag_made, distinct_drop}
 use Rattle.canon.proofs.TurnedLemmas.{none_turned, turned_more}
 use Rattle.canon.proofs.TyLemmas.{framed_view, leaf_of}
 use Rattle.canon.proofs.WritableLemmas.{stands_at, item_writable, part_writable}
 use Rattle.canon.proofs.WritesLemmas.{few_in_order, written_by, refused, written_around, put_as}
 use Rattle.canon.proofs.+writing.Goals as goal
+use Rattle.canon.proofs.+writing.Goals.{writer::Writer::put_parts-in-Set, writer::Writer::put_parts-in_default-matches, writer::Writer::put_parts-else-matches-via-then-matches+else-not-are_declared_by_tag, writer::Writer::put_parts-else-matches-via-else-matches}
 
 -- the encoding of a value under an explicit tag
 written_as_explicit : {shape : Shape} {v : Val} {r : Result (Unit {0}) NoMemory} {old new : List ℕ} {type inner : Ty} (rule : Rule) (tag : Tag) → type ≡ inner → shape ≡ Shape.explicit tag (ty_view inner) → Writes (IsEncoding rule (Shape.explicit tag (ty_view type)) v) r old new → Writes (IsEncoding rule shape v) r old new
@@ -118,23 +123,48 @@ writer::Writer::put_constructed-returns-in_err-put_parts-in-Sequence t c =
     refused _ c.from_residual-in_err-put_parts-in-Sequence.ensures.1
     (keeps_chain old one c.put_parts.new.out.items (opened_kept c.in-Sequence.tag true old one c.in_ok-place-in-Sequence.place c.in_ok-place-in-Sequence.ensures.opened) c.in_err-put_parts-in-Sequence.ensures.kept)
 
-pub writer::Writer::put_parts-returns-in-Sequence : goal.writer::Writer::put_parts-returns-in-Sequence
-writer::Writer::put_parts-returns-in-Sequence t c =
+pub writer::Writer::put_parts-returns-then-not-are_declared_by_tag : goal.writer::Writer::put_parts-returns-then-not-are_declared_by_tag
+writer::Writer::put_parts-returns-then-not-are_declared_by_tag t c =
     let rule = rule_of c.args.self.rule in
-    let tag = c.in-Sequence.field-0 in
-    let components = components_view c.in-Sequence.fields.items in
-    let is : ty_view c.args.ty.now ≡ Shape.sequence tag components = ap ty_view c.in-Sequence.is ∙ ty-Sequence tag c.in-Sequence.fields in
-    let parts = has_slots tag components (ty_view c.args.ty.now) (value_view c.args.value.now) (inl is) c.requires.conforms c.requires.nodes in
-    put_as rule is parts.is (subst₂ (λ (fs : List Field) (s : Slots). Writes (AreComponents rule (components_view fs) s) c.put_components.result c.args.out.now.items c.put_components.new.out.items) c.deref.ensures.value (sym (c.slots_in.ensures parts.slots parts.is)) c.put_components.ensures)
+    let fields = c.in-Sequence.fields in
+    let components = components_view fields.items in
+    elim c.match-matches.branch [
+      | writer::Writer::put_parts-in-Set w ↦
+          elim c.in-Sequence.is [
+            | inl sequence ↦ let same = sym sequence.1 ∙ w.in-Set.is in cc
+            | inr set ↦
+                let is : ty_view c.args.ty.now ≡ Shape.set set.0 components = ap ty_view set.1 ∙ ty-Set set.0 fields in
+                let parts = has_slots set.0 components (ty_view c.args.ty.now) (value_view c.args.value.now) (inr is) c.requires.conforms c.requires.nodes in
+                put_as rule is parts.is (subst₂ (λ (fs : List Field) (s : Slots). Writes (AreComponentsByTag rule (components_view fs) s) c.put_by_tag.result c.args.out.now.items c.put_by_tag.new.out.items) c.deref-then-not-are_declared_by_tag.ensures.value (sym (c.slots_in-slots.ensures parts.slots parts.is)) c.put_by_tag.ensures)
+          ]
+      | writer::Writer::put_parts-in_default-matches w ↦ let truth = c.if-matches.true in let other = w.matches-is in cc
+    ]
 
-pub writer::Writer::put_parts-returns-in-Set : goal.writer::Writer::put_parts-returns-in-Set
-writer::Writer::put_parts-returns-in-Set t c =
+pub writer::Writer::put_parts-returns-else-matches : goal.writer::Writer::put_parts-returns-else-matches
+writer::Writer::put_parts-returns-else-matches t c =
     let rule = rule_of c.args.self.rule in
-    let tag = c.in-Set.field-0 in
-    let components = components_view c.in-Set.fields.items in
-    let is : ty_view c.args.ty.now ≡ Shape.set tag components = ap ty_view c.in-Set.is ∙ ty-Set tag c.in-Set.fields in
-    let parts = has_slots tag components (ty_view c.args.ty.now) (value_view c.args.value.now) (inr is) c.requires.conforms c.requires.nodes in
-    put_as rule is parts.is (subst₂ (λ (fs : List Field) (s : Slots). Writes (AreComponentsByTag rule (components_view fs) s) c.put_by_tag.result c.args.out.now.items c.put_by_tag.new.out.items) c.deref-in-Set.ensures.value (sym (c.slots_in-in-Set.ensures parts.slots parts.is)) c.put_by_tag.ensures)
+    let fields = c.in-Sequence.fields in
+    let components = components_view fields.items in
+    let put = λ (slots : Slots) (is : slots ≡ slots_view c.slots_in-slots.result.now). subst₂ (λ (fs : List Field) (s : Slots). Writes (AreComponents rule (components_view fs) s) c.put_components.result c.args.out.now.items c.put_components.new.out.items) c.deref-in-Sequence.ensures.value (sym is) c.put_components.ensures in
+    elim c.in-Sequence.is [
+      | inl sequence ↦
+          let is : ty_view c.args.ty.now ≡ Shape.sequence sequence.0 components = ap ty_view sequence.1 ∙ ty-Sequence sequence.0 fields in
+          let parts = has_slots sequence.0 components (ty_view c.args.ty.now) (value_view c.args.value.now) (inl is) c.requires.conforms c.requires.nodes in
+          put_as rule is parts.is (put parts.slots (c.slots_in-slots.ensures parts.slots parts.is))
+      | inr set ↦
+          let is : ty_view c.args.ty.now ≡ Shape.set set.0 components = ap ty_view set.1 ∙ ty-Set set.0 fields in
+          let parts = has_slots set.0 components (ty_view c.args.ty.now) (value_view c.args.value.now) (inr is) c.requires.conforms c.requires.nodes in
+          elim c.else-matches.branch [
+            | writer::Writer::put_parts-else-matches-via-then-matches+else-not-are_declared_by_tag w ↦
+                let rise : AllPairs ComesBefore (tags_of_components components) = subst (λ (fs : List Field). AllPairs ComesBefore (tags_of_components (components_view fs))) w.deref-then-matches.ensures.value (w.are_declared_by_tag.ensures (search rules)) in
+                let good : HasGoodNodes (Shape.set set.0 components) = subst HasGoodNodes is c.requires.nodes in
+                put_as rule is parts.is (written_by (put parts.slots (c.slots_in-slots.ensures parts.slots parts.is)) (λ octets h. in_declared_order rule components parts.slots octets (rule_is_canonical c.args.self.rule) good.tags.0.1 rise h))
+            | writer::Writer::put_parts-else-matches-via-else-matches w ↦ elim c.match-matches.branch [
+                | writer::Writer::put_parts-in-Set x ↦ let truth = w.if-matches.false in let other = x.matches-is in cc
+                | writer::Writer::put_parts-in_default-matches x ↦ absurd (x.in_default-matches.not-Set set.0 fields set.1)
+              ]
+          ]
+    ]
 
 pub writer::Writer::put_parts-returns-in-SequenceOf : goal.writer::Writer::put_parts-returns-in-SequenceOf
 writer::Writer::put_parts-returns-in-SequenceOf t c =
@@ -143,7 +173,7 @@ writer::Writer::put_parts-returns-in-SequenceOf t c =
     let inner = c.in-SequenceOf.inner in
     let is : ty_view c.args.ty.now ≡ Shape.sequence_of tag (ty_view inner.value) = ap ty_view c.in-SequenceOf.is ∙ ty-SequenceOf tag inner in
     let parts = has_items tag (ty_view inner.value) (ty_view c.args.ty.now) (value_view c.args.value.now) (inl is) c.requires.conforms c.requires.nodes in
-    put_as rule is parts.is (subst₂ (λ (e : Ty) (vs : List Val). Writes (AreItems (IsEncoding rule (ty_view e)) vs) c.put_items.result c.args.out.now.items c.put_items.new.out.items) c.deref-in-SequenceOf.ensures (sym (c.items_in.ensures parts.items parts.is)) c.put_items.ensures)
+    put_as rule is parts.is (subst₂ (λ (e : Ty) (vs : List Val). Writes (AreItems (IsEncoding rule (ty_view e)) vs) c.put_items.result c.args.out.now.items c.put_items.new.out.items) c.deref.ensures (sym (c.items_in.ensures parts.items parts.is)) c.put_items.ensures)
 
 pub writer::Writer::put_parts-returns-in-SetOf : goal.writer::Writer::put_parts-returns-in-SetOf
 writer::Writer::put_parts-returns-in-SetOf t c =
