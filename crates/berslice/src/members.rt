@@ -67,8 +67,15 @@ fn read_member(
         return None;
     };
     let field = &fields[place];
+    // What is due has not come. Said here once more, it tells the compiler that nothing is dropped.
     let slot = &mut set_components.slots[place];
-    let value = slot.get_or_insert_with(|| Value::Null);
+    if slot.is_some() {
+        return None;
+    }
+    *slot = Some(Value::Null);
+    let Some(value) = slot else {
+        return None;
+    };
     let used = read_begun(alloc, &field.ty, identifier, levels, octets, value)?;
     set_components.behind = place + 1;
     Some(used)
