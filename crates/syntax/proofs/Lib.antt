@@ -1,6 +1,7 @@
 pub mod Steps
 pub mod WordPlaces
 pub mod Loops
+pub mod PartReading
 pub mod Inversions
 pub mod PrefixReading
 pub mod ValueReading

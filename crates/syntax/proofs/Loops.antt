@@ -3,7 +3,7 @@ use Rattle.std.proofs.Common.{◌≡◌, ℕ, zero, suc, ◌-◌, ◌<◌, List,
 use Rattle.lexis.specs.Signs.{Sign}
 use Rattle.syntax.specs.Reading.{Reads, more_at, in_front}
 
-in_front_twice : {A B : Type 0} (x y : List A) (o : Option (List A × B)) → in_front x (in_front y o) ≡ in_front (x ++ y) o
+pub in_front_twice : {A B : Type 0} (x y : List A) (o : Option (List A × B)) → in_front x (in_front y o) ≡ in_front (x ++ y) o
 in_front_twice x y None = refl
 in_front_twice x y (Some r) = ap (λ l. Some (l, r.1)) (sym (append_assoc x y r.0))
 

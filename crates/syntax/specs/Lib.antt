@@ -9,5 +9,6 @@ pub mod ValueReading
 pub mod BitReading
 pub mod SimpleReading
 pub mod TypeReading
+pub mod PartReading
 pub mod ModuleReading
 pub mod ModuleText

@@ -5,6 +5,7 @@ mod bits;
 mod listing;
 mod modules;
 mod parsing;
+mod parts;
 mod prefixes;
 mod reading;
 mod refusing;

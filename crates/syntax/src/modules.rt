@@ -12,7 +12,7 @@ use crate::refusing::{Wanted, refuse, refuse_behind_type};
 use crate::stop::Stop;
 use crate::terminal::Terminal;
 use crate::tree::{Assignment, Module, Tagging};
-use crate::types::type_at;
+use crate::types::{TypeSource, type_at};
 use lexis::{Lexeme, Symbol, Word};
 use std::alloc::Global;
 
@@ -111,7 +111,12 @@ fn assignment_at(
 {
     let (name, next) = type_name_at(terminals, at)?;
     let next = symbol_at(terminals, next, Symbol::Assignment)?;
-    let (body, next) = type_at(alloc, MAX_LEVELS, terminals, next)?;
+    let source = TypeSource {
+        alloc,
+        levels: MAX_LEVELS,
+        terminals,
+    };
+    let (body, next) = type_at(source, next)?;
     let (is_last, next) = following_at(terminals, next)?;
     let name = String::from_str(alloc, name)?;
     let (line, column) = place_at(terminals, at);
