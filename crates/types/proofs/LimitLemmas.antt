@@ -122,6 +122,15 @@ left_ends {N = N} {D = D} counted nodes left levels xs i past leads =
     subst (λ l. IsLeft left levels (length l) (D []) (Some left)) (sym counted.no_nodes) (subst (λ d. IsLeft left levels 0 d (Some left)) (sym counted.no_levels) (omega arith, omega arith)) in
     leads (Some left) (subst (λ l. LeftBy N D left levels l (Some left)) (sym (drop_all i xs past)) none)
 
+-- a CHOICE, which takes one node and no level
+pub choice_left : (nodes others levels : ℕ) (shape : Shape) (xs items : List Alternative) (r : Option ℕ) → shape ≡ Shape.choice (alternatives_view xs) → items ≡ xs → nodes ≡ others + 1
+    → LeftBy nodes_of_choices levels_of_choices others levels items r → IsLeft nodes levels (length (nodes_of shape)) (levels_of shape) r
+choice_left nodes others levels shape xs items r is same room h =
+    let here : LeftBy nodes_of_choices levels_of_choices (nodes - 1) levels xs r =
+    subst (λ n. LeftBy nodes_of_choices levels_of_choices n levels xs r) (omega (arith, room)) (subst (λ l. LeftBy nodes_of_choices levels_of_choices others levels l r) same h) in
+    subst (λ s. IsLeft nodes levels (length (nodes_of s)) (levels_of s) r) (sym is)
+    (left_within nodes levels (length (nodes_of_choices xs)) (levels_of_choices xs) r (omega (arith, room)) here)
+
 -- a list of at most 256 elements
 pub few : (n k : ℕ) (Q : Type 0) → n ≡ k → Q → IsTrue (leb n 256) ↔ (Q × (k ≤ 256))
 few n k Q same q = (λ yes. let below = leb-true n 256 yes in (q, omega arith), λ h. le-leb n 256 (omega (arith, h.1)))

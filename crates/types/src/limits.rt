@@ -2,10 +2,10 @@
 
 ghost use Rattle.std.specs.Prelude.{◌↔◌, ◌≤◌, All, IsTrue, length, map};
 ghost use Rattle.types.specs.Judging.{IsLeft};
-ghost use Rattle.types.specs.View.{ty_view, named_bit_view, components_view, alternatives_view};
-ghost use Rattle.types.specs.WellFormed.{nodes_of, nodes_of_components, nodes_of_alternatives, levels_of, levels_of_components, levels_of_alternatives, IsNodeWithin, IsTagWithin, AreNamedBitsWithin};
+ghost use Rattle.types.specs.View.{ty_view, named_bit_view, components_view};
+ghost use Rattle.types.specs.WellFormed.{nodes_of, nodes_of_components, levels_of, levels_of_components, IsNodeWithin, IsTagWithin, AreNamedBitsWithin};
 
-use crate::{Alternative, Field, MAX_LIST, MAX_NAMED_BIT, NamedBit, Ty};
+use crate::{Field, MAX_LIST, MAX_NAMED_BIT, NamedBit, Ty};
 use octets::{MAX_TAG_NUMBER, Tag};
 
 // What is left of room for so many nodes, once the type has taken its own. None where it has more
@@ -21,7 +21,13 @@ pub fn nodes_left(ty: &Ty, nodes: usize, levels: usize) -> Option<usize>
         Ty::SequenceOf(_, inner) => nodes_left(inner, others, levels.checked_sub(1)?),
         Ty::SetOf(_, inner) => nodes_left(inner, others, levels.checked_sub(1)?),
         Ty::Explicit(_, inner) => nodes_left(inner, others, levels.checked_sub(1)?),
-        Ty::Choice(alternatives) => left_by_alternatives(alternatives, others, levels),
+        Ty::Choice(alternatives) => {
+            let mut left = others;
+            for alternative in alternatives {
+                left = nodes_left(&alternative.ty, left, levels)?;
+            }
+            Some(left)
+        }
         _ => Some(others),
     }
 }
@@ -33,17 +39,6 @@ fn left_by_components(fields: &[Field], nodes: usize, levels: usize) -> Option<u
     let mut left = nodes;
     for field in fields {
         left = nodes_left(&field.ty, left, levels)?;
-    }
-    Some(left)
-}
-
-#[cycle(counting)]
-fn left_by_alternatives(alternatives: &[Alternative], nodes: usize, levels: usize) -> Option<usize>
-    ensures { IsLeft nodes levels (length (nodes_of_alternatives (alternatives_view alternatives.now))) (levels_of_alternatives (alternatives_view alternatives.now)) result }
-{
-    let mut left = nodes;
-    for alternative in alternatives {
-        left = nodes_left(&alternative.ty, left, levels)?;
     }
     Some(left)
 }

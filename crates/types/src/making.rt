@@ -8,18 +8,17 @@ ghost use Rattle.types.specs.View.{ty_view, value_view, requirement_view, field_
 
 use crate::universal::{text_tag, time_tag};
 use crate::{Alternative, Field, Item, Name, NamedBit, Presence, Ty, Value};
-use octets::Tag;
+use octets::{Class, Tag};
 use std::alloc::{AllocError, Global};
 use strings::{TextKind, TimeKind};
 
-impl Ty {
-    /// BOOLEAN.
-    pub fn boolean() -> Ty
-        ensures { ty_view result ≡ boolean_type }
-    {
-        Ty::Boolean(Tag::universal(1))
-    }
+// The tag of BIT STRING, with named bits or without.
+const BIT_STRING: Tag = Tag {
+    class: Class::Universal,
+    number: 3,
+};
 
+impl Ty {
     /// INTEGER.
     pub fn integer() -> Ty
         ensures { ty_view result ≡ integer_type }
@@ -34,39 +33,25 @@ impl Ty {
         Ty::Enumerated(Tag::universal(10), items)
     }
 
-    /// NULL.
-    pub fn null() -> Ty
-        ensures { ty_view result ≡ null_type }
+    /// BOOLEAN.
+    pub fn boolean() -> Ty
+        ensures { ty_view result ≡ boolean_type }
     {
-        Ty::Null(Tag::universal(5))
-    }
-
-    /// OBJECT IDENTIFIER.
-    pub fn oid() -> Ty
-        ensures { ty_view result ≡ oid_type }
-    {
-        Ty::Oid(Tag::universal(6))
-    }
-
-    /// RELATIVE-OID.
-    pub fn relative_oid() -> Ty
-        ensures { ty_view result ≡ relative_oid_type }
-    {
-        Ty::RelativeOid(Tag::universal(13))
+        Ty::Boolean(Tag::universal(1))
     }
 
     /// BIT STRING.
     pub fn bits() -> Ty
         ensures { ty_view result ≡ bit_string_type }
     {
-        Ty::Bits(Tag::universal(3))
+        Ty::Bits(BIT_STRING)
     }
 
     /// BIT STRING, with its named bits.
     pub fn named_bits(bits: Vec<NamedBit>) -> Ty
         ensures { ty_view result ≡ Shape.string bit_string_tag (StringType.named_bits (map named_bit_view bits.items)) }
     {
-        Ty::NamedBits(Tag::universal(3), bits)
+        Ty::NamedBits(BIT_STRING, bits)
     }
 
     /// OCTET STRING.
@@ -88,6 +73,20 @@ impl Ty {
         ensures { ty_view result ≡ time_type kind }
     {
         Ty::Time(time_tag(kind), kind)
+    }
+
+    /// OBJECT IDENTIFIER.
+    pub fn oid() -> Ty
+        ensures { ty_view result ≡ oid_type }
+    {
+        Ty::Oid(Tag::universal(6))
+    }
+
+    /// RELATIVE-OID.
+    pub fn relative_oid() -> Ty
+        ensures { ty_view result ≡ relative_oid_type }
+    {
+        Ty::RelativeOid(Tag::universal(13))
     }
 
     /// SEQUENCE, with its components.
@@ -123,6 +122,13 @@ impl Ty {
         ensures { ty_view result ≡ Shape.choice (alternatives_view alternatives.items) }
     {
         Ty::Choice(alternatives)
+    }
+
+    /// NULL.
+    pub fn null() -> Ty
+        ensures { ty_view result ≡ null_type }
+    {
+        Ty::Null(Tag::universal(5))
     }
 
     /// The type with an explicit tag around it. Err where memory ran out.
