@@ -2,7 +2,7 @@
 
 ghost use Rattle.std.specs.Prelude.{◌≤◌, length, IfSome};
 
-/// A symbol.
+/// A symbol: the longer ones first, the others in order of their octets.
 #[derive(Clone, Copy, Debug, PartialEq, Eq)]
 pub enum Symbol {
     /// `::=`.
@@ -15,40 +15,40 @@ pub enum Symbol {
     OpenGroup,
     /// `]]`.
     CloseGroup,
-    /// `{`.
-    OpenBrace,
-    /// `}`.
-    CloseBrace,
-    /// `[`.
-    OpenBracket,
-    /// `]`.
-    CloseBracket,
+    /// `!`.
+    Exclamation,
     /// `(`.
     OpenParenthesis,
     /// `)`.
     CloseParenthesis,
     /// `,`.
     Comma,
-    /// `;`.
-    Semicolon,
-    /// `:`.
-    Colon,
-    /// `.`.
-    FullStop,
     /// `-`.
     Hyphen,
-    /// `|`.
-    VerticalBar,
-    /// `^`.
-    Caret,
+    /// `.`.
+    FullStop,
+    /// `:`.
+    Colon,
+    /// `;`.
+    Semicolon,
     /// `<`.
     Less,
     /// `>`.
     Greater,
     /// `@`.
     At,
-    /// `!`.
-    Exclamation,
+    /// `[`.
+    OpenBracket,
+    /// `]`.
+    CloseBracket,
+    /// `^`.
+    Caret,
+    /// `{`.
+    OpenBrace,
+    /// `|`.
+    VerticalBar,
+    /// `}`.
+    CloseBrace,
 }
 
 /// The symbol in front, the longest that can stand there, and how many octets it has.
@@ -69,23 +69,23 @@ pub(crate) fn symbol_in_front(octets: &[u8]) -> Option<(Symbol, usize)>
 // The symbol that the octet is by itself.
 fn single(octet: u8) -> Option<Symbol> {
     match octet {
-        b'{' => Some(Symbol::OpenBrace),
-        b'}' => Some(Symbol::CloseBrace),
-        b'[' => Some(Symbol::OpenBracket),
-        b']' => Some(Symbol::CloseBracket),
+        b'!' => Some(Symbol::Exclamation),
         b'(' => Some(Symbol::OpenParenthesis),
         b')' => Some(Symbol::CloseParenthesis),
         b',' => Some(Symbol::Comma),
-        b';' => Some(Symbol::Semicolon),
-        b':' => Some(Symbol::Colon),
-        b'.' => Some(Symbol::FullStop),
         b'-' => Some(Symbol::Hyphen),
-        b'|' => Some(Symbol::VerticalBar),
-        b'^' => Some(Symbol::Caret),
+        b'.' => Some(Symbol::FullStop),
+        b':' => Some(Symbol::Colon),
+        b';' => Some(Symbol::Semicolon),
         b'<' => Some(Symbol::Less),
         b'>' => Some(Symbol::Greater),
         b'@' => Some(Symbol::At),
-        b'!' => Some(Symbol::Exclamation),
+        b'[' => Some(Symbol::OpenBracket),
+        b']' => Some(Symbol::CloseBracket),
+        b'^' => Some(Symbol::Caret),
+        b'{' => Some(Symbol::OpenBrace),
+        b'|' => Some(Symbol::VerticalBar),
+        b'}' => Some(Symbol::CloseBrace),
         _ => None,
     }
 }
