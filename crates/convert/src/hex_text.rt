@@ -22,16 +22,6 @@ pub enum HexFault {
     NoMemory,
 }
 
-impl From<AllocError> for HexFault {
-    ghost use Rattle.convert.specs.declared.hex_text.HexFault.TheVariants.{NoMemory as RefusedMemory};
-
-    ghost from_gives = { λ _ fault. fault ≡ RefusedMemory };
-
-    fn from(_refused: AllocError) -> HexFault {
-        HexFault::NoMemory
-    }
-}
-
 impl From<FromHexError> for HexFault {
     ghost use Rattle.convert.specs.HexFault.{hex_fault_of};
 
@@ -44,6 +34,16 @@ impl From<FromHexError> for HexFault {
             | FromHexError::OddLength
             | FromHexError::InvalidStringLength => HexFault::NotHex,
         }
+    }
+}
+
+impl From<AllocError> for HexFault {
+    ghost use Rattle.convert.specs.declared.hex_text.HexFault.TheVariants.{NoMemory as RefusedMemory};
+
+    ghost from_gives = { λ _ fault. fault ≡ RefusedMemory };
+
+    fn from(_refused: AllocError) -> HexFault {
+        HexFault::NoMemory
     }
 }
 
