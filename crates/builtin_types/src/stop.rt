@@ -61,18 +61,18 @@ impl From<AllocError> for Stop {
     }
 }
 
-impl<T: Drop> From<AllocFailed<T>> for Stop {
-    ghost from_gives = { λ _ stop. stop ≡ NoMemory };
-
-    fn from(_error: AllocFailed<T>) -> Stop {
-        Stop::NoMemory
-    }
-}
-
 impl From<Cause> for Stop {
     ghost from_gives = { λ cause stop. stop ≡ Refused cause };
 
     fn from(cause: Cause) -> Stop {
         Stop::Refused(cause)
+    }
+}
+
+impl<T: Drop> From<AllocFailed<T>> for Stop {
+    ghost from_gives = { λ _ stop. stop ≡ NoMemory };
+
+    fn from(_error: AllocFailed<T>) -> Stop {
+        Stop::NoMemory
     }
 }
