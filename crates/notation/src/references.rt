@@ -1,11 +1,11 @@
 //! The names that a type expression refers to.
 
 ghost use Rattle.std.specs.Prelude.{◌≡◌, ◌++◌, IfOk, OnOk, map};
-ghost use Rattle.syntax.specs.View.{form, component, alternative, components_of, alternatives_of};
-ghost use Rattle.notation.specs.References.{names_in, names_in_components, names_in_alternatives};
+ghost use Rattle.syntax.specs.View.{form};
+ghost use Rattle.notation.specs.References.{names_in};
 
 use std::alloc::{AllocError, Global};
-use syntax::{Alternative, Component, Expr};
+use syntax::Expr;
 
 /// The names in the expression, in order of text, one that stands twice taken twice.
 pub fn references_of<'a>(alloc: Global, expr: &'a Expr) -> Result<Vec<&'a str>, AllocError>
@@ -16,42 +16,25 @@ pub fn references_of<'a>(alloc: Global, expr: &'a Expr) -> Result<Vec<&'a str>, 
     Ok(names)
 }
 
-#[cycle(gathering)]
 fn gather<'a>(expr: &'a Expr, names: &mut Vec<&'a str>) -> Result<(), AllocError>
     ensures { OnOk result (map (λ n. n.now) names.new.items ≡ map (λ n. n.now) names.old.items ++ names_in (form expr.now)) }
 {
     match expr {
         Expr::Tagged(_, inner) => gather(inner, names),
-        Expr::List(_, components) => gather_components(components, names),
+        Expr::List(_, components) => {
+            for component in components {
+                gather(&component.body, names)?;
+            }
+            Ok(())
+        }
         Expr::Of(_, inner) => gather(inner, names),
-        Expr::Choice(alternatives) => gather_alternatives(alternatives, names),
+        Expr::Choice(alternatives) => {
+            for alternative in alternatives {
+                gather(&alternative.body, names)?;
+            }
+            Ok(())
+        }
         Expr::Enumerated(_) | Expr::NamedBits(_) | Expr::Simple(_) => Ok(()),
         Expr::Reference(name) => Ok(names.push(name.as_str())?),
     }
-}
-
-#[cycle(gathering)]
-fn gather_components<'a>(
-    components: &'a [Component],
-    names: &mut Vec<&'a str>,
-) -> Result<(), AllocError>
-    ensures { OnOk result (map (λ n. n.now) names.new.items ≡ map (λ n. n.now) names.old.items ++ names_in_components (components_of (map component components.now))) }
-{
-    for component in components {
-        gather(&component.body, names)?;
-    }
-    Ok(())
-}
-
-#[cycle(gathering)]
-fn gather_alternatives<'a>(
-    alternatives: &'a [Alternative],
-    names: &mut Vec<&'a str>,
-) -> Result<(), AllocError>
-    ensures { OnOk result (map (λ n. n.now) names.new.items ≡ map (λ n. n.now) names.old.items ++ names_in_alternatives (alternatives_of (map alternative alternatives.now))) }
-{
-    for alternative in alternatives {
-        gather(&alternative.body, names)?;
-    }
-    Ok(())
 }

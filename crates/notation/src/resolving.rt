@@ -1,18 +1,12 @@
 //! From a name to its type.
 
-ghost use Rattle.std.specs.Prelude.{◌≡◌, ◌≢◌, IfOk, IfErr, None as Nothing};
+ghost use Rattle.std.specs.Prelude.{◌≡◌, ◌≢◌, IfOk, IfErr};
 ghost use Rattle.types.specs.View.{ty_view};
 ghost use Rattle.types.specs.WellFormed.{IsWellFormed};
 ghost use Rattle.types.specs.Shape.{Shape};
-ghost use Rattle.syntax.specs.Tree.{Form};
-ghost use Rattle.syntax.specs.View.{form, tree};
+ghost use Rattle.syntax.specs.View.{tree};
 ghost use Rattle.notation.specs.Meaning.{NameMeans};
 ghost use Rattle.notation.specs.Fault.{IsResolvingFault};
-ghost use Rattle.notation.specs.Known.{LeadsTo};
-ghost use Rattle.notation.specs.Apart.{CanMake};
-ghost use Rattle.notation.specs.Weighed.{IsWeight};
-ghost use Rattle.notation.specs.Refused.{HasNoType};
-ghost use Rattle.notation.specs.Under.{MeansUnder};
 
 use crate::scope::{Scope, Seen};
 use crate::unresolved::Unresolved;
@@ -77,6 +71,15 @@ fn fault_at(module: &Module, place: Option<usize>, number: u32) -> Fault
 }
 
 impl<'a> Scope<'a> {
+    ghost use Rattle.std.specs.Prelude.{None as Nothing};
+    ghost use Rattle.syntax.specs.Tree.{Form};
+    ghost use Rattle.syntax.specs.View.{form};
+    ghost use Rattle.notation.specs.Known.{LeadsTo};
+    ghost use Rattle.notation.specs.Apart.{CanMake};
+    ghost use Rattle.notation.specs.Weighed.{IsWeight};
+    ghost use Rattle.notation.specs.Refused.{HasNoType};
+    ghost use Rattle.notation.specs.Under.{MeansUnder};
+
     /// The type of an assignment of which this is known.
     fn type_of(&self, alloc: Global, seen: Seen<'a>) -> Result<WellTyped, Stop>
         ensures value { IfOk result (λ resolved. (seen.entry.weight.cause ≡ Nothing → CanMake self.now.module.now self.now (form seen.entry.root.expr.now)) → MeansUnder (tree self.now.module.now) seen.entry.root.tag (form seen.entry.root.expr.now) (ty_view resolved)) }
