@@ -1,8 +1,5 @@
 //! A sink over a writer.
 
-ghost use Rattle.std.specs.Prelude.{◌≡◌};
-ghost use Rattle.devices.specs.Failures.{count_of};
-
 use crate::{Failed, Sink};
 use std::io::Write;
 
@@ -11,31 +8,13 @@ use std::io::Write;
 /// interrupted. It never flushes the writer.
 #[derive(Drop)]
 pub struct ToWriter<W> {
-    inner: W,
     failed: bool,
-}
-
-impl<W: Write> ToWriter<W> {
-    /// A sink over `inner` that has not failed. Takes no memory.
-    pub fn new(inner: W) -> Self
-        ensures taken { ⟦<ToWriter<W> as Sink>⟧.taken result ≡ W.contents inner }
-        ensures failures { ⟦<ToWriter<W> as Sink>⟧.failures result ≡ 0 }
-    {
-        ToWriter {
-            inner,
-            failed: false,
-        }
-    }
-
-    /// The writer, with what it took.
-    pub fn into_inner(self) -> W
-        ensures { W.contents result ≡ ⟦<ToWriter<W> as Sink>⟧.taken self }
-    {
-        self.inner
-    }
+    inner: W,
 }
 
 impl<W: Write> Sink for ToWriter<W> {
+    ghost use Rattle.devices.specs.Failures.{count_of};
+
     ghost taken = { λ sink. W.contents sink.inner };
 
     ghost failures = { λ sink. count_of sink.failed };
@@ -52,5 +31,27 @@ impl<W: Write> Sink for ToWriter<W> {
                 Err(Failed)
             }
         }
+    }
+}
+
+impl<W: Write> ToWriter<W> {
+    ghost use Rattle.std.specs.Prelude.{◌≡◌};
+
+    /// A sink over `inner` that has not failed. Takes no memory.
+    pub fn new(inner: W) -> Self
+        ensures taken { ⟦<ToWriter<W> as Sink>⟧.taken result ≡ W.contents inner }
+        ensures failures { ⟦<ToWriter<W> as Sink>⟧.failures result ≡ 0 }
+    {
+        ToWriter {
+            failed: false,
+            inner,
+        }
+    }
+
+    /// The writer, with what it took.
+    pub fn into_inner(self) -> W
+        ensures { W.contents result ≡ ⟦<ToWriter<W> as Sink>⟧.taken self }
+    {
+        self.inner
     }
 }
