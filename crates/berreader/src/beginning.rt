@@ -66,12 +66,12 @@ impl<'a> Nest<'a> {
             return Err(Refusal::Identifier);
         };
         Ok(Next {
-            which,
-            ty,
-            node,
             tag,
             constructed,
             identifier,
+            which,
+            ty,
+            node,
         })
     }
 

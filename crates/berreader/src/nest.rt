@@ -32,16 +32,16 @@ pub struct Nest<'a> {
 /// The part that comes next, as its identifier octets say.
 #[derive(Clone, Copy, Debug)]
 pub struct Next<'a> {
+    pub tag: Tag,
+    pub constructed: bool,
+    /// How many identifier octets there are.
+    pub identifier: usize,
     /// Which part it is of what is open.
     pub which: usize,
     /// Its type.
     pub ty: &'a Ty,
     /// The type itself, or the alternative of a CHOICE that begins with the tag.
     pub node: &'a Ty,
-    pub tag: Tag,
-    pub constructed: bool,
-    /// How many identifier octets there are.
-    pub identifier: usize,
 }
 
 /// A constructed string that has begun.
