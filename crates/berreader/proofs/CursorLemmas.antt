@@ -14,7 +14,6 @@ use Rattle.encoding_parts.specs.declared.frame.Frame.{Frame}
 use Rattle.berreader.specs.declared.nest.Nest.{Nest}
 use Rattle.berreader.specs.declared.nest.OpenString.{OpenString}
 use Rattle.encoding_parts.specs.Completing.{Opens}
-use Rattle.berreader.specs.Items as items
 use Rattle.berreader.specs.Nest as nests
 use Rattle.encoding_parts.specs.Segments as segments
 use Rattle.berreader.specs.Cut.{IsCut, IsCutIn, IsNestCut}
@@ -23,6 +22,7 @@ use Rattle.encoding_parts.specs.Refuses.{Refuses}
 use Rattle.berreader.specs.Stack.{layers_of}
 use Rattle.berreader.specs.Cursor.{ends_in, octets_in, taken_by, taken_of, with_string, AreTaken, CanFinish, HasPassed, HasTaken, IsSoundCursor, IsSoundIn, IsStep, IsTaken, IsWhole, Steps}
 use Rattle.berreader.specs.Strings.{IsClosed, IsFound, IsOpenedString, IsSoundString, IsString}
+use Rattle.berreader.proofs.ItemsLemmas as items
 use Rattle.berreader.proofs.StringLemmas.{passed_on, cannot_finish, sound_on}
 
 pub some_size : (end taken : ℕ) (frame : Frame) (size : List ℕ) → Opens end taken frame size → 1 ≤ length size

@@ -11,8 +11,8 @@ use Rattle.encoding_parts.specs.Completing.{IsEndOf}
 use Rattle.encoding_parts.specs.Parts.{Parts, IsPart, IsPartOf, ArePartsOf, AreItemsCome, Holds}
 use Rattle.encoding_parts.proofs.StepLemmas.{end_alone}
 use Rattle.berreader.specs.declared.nest.Nest.{Nest}
-use Rattle.berreader.specs.Items.{HasMoreItems, AreItemsInside, AreTaken}
-use Rattle.berreader.specs.Nest.{CanEnd, CanFollow, CanComplete, HasTaken, IsBegun, StandsAt, levels_inside, levels_left}
+use Rattle.berreader.specs.Items.{HasMoreItems, AreItemsInside}
+use Rattle.berreader.specs.Nest.{CanEnd, CanFinish, CanFollow, CanComplete, HasTaken, IsBegun, StandsAt, levels_inside, levels_left}
 use Rattle.berreader.specs.Stack.{Layer, layers_of}
 use Rattle.berreader.proofs.PartsBeginLemmas.{part_above, parts_apart}
 use Rattle.berreader.proofs.PartsForthLemmas.{fill_step}
@@ -116,6 +116,14 @@ pub record IsListed (old new : Nest) (octets : List ℕ) (used : ℕ) : Type 0 w
   pub type : ty_view new.ty.now ≡ ty_view old.ty.now
   pub taken : new.taken ≡ old.taken + used
   pub layers : AreItemsInside (levels_left (layers_of old.layers)) (layers_of old.layers) (layers_of new.layers) old.taken octets used
+
+-- so many of the octets were taken, or none
+pub record AreTaken (old new : Nest) (octets : List ℕ) (used : ℕ) : Type 0 where
+  pub there : used ≤ length octets
+  pub type : ty_view new.ty.now ≡ ty_view old.ty.now
+  pub forth : (more : List ℕ) → CanFinish old (octets ++ more) → CanFinish new (drop used octets ++ more)
+  pub back : (before : List ℕ) → HasTaken old before → HasTaken new (before ++ take used octets)
+  pub ends : length (layers_of new.layers) ≤ length (layers_of old.layers) + (used + used)
 
 none_taken : (old new : Nest) (octets : List ℕ) (used : ℕ) → IsListed old new octets used → used ≡ 0 → layers_of new.layers ≡ layers_of old.layers → AreTaken old new octets used
 none_taken old new octets used h none same =

@@ -4,7 +4,7 @@
 ghost use Rattle.std.specs.Prelude.{◌≡◌, None, []};
 ghost use Rattle.types.specs.View.{ty_view};
 ghost use Rattle.berreader.specs.Stack.{layers_of, IsCounted};
-ghost use Rattle.berreader.specs.Cursor.{taken_of, AreTaken, IsSoundCursor, Steps};
+ghost use Rattle.berreader.specs.Cursor.{taken_of, IsSoundCursor, Steps};
 
 use crate::nest::{Nest, OpenString};
 use crate::stack::Stack;
@@ -54,24 +54,6 @@ impl<'a> Cursor<'a> {
             self.nest.step(alloc, octets, &mut self.string, whole)
         } else {
             self.go_on(alloc, octets, whole)
-        }
-    }
-
-    // Takes items of a list that are whole in the octets, where no string has begun.
-    pub fn take_items(
-        &mut self,
-        alloc: Global,
-        octets: &[u8],
-        stepped: &mut usize,
-        room: &mut Vec<Value>,
-    ) -> usize
-        requires { IsSoundCursor self.old }
-        ensures taken { AreTaken self.old self.new octets.now result }
-        ensures sound { IsSoundCursor self.new }
-    {
-        match &self.string {
-            None => self.nest.take_items(alloc, octets, stepped, room),
-            Some(_) => 0,
         }
     }
 

@@ -1,17 +1,16 @@
 //! Items of a list that are whole in the octets at hand, and taken at once.
 
-ghost use Rattle.berreader.specs.Items.{AreTaken};
-ghost use Rattle.berreader.specs.Nest.{IsSoundNest};
+ghost use Rattle.berreader.specs.Cursor.{AreTaken, IsSoundCursor};
 
-use crate::nest::Nest;
+use crate::cursor::Cursor;
 use berslice::MAX_NESTED;
 use std::alloc::Global;
 use types::Value;
 
-impl Nest<'_> {
-    // Takes the items at the front that are read at once, if the innermost open encoding is a list, and answers how many
-    // octets they have. The next one is then read step by step, and what is in it is not tried again: `stepped` is how
-    // many encodings were open around it, and more than any where there is none.
+impl Cursor<'_> {
+    // Takes the items at the front that are read at once, if no string has begun and the innermost open encoding is a
+    // list, and answers how many octets they have. The next one is then read step by step, and what is in it is not
+    // tried again: `stepped` is how many encodings were open around it, and more than any where there is none.
     pub fn take_items(
         &mut self,
         alloc: Global,
@@ -19,24 +18,28 @@ impl Nest<'_> {
         stepped: &mut usize,
         room: &mut Vec<Value>,
     ) -> usize
-        requires { IsSoundNest self.old }
+        requires { IsSoundCursor self.old }
         ensures taken { AreTaken self.old self.new octets.now result }
-        ensures sound { IsSoundNest self.new }
+        ensures sound { IsSoundCursor self.new }
     {
-        let depth = self.layers.depth();
+        if self.string.is_some() {
+            return 0;
+        }
+        let nest = &mut self.nest;
+        let depth = nest.layers.depth();
         if depth > *stepped {
             return 0;
         }
-        if !self.layers.is_list() {
+        if !nest.layers.is_list() {
             *stepped = MAX_NESTED;
             return 0;
         }
         *stepped = depth;
         let levels = MAX_NESTED - depth;
-        let used = self
+        let used = nest
             .layers
-            .take_items(alloc, levels, self.taken, octets, room);
-        self.taken += used;
+            .take_items(alloc, levels, nest.taken, octets, room);
+        nest.taken += used;
         used
     }
 }
