@@ -4,6 +4,7 @@ pub mod Bars
 pub mod Head
 pub mod Leaf
 pub mod Begun
+pub mod Front
 pub mod Segments
 pub mod Reading
 pub mod Inside

@@ -2,7 +2,6 @@
 
 ghost use Rattle.std.specs.Prelude.{◌≡◌, ◌≤◌, ◌++◌, ℕ, List, length, take, IfOk, IfErr, IfSome, MatchOption};
 ghost use Rattle.octets.specs.Front.{HasFront};
-ghost use Rattle.octets.specs.Rule.{cer, der};
 ghost use Rattle.types.specs.Encoding.{IsAccepted, IsSomeAccepted};
 ghost use Rattle.types.specs.Refusal.{IsFinal};
 ghost use Rattle.types.specs.Same.{IsSame};
@@ -12,6 +11,7 @@ ghost use Rattle.types.specs.WellFormed.{IsWellFormed};
 ghost use Rattle.strict.specs.Canonical.{rule_of};
 ghost use Rattle.strict.specs.Refusal.{IsOfStrictReading};
 ghost use Rattle.strict.specs.Begun.{IsBegun};
+ghost use Rattle.strict.specs.Front.{ReadsFront};
 ghost use Rattle.octets.specs.declared.TheConstants.{MAX_ENCODING};
 
 use crate::canonical::Canonical;
@@ -27,18 +27,7 @@ use types::{Refusal, Value, WellTyped};
 /// and DER does not. Refused with `Truncated` where the octets end inside the encoding, and so much of its identifier
 /// octets and length octets as is there can be that of `ty`, and with `NoMemory`. Takes memory for the value alone.
 pub fn read_der(alloc: Global, ty: &WellTyped, octets: &[u8]) -> Result<(Value, usize), Refusal>
-    ensures value { IfOk result (λ p. (p.1 ≤ length octets.now)
-        × IsAccepted der (ty_view ty.now) (value_view p.0) (take p.1 octets.now)) }
-    ensures only { IfOk result (λ p. (v : Val) (n : ℕ) → n ≤ length octets.now →
-        IsAccepted der (ty_view ty.now) v (take n octets.now) →
-        (n ≡ p.1) × IsSame (ty_view ty.now) (value_view p.0) v) }
-    ensures truncated { result ≡ Err Refusal.Truncated →
-        ¬ HasFront (IsSomeAccepted der (ty_view ty.now)) octets.now }
-    ensures begun { result ≡ Err Refusal.Truncated →
-        IsBegun Canonical.Der (ty_view ty.now) MAX_ENCODING octets.now }
-    ensures never { IfErr result (λ refusal. IsFinal refusal → (more : List ℕ) →
-        ¬ HasFront (IsSomeAccepted der (ty_view ty.now)) (octets.now ++ more)) }
-    ensures numbers { IfErr result IsOfStrictReading }
+    ensures front { ReadsFront Canonical.Der (ty_view ty.now) octets.now result }
     ensures well_formed { IsWellFormed (ty_view ty.now) }
 {
     read_canonical(alloc, Canonical::Der, ty, octets)
@@ -46,18 +35,7 @@ pub fn read_der(alloc: Global, ty: &WellTyped, octets: &[u8]) -> Result<(Value, 
 
 /// Reads the one encoding at the front of `octets` under CER (X.690 clauses 9 and 11), as `read_der` does under DER.
 pub fn read_cer(alloc: Global, ty: &WellTyped, octets: &[u8]) -> Result<(Value, usize), Refusal>
-    ensures value { IfOk result (λ p. (p.1 ≤ length octets.now)
-        × IsAccepted cer (ty_view ty.now) (value_view p.0) (take p.1 octets.now)) }
-    ensures only { IfOk result (λ p. (v : Val) (n : ℕ) → n ≤ length octets.now →
-        IsAccepted cer (ty_view ty.now) v (take n octets.now) →
-        (n ≡ p.1) × IsSame (ty_view ty.now) (value_view p.0) v) }
-    ensures truncated { result ≡ Err Refusal.Truncated →
-        ¬ HasFront (IsSomeAccepted cer (ty_view ty.now)) octets.now }
-    ensures begun { result ≡ Err Refusal.Truncated →
-        IsBegun Canonical.Cer (ty_view ty.now) MAX_ENCODING octets.now }
-    ensures never { IfErr result (λ refusal. IsFinal refusal → (more : List ℕ) →
-        ¬ HasFront (IsSomeAccepted cer (ty_view ty.now)) (octets.now ++ more)) }
-    ensures numbers { IfErr result IsOfStrictReading }
+    ensures front { ReadsFront Canonical.Cer (ty_view ty.now) octets.now result }
     ensures well_formed { IsWellFormed (ty_view ty.now) }
 {
     read_canonical(alloc, Canonical::Cer, ty, octets)
@@ -70,18 +48,7 @@ pub fn read_canonical(
     ty: &WellTyped,
     octets: &[u8],
 ) -> Result<(Value, usize), Refusal>
-    ensures value { IfOk result (λ p. (p.1 ≤ length octets.now)
-        × IsAccepted (rule_of rule) (ty_view ty.now) (value_view p.0) (take p.1 octets.now)) }
-    ensures only { IfOk result (λ p. (v : Val) (n : ℕ) → n ≤ length octets.now →
-        IsAccepted (rule_of rule) (ty_view ty.now) v (take n octets.now) →
-        (n ≡ p.1) × IsSame (ty_view ty.now) (value_view p.0) v) }
-    ensures truncated { result ≡ Err Refusal.Truncated →
-        ¬ HasFront (IsSomeAccepted (rule_of rule) (ty_view ty.now)) octets.now }
-    ensures begun { result ≡ Err Refusal.Truncated →
-        IsBegun rule (ty_view ty.now) MAX_ENCODING octets.now }
-    ensures never { IfErr result (λ refusal. IsFinal refusal → (more : List ℕ) →
-        ¬ HasFront (IsSomeAccepted (rule_of rule) (ty_view ty.now)) (octets.now ++ more)) }
-    ensures numbers { IfErr result IsOfStrictReading }
+    ensures front { ReadsFront rule (ty_view ty.now) octets.now result }
     ensures well_formed { IsWellFormed (ty_view ty.now) }
 {
     let mut slot = None;

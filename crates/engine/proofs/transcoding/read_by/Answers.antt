@@ -13,8 +13,8 @@ returns-in-Ber-clause-never c =
 
 pub returns-in-Cer-clause-never : goal.returns-in-Cer-clause-never
 returns-in-Cer-clause-never c =
-    subst (λ (rule : Rule). IfErr c.read_cer.result (λ refusal. IsFinal refusal → (more : List ℕ) → HasFront (IsSomeAccepted (rule_of rule) (ty_view c.args.ty.now)) (c.args.octets.now ++ more) → ⊥)) (sym c.in-Cer.is) c.read_cer.ensures.never
+    subst (λ (rule : Rule). IfErr c.read_cer.result (λ refusal. IsFinal refusal → (more : List ℕ) → HasFront (IsSomeAccepted (rule_of rule) (ty_view c.args.ty.now)) (c.args.octets.now ++ more) → ⊥)) (sym c.in-Cer.is) c.read_cer.ensures.front.never
 
 pub returns-in-Der-clause-never : goal.returns-in-Der-clause-never
 returns-in-Der-clause-never c =
-    subst (λ (rule : Rule). IfErr c.read_der.result (λ refusal. IsFinal refusal → (more : List ℕ) → HasFront (IsSomeAccepted (rule_of rule) (ty_view c.args.ty.now)) (c.args.octets.now ++ more) → ⊥)) (sym c.in-Der.is) c.read_der.ensures.never
+    subst (λ (rule : Rule). IfErr c.read_der.result (λ refusal. IsFinal refusal → (more : List ℕ) → HasFront (IsSomeAccepted (rule_of rule) (ty_view c.args.ty.now)) (c.args.octets.now ++ more) → ⊥)) (sym c.in-Der.is) c.read_der.ensures.front.never
