@@ -79,7 +79,7 @@ fn read_item(
     ensures refused { IfErr result (RefusesPart rule (ty_view inner.now) room octets.now) }
 {
     if !list.has_next() {
-        return read_growing(alloc, rule, inner, room, octets, list);
+        return read_growing(alloc, list, rule, inner, room, octets);
     }
     let place = list.count;
     let used = read_one(alloc, rule, inner, room, octets, &mut list.items[place])?;
@@ -93,11 +93,11 @@ fn read_item(
 #[inline(never)]
 fn read_growing(
     alloc: Global,
+    list: &mut Renewed,
     rule: Canonical,
     inner: &Ty,
     room: usize,
     octets: &[u8],
-    list: &mut Renewed,
 ) -> Result<usize, Refusal>
     requires good { IsGoodType (ty_view inner.now) }
     requires room { room ≤ MAX_ENCODING }

@@ -2,17 +2,17 @@
 
 ghost use Rattle.std.specs.Prelude.{◌≤◌, None, map, IfOk, IfErr};
 ghost use Rattle.std.specs.List.{AllByRecursion};
-ghost use Rattle.octets.specs.declared.TheConstants.{MAX_ENCODING};
 ghost use Rattle.octets.specs.declared.tag.Tag.{Tag};
 ghost use Rattle.types.specs.FirstTags.{AreDistinct, tags_of_components};
-ghost use Rattle.types.specs.Shape.{Shape};
 ghost use Rattle.types.specs.View.{field_view, components_view};
+ghost use Rattle.types.specs.Shape.{Shape};
 ghost use Rattle.encoding_parts.specs.Parts.{IsGoodComponent};
 ghost use Rattle.strict.specs.Canonical.{rule_of};
 ghost use Rattle.strict.specs.Bars.{RefusesStrictly};
 ghost use Rattle.strict.specs.Head.{AreFewer};
 ghost use Rattle.strict.specs.Inside.{IsInsideRead};
 ghost use Rattle.strict.specs.Members.{HasMembers};
+ghost use Rattle.octets.specs.declared.TheConstants.{MAX_ENCODING};
 
 use crate::canonical::Canonical;
 use crate::components::read_present;

@@ -8,11 +8,11 @@ ghost use Rattle.types.specs.Same.{IsSame};
 ghost use Rattle.types.specs.Shape.{Val};
 ghost use Rattle.types.specs.View.{ty_view, value_view};
 ghost use Rattle.types.specs.WellFormed.{IsWellFormed};
+ghost use Rattle.octets.specs.declared.TheConstants.{MAX_ENCODING};
 ghost use Rattle.strict.specs.Canonical.{rule_of};
 ghost use Rattle.strict.specs.Refusal.{IsOfStrictReading};
 ghost use Rattle.strict.specs.Begun.{IsBegun};
 ghost use Rattle.strict.specs.Front.{ReadsFront};
-ghost use Rattle.octets.specs.declared.TheConstants.{MAX_ENCODING};
 
 use crate::canonical::Canonical;
 use crate::parts::read_one;
