@@ -1,5 +1,5 @@
 -- Streams of values: what a call over one has done, and why it stops.
-use Rattle.std.specs.Prelude.{◌≡◌, ◌≢◌, ◌≤◌, ◌<◌, ℕ, List, [], ◌∷◌, ◌++◌, length, Option, IfSome}
+use Rattle.std.specs.Prelude.{◌≡◌, ◌≢◌, ◌≤◌, ◌<◌, ℕ, List, [], ◌∷◌, ◌++◌, length, Option, Result, IfSome, MatchResult}
 use Rattle.std.specs.Io.KnownBytes.{Appends}
 use Rattle.std.specs.List.{AllZip, concat}
 use Rattle.octets.specs.Front.{HasFront}
@@ -10,6 +10,7 @@ use Rattle.types.specs.Encoding.{Meaning, IsAccepted, IsSomeAccepted}
 use Rattle.types.specs.Refusal.{IsOfOctets, IsFinal}
 use Rattle.types.specs.Shape.{Shape, Val}
 use Rattle.types.specs.Stream.{IsStream}
+use Rattle.engine.specs.declared.stopped.Stopped.{Stopped}
 
 -- the most octets of a stream (own)
 abbrev pub most_streamed : ℕ
@@ -118,3 +119,7 @@ source_failures _ = 0
 abbrev pub sink_failures : Refusal → ℕ
 sink_failures SinkFault = 1
 sink_failures _ = 0
+
+-- behind a call the count of failures is none, or as the refusal says for which it stopped
+abbrev pub CountsBy : (Refusal → ℕ) → Result ℕ Stopped → ℕ → Type 0
+CountsBy failures_of result failures = MatchResult result (λ _. failures ≡ 0) (λ stopped. failures ≡ failures_of stopped.refusal)

@@ -1,6 +1,6 @@
 //! A stream passed on piece by piece, from a source through a reader and a writer to a sink.
 
-ghost use Rattle.std.specs.Prelude.{◌≡◌, ◌≤◌, ◌+◌, ◌++◌, ℕ, List, [], length, IsTrue, OnOk, IfOk, IfErr, MatchResult};
+ghost use Rattle.std.specs.Prelude.{◌≡◌, ◌≤◌, ◌+◌, ◌++◌, ℕ, List, [], length, IsTrue, OnOk, IfOk, IfErr};
 ghost use Rattle.types.specs.Encoding.{IsAccepted};
 ghost use Rattle.types.specs.Shape.{Val};
 ghost use Rattle.engine.specs.AnyReader.{read_rule, StandsBy};
@@ -8,7 +8,7 @@ ghost use Rattle.engine.specs.Feeding.{IsUnfinished};
 ghost use Rattle.engine.specs.Given.{HasGiven};
 ghost use Rattle.engine.specs.Passing.{Writes, HasPassed, HasNotPassed};
 ghost use Rattle.engine.specs.Refusal.{IsOfConverting};
-ghost use Rattle.engine.specs.Stream.{most_streamed, IsStopped, OfStream, source_failures, sink_failures};
+ghost use Rattle.engine.specs.Stream.{CountsBy, most_streamed, IsStopped, OfStream, source_failures, sink_failures};
 
 use crate::Stopped;
 use crate::any_reader::AnyReader;
@@ -43,8 +43,7 @@ fn pass<P: Put, K: Sink>(
     ensures stopped { IfErr result (λ stopped. HasNotPassed (StandsBy (P.shape writer.now) reader.old)
         (read_rule reader.old) (P.shape writer.now) (P.stands writer.now) P.can_be_too_long
         done stopped.done stopped.refusal piece.now (K.taken sink.old) (K.taken sink.new)) }
-    ensures sink { MatchResult result (λ _. K.failures sink.new ≡ 0)
-        (λ stopped. K.failures sink.new ≡ sink_failures stopped.refusal) }
+    ensures sink { CountsBy sink_failures result (K.failures sink.new) }
 {
     let gathered = batch.gather(reader, writer, piece);
     let lengths = batch.lengths.as_slice();
@@ -85,10 +84,8 @@ pub fn pass_all<P: Put, S: Source, K: Sink>(
         (IsStopped (P.stands writer.now) (read_rule reader.old) (P.shape writer.now) stopped.done stopped.refusal)) }
     ensures given { IfErr result (λ stopped. stopped.refusal ≡ Refusal.SourceFault →
         HasGiven (read_rule reader.old) (P.shape writer.now) stopped.done (S.left source.old) (S.left source.new)) }
-    ensures source { MatchResult result (λ _. S.failures source.new ≡ 0)
-        (λ stopped. S.failures source.new ≡ source_failures stopped.refusal) }
-    ensures sink { MatchResult result (λ _. K.failures sink.new ≡ 0)
-        (λ stopped. K.failures sink.new ≡ sink_failures stopped.refusal) }
+    ensures source { CountsBy source_failures result (S.failures source.new) }
+    ensures sink { CountsBy sink_failures result (K.failures sink.new) }
     ensures long { IfErr result (λ stopped. stopped.refusal ≡ Refusal.OutputTooLong → P.can_be_too_long) }
     ensures numbers { IfErr result (λ stopped. IsOfConverting (read_rule reader.old) stopped.refusal) }
 {

@@ -3,14 +3,14 @@
 //! Each reads a piece, does all values that it completes, and writes what stands for them before it reads
 //! the next one. It asks for devices that have not failed.
 
-ghost use Rattle.std.specs.Prelude.{◌≡◌, None, IfOk, IfErr, IfSome, MatchResult};
+ghost use Rattle.std.specs.Prelude.{◌≡◌, None, IfOk, IfErr, IfSome};
 ghost use Rattle.texts.specs.Shown.{IsShown};
 ghost use Rattle.types.specs.Encoding.{IsAccepted};
 ghost use Rattle.types.specs.View.{ty_view};
 ghost use Rattle.engine.specs.Given.{HasGiven};
 ghost use Rattle.engine.specs.Rule.{rule_of, canonical_rule_of};
 ghost use Rattle.engine.specs.Refusal.{IsOfChecking, IsOfConverting, IsOfListing};
-ghost use Rattle.engine.specs.Stream.{IsChecked, IsCheckStopped, IsConverted, IsLine, IsListed, IsStopped, OfStream, source_failures, sink_failures};
+ghost use Rattle.engine.specs.Stream.{CountsBy, IsChecked, IsCheckStopped, IsConverted, IsLine, IsListed, IsStopped, OfStream, source_failures, sink_failures};
 
 use crate::any_reader::AnyReader;
 use crate::batch::Batch;
@@ -46,10 +46,8 @@ pub fn convert<S: Source, K: Sink>(
         stopped.done stopped.refusal)) }
     ensures given { IfErr result (λ stopped. stopped.refusal ≡ Refusal.SourceFault →
         HasGiven (rule_of from) (ty_view ty.now) stopped.done (S.left source.old) (S.left source.new)) }
-    ensures source { MatchResult result (λ _. S.failures source.new ≡ 0)
-        (λ stopped. S.failures source.new ≡ source_failures stopped.refusal) }
-    ensures sink { MatchResult result (λ _. K.failures sink.new ≡ 0)
-        (λ stopped. K.failures sink.new ≡ sink_failures stopped.refusal) }
+    ensures source { CountsBy source_failures result (S.failures source.new) }
+    ensures sink { CountsBy sink_failures result (K.failures sink.new) }
     ensures numbers { IfErr result (λ stopped. IsOfConverting (rule_of from) stopped.refusal) }
 {
     let mut reader = AnyReader::new(alloc, from, ty);
@@ -72,8 +70,7 @@ pub fn check<S: Source>(
         (IsCheckStopped (rule_of from) (ty_view ty.now) stopped.done stopped.refusal)) }
     ensures given { IfErr result (λ stopped. stopped.refusal ≡ Refusal.SourceFault →
         HasGiven (rule_of from) (ty_view ty.now) stopped.done (S.left source.old) (S.left source.new)) }
-    ensures source { MatchResult result (λ _. S.failures source.new ≡ 0)
-        (λ stopped. S.failures source.new ≡ source_failures stopped.refusal) }
+    ensures source { CountsBy source_failures result (S.failures source.new) }
     ensures numbers { IfErr result (λ stopped. IsOfChecking (rule_of from) stopped.refusal) }
 {
     let mut reader = AnyReader::new(alloc, from, ty);
@@ -99,10 +96,8 @@ pub fn list<S: Source, K: Sink>(
         (IsStopped (IsLine (IsShown (ty_view ty.now))) (rule_of from) (ty_view ty.now) stopped.done stopped.refusal)) }
     ensures given { IfErr result (λ stopped. stopped.refusal ≡ Refusal.SourceFault →
         HasGiven (rule_of from) (ty_view ty.now) stopped.done (S.left source.old) (S.left source.new)) }
-    ensures source { MatchResult result (λ _. S.failures source.new ≡ 0)
-        (λ stopped. S.failures source.new ≡ source_failures stopped.refusal) }
-    ensures sink { MatchResult result (λ _. K.failures sink.new ≡ 0)
-        (λ stopped. K.failures sink.new ≡ sink_failures stopped.refusal) }
+    ensures source { CountsBy source_failures result (S.failures source.new) }
+    ensures sink { CountsBy sink_failures result (K.failures sink.new) }
     ensures numbers { IfErr result (λ stopped. IsOfListing (rule_of from) stopped.refusal) }
 {
     let mut reader = AnyReader::new(alloc, from, ty);
