@@ -66,9 +66,9 @@ HasConvertedFirst from to shape = HasWrittenFirst (IsAccepted to shape) from sha
 abbrev pub HasShownFirst : Rule → Shape → List ℕ → List ℕ → List ℕ → One → Type 0
 HasShownFirst from shape = HasWrittenFirst (IsLine (IsShown shape)) from shape
 
--- nothing was done, since an argument is none
-abbrev pub IsNoOne : One → Type 0
-IsNoOne one = (one.refusal ≡ wrong_argument) × (one.used ≡ 0) × (one.octets ≡ 0)
+-- nothing was done, since an argument is none, and the buffer is as it was
+abbrev pub IsNoOne : List ℕ → List ℕ → One → Type 0
+IsNoOne old new one = (one.refusal ≡ wrong_argument) × (one.used ≡ 0) × (one.octets ≡ 0) × (new ≡ old)
 
 -- how C gets what was written for so many octets
 abbrev pub IsPutOne : ℕ → List ℕ → List ℕ → List ℕ → One → Type 0

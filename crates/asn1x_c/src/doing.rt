@@ -2,11 +2,11 @@
 
 ghost use Rattle.types.specs.View.{ty_view};
 ghost use Rattle.engine.specs.Rule.{rule_of, canonical_rule_of};
-ghost use Rattle.asn1x_c.specs.Done.{HasChecked, HasConverted, HasListed, HasRead};
+ghost use Rattle.asn1x_c.specs.Done.{HasConverted, HasListed, HasRead};
 
 use crate::done::Done;
 use crate::outcomes::put;
-use convert::{Canonical, FromSlice, Rule, ToVec, WellTyped, check, convert, list};
+use convert::{Canonical, FromSlice, Rule, ToVec, WellTyped, convert, list};
 use engine::read_by;
 use std::alloc::Global;
 
@@ -41,14 +41,6 @@ pub(crate) fn list_all(
     let mut sink = ToVec::new(Vec::new(alloc));
     let outcome = list(alloc, ty, from, &mut source, &mut sink);
     Done::of(outcome, put(sink.as_slice(), out))
-}
-
-// Reads all values of the octets.
-pub(crate) fn check_all(alloc: Global, ty: &WellTyped, from: Rule, octets: &[u8]) -> Done
-    ensures { HasChecked (rule_of from) (ty_view ty.now) octets.now result }
-{
-    let mut source = FromSlice::new(octets);
-    Done::of(check(alloc, ty, from, &mut source), 0)
 }
 
 // Reads the first value of the octets.

@@ -1,4 +1,4 @@
-//! What the calls that write the first value do with a type.
+//! What the calls that write the first value write for it.
 
 ghost use Rattle.std.specs.Prelude.{◌≡◌, ℕ, List, OnOk, IfOk, IfErr};
 ghost use Rattle.octets.specs.Front.{Appends};
@@ -9,42 +9,14 @@ ghost use Rattle.types.specs.View.{ty_view, value_view};
 ghost use Rattle.texts.specs.Shown.{IsShown};
 ghost use Rattle.engine.specs.Rule.{rule_of, canonical_rule_of};
 ghost use Rattle.engine.specs.Stream.{IsLine};
-ghost use Rattle.asn1x_c.specs.One.{HasConvertedFirst, HasShownFirst, IsEncoding, IsFirstLine, IsFirstWritten, RefusesFirst, RefusesFirstLine};
+ghost use Rattle.asn1x_c.specs.One.{IsEncoding, IsFirstLine, IsFirstWritten, RefusesFirst, RefusesFirstLine};
 
-use crate::done::One;
 use convert::{Canon, Canonical, Cer, Der, Refusal, Rule, Value, WellTyped, show};
 use engine::read_by;
 use std::alloc::Global;
 
-// Converts the first value of the octets into a buffer.
-pub(crate) fn convert_first(
-    alloc: Global,
-    ty: &WellTyped,
-    from: Rule,
-    to: Canonical,
-    octets: &[u8],
-    out: &mut [u8],
-) -> One
-    ensures { HasConvertedFirst (rule_of from) (canonical_rule_of to) (ty_view ty.now) octets.now out.old out.new result }
-{
-    One::of(encode_first(alloc, ty, from, to, octets), out)
-}
-
-// Writes a line of text for the first value into a buffer.
-pub(crate) fn show_first(
-    alloc: Global,
-    ty: &WellTyped,
-    from: Rule,
-    octets: &[u8],
-    out: &mut [u8],
-) -> One
-    ensures { HasShownFirst (rule_of from) (ty_view ty.now) octets.now out.old out.new result }
-{
-    One::of(print_first(alloc, ty, from, octets), out)
-}
-
 // The first value's encoding by the rule `to`, and how many octets it has as it stands.
-fn encode_first(
+pub(crate) fn encode_first(
     alloc: Global,
     ty: &WellTyped,
     from: Rule,
@@ -63,7 +35,7 @@ fn encode_first(
 }
 
 // The first value's line of text, and how many octets it has.
-fn print_first(
+pub(crate) fn print_first(
     alloc: Global,
     ty: &WellTyped,
     from: Rule,

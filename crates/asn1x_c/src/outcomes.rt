@@ -1,6 +1,6 @@
 //! Makes what calls return to C, and puts octets into its buffers.
 
-ghost use Rattle.std.specs.Prelude.{◌≡◌, IfOk, IfErr};
+ghost use Rattle.std.specs.Prelude.{◌≡◌, ℕ, List, IfOk, IfErr};
 ghost use Rattle.asn1x_c.specs.Done.{HasNoPlace, IsPut, IsWrong, done_of};
 ghost use Rattle.asn1x_c.specs.Numbers.{wrong_argument};
 ghost use Rattle.asn1x_c.specs.One.{IsNoOne, IsPutOne, IsRefusedOne};
@@ -64,7 +64,7 @@ impl One {
 
     // An argument is none.
     pub(crate) fn wrong() -> One
-        ensures { IsNoOne result }
+        ensures { (octets : List ℕ) → IsNoOne octets octets result }
     {
         One {
             refusal: WRONG_ARGUMENT,

@@ -6,11 +6,12 @@ ghost use Rattle.asn1x_c.specs.Held.{type_of};
 ghost use Rattle.asn1x_c.specs.Numbers.{canonical_numbered, rule_numbered};
 ghost use Rattle.asn1x_c.specs.One.{HasConvertedFirst, HasShownFirst, IsNoOne};
 
-use crate::doing::{check_all, convert_all, list_all, read_first};
+use crate::doing::{convert_all, list_all, read_first};
 use crate::done::{Done, One};
-use crate::first_value::{convert_first, show_first};
+use crate::first_value::{encode_first, print_first};
 use crate::held::HeldType;
 use crate::numbers::{rule_numbered, rules_numbered};
+use convert::{FromSlice, check};
 use std::alloc::Global;
 
 /// Converts the values of `octets`, and puts what is written into `out` where there is room for all of it.
@@ -63,15 +64,14 @@ pub extern "C" fn asn1x_show(
 pub extern "C" fn asn1x_check(alloc: Global, held: &mut HeldType, from: u32, octets: &[u8]) -> Done
     ensures held { type_of held.new ≡ type_of held.old }
     ensures done { ByRule (type_of held.old) (rule_numbered from)
-        (λ shape from. HasChecked from shape octets.now result)
-        (IsWrong result) }
+        (λ shape from. HasChecked from shape octets.now result) (IsWrong result) }
 {
     let Some((from, ty)) = held.take_for(alloc, rule_numbered(from)) else {
         return Done::wrong();
     };
-    let done = check_all(alloc, &ty, from, octets);
+    let outcome = check(alloc, &ty, from, &mut FromSlice::new(octets));
     held.put(alloc, ty);
-    done
+    Done::of(outcome, 0)
 }
 
 /// Reads the first value of `octets`, and says how many octets it has. What is behind them is not looked at.
@@ -79,8 +79,7 @@ pub extern "C" fn asn1x_check(alloc: Global, held: &mut HeldType, from: u32, oct
 pub extern "C" fn asn1x_first(alloc: Global, held: &mut HeldType, from: u32, octets: &[u8]) -> Done
     ensures held { type_of held.new ≡ type_of held.old }
     ensures done { ByRule (type_of held.old) (rule_numbered from)
-        (λ shape from. HasRead from shape octets.now result)
-        (IsWrong result) }
+        (λ shape from. HasRead from shape octets.now result) (IsWrong result) }
 {
     let Some((from, ty)) = held.take_for(alloc, rule_numbered(from)) else {
         return Done::wrong();
@@ -102,16 +101,15 @@ pub extern "C" fn asn1x_convert_first(
     out: &mut [u8],
 ) -> One
     ensures held { type_of held.new ≡ type_of held.old }
-    ensures done { ByRules (type_of held.old) (rule_numbered from) (canonical_numbered to)
-        (λ shape from to. HasConvertedFirst from to shape octets.now out.old out.new result)
-        (IsNoOne result × (out.new ≡ out.old)) }
+    ensures done { ByRules (type_of held.old) (rule_numbered from) (canonical_numbered to) (λ shape from to.
+        HasConvertedFirst from to shape octets.now out.old out.new result) (IsNoOne out.old out.new result) }
 {
     let Some(((from, to), ty)) = held.take_for(alloc, rules_numbered(from, to)) else {
         return One::wrong();
     };
-    let one = convert_first(alloc, &ty, from, to, octets, out);
+    let outcome = encode_first(alloc, &ty, from, to, octets);
     held.put(alloc, ty);
-    one
+    One::of(outcome, out)
 }
 
 /// Puts a line of text for the first value of `octets` into `out` where there is room for all of it. What is behind the
@@ -125,14 +123,13 @@ pub extern "C" fn asn1x_show_first(
     out: &mut [u8],
 ) -> One
     ensures held { type_of held.new ≡ type_of held.old }
-    ensures done { ByRule (type_of held.old) (rule_numbered from)
-        (λ shape from. HasShownFirst from shape octets.now out.old out.new result)
-        (IsNoOne result × (out.new ≡ out.old)) }
+    ensures done { ByRule (type_of held.old) (rule_numbered from) (λ shape from.
+        HasShownFirst from shape octets.now out.old out.new result) (IsNoOne out.old out.new result) }
 {
     let Some((from, ty)) = held.take_for(alloc, rule_numbered(from)) else {
         return One::wrong();
     };
-    let one = show_first(alloc, &ty, from, octets, out);
+    let outcome = print_first(alloc, &ty, from, octets);
     held.put(alloc, ty);
-    one
+    One::of(outcome, out)
 }
