@@ -112,9 +112,11 @@ fn rule_of(word: &str) -> Rule
     requires { (rule : Rule) × (word.now ≡ word_of_rule rule) }
     ensures { word.now ≡ word_of_rule result }
 {
-    match word {
-        "ber" => Rule::Ber,
-        "cer" => Rule::Cer,
-        _ => Rule::Der,
+    if word == "ber" {
+        return Rule::Ber;
+    }
+    match canonical_of(word) {
+        Canonical::Cer => Rule::Cer,
+        Canonical::Der => Rule::Der,
     }
 }
