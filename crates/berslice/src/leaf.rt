@@ -31,7 +31,7 @@ pub fn read_leaf(
 {
     match short_primitive(tag, octets.len(), octets) {
         Some(used) => fill(alloc, ty, &octets[2..used], value).then_some(used),
-        None if may_begin(tag, octets) => read_long_leaf(alloc, ty, tag, levels, octets, value),
+        None if may_begin(tag, octets) => read_long_leaf(alloc, ty, levels, octets, value),
         None => None,
     }
 }
@@ -61,7 +61,7 @@ pub fn read_leaf_behind(
 {
     match behind(identifier, octets) {
         Some((contents, used)) => fill(alloc, ty, contents, value).then_some(used),
-        None => read_long_leaf(alloc, ty, identifier.tag, levels, octets, value),
+        None => read_long_leaf(alloc, ty, levels, octets, value),
     }
 }
 
@@ -70,16 +70,15 @@ pub fn read_leaf_behind(
 fn read_long_leaf(
     alloc: Global,
     ty: &Ty,
-    tag: Tag,
     levels: usize,
     octets: &[u8],
     value: &mut Value,
 ) -> Option<usize>
     requires leaf { IsLeaf (ty_view ty.now) }
-    requires tag { tag_of (ty_view ty.now) ≡ tag }
     requires good { IsGoodType (ty_view ty.now) }
     ensures { IfSome result (λ used. IsRead levels (ty_view ty.now) octets.now value.new used) }
 {
+    let tag = ty.leaf_tag()?;
     match primitive(tag, octets) {
         Some((contents, used)) => fill(alloc, ty, contents, value).then_some(used),
         None => read_string(alloc, ty, tag, levels, octets, value),
@@ -95,8 +94,8 @@ fn read_string(
     octets: &[u8],
     value: &mut Value,
 ) -> Option<usize>
-    requires leaf { IsLeaf (ty_view ty.now) }
     requires tag { tag_of (ty_view ty.now) ≡ tag }
+    requires leaf { IsLeaf (ty_view ty.now) }
     requires good { IsGoodType (ty_view ty.now) }
     ensures { IfSome result (λ used. IsRead levels (ty_view ty.now) octets.now value.new used) }
 {

@@ -59,7 +59,6 @@ type_of_field f = ap (λ (w : ComponentView). w.type) (field_is f)
 pub tags_with : (f : Field) (fields : List Field) (tag : Tag) → first_tags (ty_view f.ty) ≡ tag ∷ [] → tags_of_components (components_view (f ∷ fields)) ≡ tag ∷ tags_of_components (components_view fields)
 tags_with f fields tag h = ap (λ ts. ts ++ tags_of_components (components_view fields)) (ap first_tags (type_of_field f) ∙ h)
 
-
 -- a component whose slot has a value
 pub record IsPresent (f : Field) (v : Val) : Type 0 where
   pub conforms : Conforms (ty_view f.ty) v

@@ -269,6 +269,7 @@ by_tag_size rule components slots n canonical distinct h = record {
         },
       );
 }
+
 -- what `order` says of two tags where it is the first that comes before
 pub less_before : (a b : Tag) (o : Ordering) → MatchOrdering o (ComesBefore a b) (a ≡ b) (ComesBefore b a) → is_lt o ≡ true → ComesBefore a b
 less_before a b Less h is = h

@@ -59,10 +59,10 @@ impl Writer {
         ensures { Writes (IsEncoding (rule_of self.rule) (ty_view ty.now) (value_view value.now))
             result out.old.items out.new.items }
     {
-        match ty {
-            Ty::Explicit(tag, inner) => self.put_tagged(*tag, inner, value, out),
-            _ => self.put_value(ty, value, out),
+        if let Ty::Explicit(tag, inner) = ty {
+            return self.put_tagged(*tag, inner, value, out);
         }
+        self.put_value(ty, value, out)
     }
 }
 

@@ -119,8 +119,8 @@ fn order_items(alloc: Global, ty: &Ty, items: &[Value]) -> Result<Vec<Value>, No
 // The items in the order of their encodings.
 #[cycle(ordering)]
 fn sort_items(alloc: Global, ty: &Ty, items: &[Value]) -> Result<Vec<Value>, NoMemory>
-    requires sound { IsSound (ty_view ty.now) }
     requires conform { AllByRecursion (Conforms (ty_view ty.now)) (map value_view items.now) }
+    requires sound { IsSound (ty_view ty.now) }
     ensures { IfOk result (λ ordered.
         AreItemsOrderedFrom (ty_view ty.now) (map value_view items.now) (map value_view ordered.items)) }
 {

@@ -160,9 +160,9 @@ writer::Writer::put_parts-returns-else-matches t c =
                 let good : HasGoodNodes (Shape.set set.0 components) = subst HasGoodNodes is c.requires.nodes in
                 put_as rule is parts.is (written_by (put parts.slots (c.slots_in-slots.ensures parts.slots parts.is)) (λ octets h. in_declared_order rule components parts.slots octets (rule_is_canonical c.args.self.rule) good.tags.0.1 rise h))
             | writer::Writer::put_parts-else-matches-via-else-matches w ↦ elim c.match-matches.branch [
-                | writer::Writer::put_parts-in-Set x ↦ let truth = w.if-matches.false in let other = x.matches-is in cc
-                | writer::Writer::put_parts-in_default-matches x ↦ absurd (x.in_default-matches.not-Set set.0 fields set.1)
-              ]
+              | writer::Writer::put_parts-in-Set x ↦ let truth = w.if-matches.false in let other = x.matches-is in cc
+              | writer::Writer::put_parts-in_default-matches x ↦ absurd (x.in_default-matches.not-Set set.0 fields set.1)
+            ]
           ]
     ]
 
