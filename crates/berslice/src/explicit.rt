@@ -48,8 +48,8 @@ fn read_tagged(
     requires { IsGoodType (ty_view ty.now) }
     ensures { IfSome result (λ used. IsRead levels (ty_view ty.now) octets.now value.new used) }
 {
-    match ty {
-        Ty::Explicit(tag, inner) => read_under_tag(alloc, *tag, inner, levels, octets, value),
-        _ => read_one(alloc, ty, levels, octets, value),
+    if let Ty::Explicit(tag, inner) = ty {
+        return read_under_tag(alloc, *tag, inner, levels, octets, value);
     }
+    read_one(alloc, ty, levels, octets, value)
 }

@@ -12,7 +12,7 @@ ghost use Rattle.berslice.specs.Reading.{IsRead, IsItemRead, AreMoreItemsRead};
 use crate::heads::{ends_at, identifier_of, opened};
 use crate::leaf::read_leaf;
 use crate::places::Places;
-use crate::reading::{read_alternative, read_one};
+use crate::reading::{read_alternative, read_nested, read_one};
 use encoding_parts::Renewed;
 use octets::Tag;
 use std::alloc::Global;
@@ -189,5 +189,5 @@ fn read_among(
             );
         }
     }
-    read_one(alloc, ty, levels, octets, value)
+    read_nested(alloc, ty, levels, octets, value)
 }

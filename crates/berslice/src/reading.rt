@@ -76,6 +76,22 @@ pub fn read_one(
     if let Some(tag) = ty.leaf_tag() {
         return read_leaf(alloc, ty, tag, levels, octets, value);
     }
+    read_nested(alloc, ty, levels, octets, value)
+}
+
+// Reads the encoding at the front, of a type that has parts, into the value.
+#[cycle(reading)]
+#[inline(always)]
+pub fn read_nested(
+    alloc: Global,
+    ty: &Ty,
+    levels: usize,
+    octets: &[u8],
+    value: &mut Value,
+) -> Option<usize>
+    requires { IsGoodType (ty_view ty.now) }
+    ensures { IfSome result (λ used. IsRead levels (ty_view ty.now) octets.now value.new used) }
+{
     match ty {
         Ty::SequenceOf(tag, inner) | Ty::SetOf(tag, inner) => {
             read_list(alloc, *tag, inner, levels, octets, value)
@@ -105,7 +121,7 @@ pub fn read_begun(
         Some(tag) if tag == identifier.tag => {
             read_leaf_behind(alloc, ty, identifier, levels, octets, value)
         }
-        _ => read_one(alloc, ty, levels, octets, value),
+        _ => read_nested(alloc, ty, levels, octets, value),
     }
 }
 
