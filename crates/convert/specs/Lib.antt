@@ -1,26 +1,14 @@
 pub mod HexText
 pub mod HexFault
 pub mod ModuleFile
+pub use Rattle.value_stream.specs.Laws as ValuesLaws
 pub use Rattle.engine.specs.Rule
 pub use Rattle.engine.specs.Transcoding
 pub use Rattle.engine.specs.Stream
 pub use Rattle.engine.specs.Laws
 pub use Rattle.value_stream.specs.Next
 pub use Rattle.value_stream.specs.Progress
-pub use Rattle.value_stream.specs.Laws as ValuesLaws
 pub use Rattle.devices.specs.Failures
-pub use Rattle.octets.specs.Rule as EncodingRule
-pub use Rattle.octets.specs.Front
-pub use Rattle.octets.specs.Digits
-pub use Rattle.octets.specs.Identifier
-pub use Rattle.octets.specs.Length
-pub use Rattle.primitives.specs.Boolean
-pub use Rattle.primitives.specs.Integer
-pub use Rattle.primitives.specs.Null
-pub use Rattle.primitives.specs.Oid
-pub use Rattle.primitives.specs.Bits
-pub use Rattle.strings.specs.Alphabet
-pub use Rattle.strings.specs.Time
 pub use Rattle.types.specs.Refusal
 pub use Rattle.types.specs.Shape
 pub use Rattle.types.specs.View
@@ -31,3 +19,15 @@ pub use Rattle.types.specs.Form
 pub use Rattle.types.specs.Contents
 pub use Rattle.types.specs.Depth
 pub use Rattle.types.specs.Encoding
+pub use Rattle.strings.specs.Alphabet
+pub use Rattle.strings.specs.Time
+pub use Rattle.primitives.specs.Boolean
+pub use Rattle.primitives.specs.Integer
+pub use Rattle.primitives.specs.Null
+pub use Rattle.primitives.specs.Oid
+pub use Rattle.primitives.specs.Bits
+pub use Rattle.octets.specs.Front
+pub use Rattle.octets.specs.Digits
+pub use Rattle.octets.specs.Identifier
+pub use Rattle.octets.specs.Length
+pub use Rattle.octets.specs.Rule as EncodingRule

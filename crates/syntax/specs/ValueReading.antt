@@ -42,14 +42,14 @@ plain_value (hex n) = Some (hex_value n)
 plain_value (chars n) = Some (chars_value n)
 plain_value _ = None
 
-abbrev pub begins_number : Sign → Bool
-begins_number (number n) = true
-begins_number s = is_symbol Hyphen s
-
 unfoldable pub number_value_at : Reads Value
 number_value_at ts = do
   n ← signed_at ts
   Some (integer n.0, n.1)
+
+abbrev pub begins_number : Sign → Bool
+begins_number (number n) = true
+begins_number s = is_symbol Hyphen s
 
 unfoldable pub value_at : Reads Value
 value_at ts = do
