@@ -2,9 +2,11 @@
 use Rattle.std.proofs.Common.{◌≡◌, ◌⊎◌, inl, inr, ℕ, ◌+◌, ◌*◌, ◌<◌, ◌≤◌, List, [], ◌∷◌, ◌++◌, Bool, false, Vec, Global, length, take, drop, refl, sym, ◌∙◌, ap, subst, arith, All, replicate, append_assoc, append-nil, length-append}
 use Rattle.std.proofs.lemmas.List.{take-append-drop, length-take-le, length-replicate}
 use Rattle.std.proofs.lemmas.List.Elements.{All-cons, All-tail}
+use Rattle.octets.specs.declared.canonical.Canonical.{Canonical}
+use Rattle.octets.specs.declared.canonical.Canonical.TheVariants.{Cer, Der}
 use Rattle.octets.specs.declared.TheConstants.{MAX_TAG_NUMBER}
 use Rattle.octets.specs.declared.tag.Tag.{Tag}
-use Rattle.octets.specs.Rule.{Rule, cer, der, IsCanonical}
+use Rattle.octets.specs.Rule.{Rule, cer, der, IsCanonical, rule_of}
 use Rattle.octets.proofs.RuleLemmas.{cer_is_canonical}
 use Rattle.primitives.specs.Bits.{bits_of, IsBits, IsPadded}
 use Rattle.primitives.proofs.BitsLemmas.{length-bits_of, bits_of-append, IsBits-from_padded}
@@ -22,9 +24,6 @@ use Rattle.types.proofs.CerLemmas.{same_fronts, bits_by_der, bits_by_cer, one_de
 use Rattle.types.proofs.EncodingLemmas.{simple-injective}
 use Rattle.types.proofs.OneLeafEncodingLemmas.{one_string}
 use Rattle.canon.specs.Leaf.{IsLeafOf, IsLeaf, IsSimple, IsWithin, IsSimplyEncoded, IsLeafEncoding}
-use Rattle.canon.specs.Rule.{rule_of}
-use Rattle.canon.specs.declared.rule.CanonicalRule.{CanonicalRule}
-use Rattle.canon.specs.declared.rule.CanonicalRule.TheVariants.{Cer, Der}
 use Rattle.canon.specs.Size.{HasSize}
 use Rattle.canon.specs.Segments.{AreSegmentsOf, IsWholeString, IsCutString, IsStringOf}
 use Rattle.canon.proofs.AlikeLemmas.{HoldAlike, size_alike}
@@ -96,7 +95,7 @@ bits_encode tag bits unused string octets padded (inr h) = inr (record {
   constructed = h.cut.constructed;
 })
 
-pub octets_alike : (rule : CanonicalRule) (tag : Tag) (string : List ℕ) → tag.number ≤ MAX_TAG_NUMBER → All (λ octet. octet < 256) string
+pub octets_alike : (rule : Canonical) (tag : Tag) (string : List ℕ) → tag.number ≤ MAX_TAG_NUMBER → All (λ octet. octet < 256) string
     → HoldAlike (IsStringOf (rule_of rule) tag octet_segment [] [] string) (IsStringEncoding (rule_of rule) tag octet_segment AreOctets AlwaysWhole string)
 octets_alike Cer tag string kept below = record {
   to = octets_encode tag string;
@@ -112,7 +111,7 @@ octets_alike Der tag string kept below = record {
   from = λ b h. subst (λ c. IsPrimitive der tag c b) h.holds h.primitive;
 }
 
-pub bits_alike : (rule : CanonicalRule) (tag : Tag) (bits : List Bool) (unused : ℕ) (string : List ℕ) → tag.number ≤ MAX_TAG_NUMBER → IsPadded bits string unused
+pub bits_alike : (rule : Canonical) (tag : Tag) (bits : List Bool) (unused : ℕ) (string : List ℕ) → tag.number ≤ MAX_TAG_NUMBER → IsPadded bits string unused
     → HoldAlike (IsStringOf (rule_of rule) tag bit_segment (0 ∷ []) (unused ∷ []) string) (IsStringEncoding (rule_of rule) tag bit_segment (IsBits (rule_of rule)) IsWholeOctets bits)
 bits_alike Cer tag bits unused string kept padded = record {
   to = λ b h. bits_encode tag bits unused string b padded h;
@@ -129,12 +128,12 @@ bits_alike Der tag bits unused string kept padded = record {
 }
 
 -- of a value of the code
-pub bits_size : (rule : CanonicalRule) (tag : Tag) (value : Value) (bits : List Bool) (unused : ℕ) (string : List ℕ) (size : ℕ) → value ≡ value_is.Bits bits → tag.number ≤ MAX_TAG_NUMBER → IsPadded bits string unused
+pub bits_size : (rule : Canonical) (tag : Tag) (value : Value) (bits : List Bool) (unused : ℕ) (string : List ℕ) (size : ℕ) → value ≡ value_is.Bits bits → tag.number ≤ MAX_TAG_NUMBER → IsPadded bits string unused
     → HasSize (IsStringOf (rule_of rule) tag bit_segment (0 ∷ []) (unused ∷ []) string) size → HasSize (IsLeafEncoding (rule_of rule) tag (value_view value)) size
 bits_size rule tag value bits unused string size is kept padded h =
     subst (λ v. HasSize (IsLeafEncoding (rule_of rule) tag v) size) (sym (ap value_view is ∙ value-Bits bits)) (size_alike _ _ size (bits_alike rule tag bits unused string kept padded) h)
 
-pub octets_size : (rule : CanonicalRule) (tag : Tag) (value : Value) (octets : Vec ℕ Global) (size : ℕ) → (value ≡ value_is.Octets octets) ⊎ (value ≡ value_is.Text octets) → tag.number ≤ MAX_TAG_NUMBER → IsLeaf (value_view value)
+pub octets_size : (rule : Canonical) (tag : Tag) (value : Value) (octets : Vec ℕ Global) (size : ℕ) → (value ≡ value_is.Octets octets) ⊎ (value ≡ value_is.Text octets) → tag.number ≤ MAX_TAG_NUMBER → IsLeaf (value_view value)
     → HasSize (IsStringOf (rule_of rule) tag octet_segment [] [] octets.items) size → HasSize (IsLeafEncoding (rule_of rule) tag (value_view value)) size
 octets_size rule tag value octets size (inl is) kept leaf h =
     let same = ap value_view is ∙ value-Octets octets in
@@ -143,12 +142,12 @@ octets_size rule tag value octets size (inr is) kept leaf h =
     let same = ap value_view is ∙ value-Text octets in
     subst (λ v. HasSize (IsLeafEncoding (rule_of rule) tag v) size) (sym same) (size_alike _ _ size (octets_alike rule tag octets.items kept (subst IsLeaf same leaf)) h)
 
-pub bits_put : (rule : CanonicalRule) (tag : Tag) (value : Value) (bits : List Bool) (unused : ℕ) (string : List ℕ) → value ≡ value_is.Bits bits → tag.number ≤ MAX_TAG_NUMBER → IsPadded bits string unused
+pub bits_put : (rule : Canonical) (tag : Tag) (value : Value) (bits : List Bool) (unused : ℕ) (string : List ℕ) → value ≡ value_is.Bits bits → tag.number ≤ MAX_TAG_NUMBER → IsPadded bits string unused
     → (b : List ℕ) → IsStringOf (rule_of rule) tag bit_segment (0 ∷ []) (unused ∷ []) string b → IsLeafEncoding (rule_of rule) tag (value_view value) b
 bits_put rule tag value bits unused string is kept padded b h =
     subst (λ v. IsLeafEncoding (rule_of rule) tag v b) (sym (ap value_view is ∙ value-Bits bits)) ((bits_alike rule tag bits unused string kept padded).to b h)
 
-pub octets_put : (rule : CanonicalRule) (tag : Tag) (value : Value) (octets : Vec ℕ Global) → (value ≡ value_is.Octets octets) ⊎ (value ≡ value_is.Text octets) → tag.number ≤ MAX_TAG_NUMBER → IsLeaf (value_view value)
+pub octets_put : (rule : Canonical) (tag : Tag) (value : Value) (octets : Vec ℕ Global) → (value ≡ value_is.Octets octets) ⊎ (value ≡ value_is.Text octets) → tag.number ≤ MAX_TAG_NUMBER → IsLeaf (value_view value)
     → (b : List ℕ) → IsStringOf (rule_of rule) tag octet_segment [] [] octets.items b → IsLeafEncoding (rule_of rule) tag (value_view value) b
 octets_put rule tag value octets (inl is) kept leaf b h =
     let same = ap value_view is ∙ value-Octets octets in

@@ -1,10 +1,12 @@
 -- Lemmas on the tag by which an encoding is ordered.
 use Rattle.std.proofs.Common.{◌≡◌, ◌⊎◌, inl, inr, ◌≤◌, ℕ, List, [], ◌∷◌, Contains, refl, sym, subst}
+use Rattle.octets.specs.declared.canonical.Canonical.{Canonical}
+use Rattle.octets.specs.declared.canonical.Canonical.TheVariants.{Cer, Der}
 use Rattle.octets.specs.declared.identifier.Head.{Head}
 use Rattle.octets.specs.declared.identifier.Head.TheVariants.{More, Bad}
 use Rattle.octets.specs.declared.tag.Tag.{Tag}
 use Rattle.octets.specs.Identifier.{AnswersIdentifier, IsSomeIdentifier}
-use Rattle.octets.specs.Rule.{der}
+use Rattle.octets.specs.Rule.{der, rule_of}
 use Rattle.octets.specs.Tag.{ComesBefore}
 use Rattle.octets.proofs.FrontLemmas.{HasFront-from_parts}
 use Rattle.types.specs.Shape.{Val, Shape}
@@ -16,9 +18,6 @@ use Rattle.types.proofs.FirstTagLemmas.{tag_within}
 use Rattle.types.proofs.ListLemmas.{not_in_nil, contains_first, contains_cases}
 use Rattle.types.proofs.OrderLemmas.{ComesBefore-irrefl}
 use Rattle.canon.specs.Node.{HasGoodNodes}
-use Rattle.canon.specs.Rule.{rule_of}
-use Rattle.canon.specs.declared.rule.CanonicalRule.{CanonicalRule}
-use Rattle.canon.specs.declared.rule.CanonicalRule.TheVariants.{Cer, Der}
 
 -- no identifier stands at the front
 pub no_identifier : (octets : List ℕ) (h : Head) → (h ≡ More) ⊎ (h ≡ Bad) → AnswersIdentifier octets h → (t : Tag) → t.number ≤ 268_435_455 → BeginsWith t octets → ⊥
@@ -35,7 +34,7 @@ order_tag_at_front shape v octets tag good told h =
     told begins.0 (tag_within shape begins.0 good.within begins.1) begins.2
 
 -- a type with a tag of its own
-pub own_order_tag : (rule : CanonicalRule) (shape : Shape) (v : Val) (octets : List ℕ) (tag : Tag) → first_tags shape ≡ tag ∷ [] → IsEncoding (rule_of rule) shape v octets → IsOrderTag (rule_of rule) shape octets tag
+pub own_order_tag : (rule : Canonical) (shape : Shape) (v : Val) (octets : List ℕ) (tag : Tag) → first_tags shape ≡ tag ∷ [] → IsEncoding (rule_of rule) shape v octets → IsOrderTag (rule_of rule) shape octets tag
 own_order_tag Cer shape v octets tag one h =
     subst (λ tags. IsLeast tags tag) (sym one) (
       contains_first tag tag [] refl,

@@ -1,14 +1,15 @@
 -- Lemmas on values whose encodings are primitive.
 use Rattle.std.proofs.Common.{◌≡◌, ◌≤◌, ◌⊎◌, inl, inr, ◌∙◌, ◌^◌, ℕ, ℤ, FitsSigned, Bool, false, true, List, ◌++◌, length, refl, sym, ap, subst, arith, append_assoc}
 use Rattle.std.specs.Int.{w128}
+use Rattle.octets.specs.declared.canonical.Canonical.{Canonical}
+use Rattle.octets.specs.declared.canonical.Canonical.TheVariants.{Cer, Der}
 use Rattle.octets.specs.declared.TheConstants.{MAX_TAG_NUMBER}
 use Rattle.octets.specs.declared.tag.Tag.{Tag}
 use Rattle.octets.specs.Front.{Appends}
 use Rattle.octets.specs.Length.{IsShortestLength}
-use Rattle.octets.specs.Rule.{Rule, der, IsCanonical}
-use Rattle.octets.proofs.RuleLemmas.{cer_is_canonical, der_is_canonical}
+use Rattle.octets.specs.Rule.{Rule, der, IsCanonical, rule_of}
+use Rattle.octets.proofs.RuleLemmas.{rule_is_canonical}
 use Rattle.primitives.specs.Boolean.{IsBoolean, IsCanonicalBoolean}
-use Rattle.primitives.specs.Integer.{IsInteger}
 use Rattle.types.specs.declared.value.Value.{Value}
 use Rattle.types.specs.declared.value.Value as value_is
 use Rattle.types.specs.Shape.{SimpleType, SimpleValue, Val}
@@ -19,9 +20,6 @@ use Rattle.types.proofs.CanonicalLemmas.{primitive_by_cer, primitive_by_der}
 use Rattle.types.proofs.CerLemmas.{contents_by_cer, contents_by_der}
 use Rattle.types.proofs.ContentsExistenceLemmas.{simple_contents}
 use Rattle.types.proofs.ViewLemmas.{value-Integer, value-Enumerated}
-use Rattle.canon.specs.declared.rule.CanonicalRule.{CanonicalRule}
-use Rattle.canon.specs.declared.rule.CanonicalRule.TheVariants.{Cer, Der}
-use Rattle.canon.specs.Rule.{rule_of}
 use Rattle.canon.specs.Leaf.{IsContentsOf, IsSimple, IsWithin, IsPrimitiveHead, IsNumberEncoding, IsSimplyEncoded}
 use Rattle.canon.specs.Opening.{IsOpening, IsLengthPut}
 use Rattle.canon.specs.Size.{HasSize}
@@ -29,31 +27,27 @@ use Rattle.canon.proofs.OpeningLemmas.{closed_definite}
 use Rattle.canon.proofs.PrimitiveLemmas.{primitive_exists}
 use Rattle.canon.proofs.StringSizeLemmas.{SizesPrimitive}
 
-pub rule_is_canonical : (rule : CanonicalRule) → IsCanonical (rule_of rule)
-rule_is_canonical Cer = cer_is_canonical
-rule_is_canonical Der = der_is_canonical
-
 -- CER and DER have the same primitive encodings
-primitive_to_der : (rule : CanonicalRule) (tag : Tag) (contents octets : List ℕ) → IsPrimitive (rule_of rule) tag contents octets → IsPrimitive der tag contents octets
+primitive_to_der : (rule : Canonical) (tag : Tag) (contents octets : List ℕ) → IsPrimitive (rule_of rule) tag contents octets → IsPrimitive der tag contents octets
 primitive_to_der Cer tag contents octets h = primitive_by_der tag contents octets h
 primitive_to_der Der tag contents octets h = h
 
-primitive_from_der : (rule : CanonicalRule) (tag : Tag) (contents octets : List ℕ) → IsPrimitive der tag contents octets → IsPrimitive (rule_of rule) tag contents octets
+primitive_from_der : (rule : Canonical) (tag : Tag) (contents octets : List ℕ) → IsPrimitive der tag contents octets → IsPrimitive (rule_of rule) tag contents octets
 primitive_from_der Cer tag contents octets h = primitive_by_cer tag contents octets h
 primitive_from_der Der tag contents octets h = h
 
 -- and the same contents octets
-contents_to_der : (rule : CanonicalRule) (v : Val) (contents : List ℕ) → IsContentsOf (rule_of rule) v contents → IsContentsOf der v contents
+contents_to_der : (rule : Canonical) (v : Val) (contents : List ℕ) → IsContentsOf (rule_of rule) v contents → IsContentsOf der v contents
 contents_to_der Cer (Val.simple value) contents h = contents_by_der value contents h
 contents_to_der Cer v contents h = elim h [ ]
 contents_to_der Der v contents h = h
 
-contents_from_der : (rule : CanonicalRule) (v : Val) (contents : List ℕ) → IsContentsOf der v contents → IsContentsOf (rule_of rule) v contents
+contents_from_der : (rule : Canonical) (v : Val) (contents : List ℕ) → IsContentsOf der v contents → IsContentsOf (rule_of rule) v contents
 contents_from_der Cer (Val.simple value) contents h = contents_by_cer value contents h
 contents_from_der Cer v contents h = elim h [ ]
 contents_from_der Der v contents h = h
 
-pub simply_from_der : (rule : CanonicalRule) (tag : Tag) (v : Val) (octets : List ℕ) → IsSimplyEncoded der tag v octets → IsSimplyEncoded (rule_of rule) tag v octets
+pub simply_from_der : (rule : Canonical) (tag : Tag) (v : Val) (octets : List ℕ) → IsSimplyEncoded der tag v octets → IsSimplyEncoded (rule_of rule) tag v octets
 simply_from_der rule tag v octets h = record { contents = h.contents; spelt = contents_from_der rule v h.contents h.spelt; primitive = primitive_from_der rule tag h.contents octets h.primitive }
 
 -- what stands before contents octets, and they behind it
@@ -87,18 +81,18 @@ within_contents rule SimpleValue.null canonical h = let made = simple_contents r
 within_contents rule (SimpleValue.oid arcs) canonical h = let made = simple_contents rule SimpleType.oid (SimpleValue.oid arcs) canonical h in (made.0, made.1)
 within_contents rule (SimpleValue.relative_oid arcs) canonical h = let made = simple_contents rule SimpleType.relative_oid (SimpleValue.relative_oid arcs) canonical h in (made.0, made.1)
 
-contents_there : (rule : CanonicalRule) (v : Val) → IsSimple v → (contents : List ℕ) × IsContentsOf (rule_of rule) v contents
+contents_there : (rule : Canonical) (v : Val) → IsSimple v → (contents : List ℕ) × IsContentsOf (rule_of rule) v contents
 contents_there rule (Val.simple value) h = within_contents (rule_of rule) value (rule_is_canonical rule) h
 contents_there rule v h = elim h [ ]
 
-some_simple : (rule : CanonicalRule) (tag : Tag) (v : Val) (n : ℕ) → tag.number ≤ MAX_TAG_NUMBER → IsSimple v → n ≤ 2451 → ((contents : List ℕ) → IsContentsOf der v contents → length contents ≡ n) → (octets : List ℕ) × IsSimplyEncoded (rule_of rule) tag v octets
+some_simple : (rule : Canonical) (tag : Tag) (v : Val) (n : ℕ) → tag.number ≤ MAX_TAG_NUMBER → IsSimple v → n ≤ 2451 → ((contents : List ℕ) → IsContentsOf der v contents → length contents ≡ n) → (octets : List ℕ) × IsSimplyEncoded (rule_of rule) tag v octets
 some_simple rule tag v n kept simple few count =
     let some = contents_there rule v simple in
     let wide : 2 ^ 64 ≡ 18446744073709551616 = refl in
     let p = primitive_exists tag some.0 kept (omega (arith, count some.0 (contents_to_der rule v some.0 some.1), few, wide)) in
     (p.0, record { contents = some.0; spelt = some.1; primitive = primitive_from_der rule tag some.0 p.0 (primitive_by_der tag some.0 p.0 p.1) })
 
-pub simple_size : (rule : CanonicalRule) (tag : Tag) (v : Val) (n size : ℕ) → tag.number ≤ MAX_TAG_NUMBER → IsSimple v → n ≤ 2451 → ((contents : List ℕ) → IsContentsOf der v contents → length contents ≡ n) → SizesPrimitive tag n size
+pub simple_size : (rule : Canonical) (tag : Tag) (v : Val) (n size : ℕ) → tag.number ≤ MAX_TAG_NUMBER → IsSimple v → n ≤ 2451 → ((contents : List ℕ) → IsContentsOf der v contents → length contents ≡ n) → SizesPrimitive tag n size
     → HasSize (IsSimplyEncoded (rule_of rule) tag v) size
 simple_size rule tag v n size kept simple few count sizes = record {
   each = λ octets h. sizes h.contents octets (omega (arith, count h.contents (contents_to_der rule v h.contents h.spelt), few)) (primitive_to_der rule tag h.contents octets h.primitive);
@@ -124,10 +118,6 @@ number_view value number (inr is) = inr (ap value_view is ∙ value-Enumerated n
 pub number_fits : (v : Val) (number : ℤ) → IsNumber v number → IsSimple v → FitsSigned w128 number
 number_fits v number (inl is) h = subst IsSimple is h
 number_fits v number (inr is) h = subst IsSimple is h
-
-pub number_spelt : (rule : CanonicalRule) (v : Val) (number : ℤ) (contents : List ℕ) → IsNumber v number → IsContentsOf (rule_of rule) v contents → IsInteger number contents
-number_spelt rule v number contents (inl is) h = subst (λ w. IsContentsOf (rule_of rule) w contents) is h
-number_spelt rule v number contents (inr is) h = subst (λ w. IsContentsOf (rule_of rule) w contents) is h
 
 pub number_encoded : (tag : Tag) (v : Val) (number : ℤ) (octets : List ℕ) → IsNumber v number → IsNumberEncoding tag number octets → IsSimplyEncoded der tag v octets
 number_encoded tag v number octets (inl is) h = record { contents = h.contents; spelt = subst (λ w. IsContentsOf der w h.contents) (sym is) h.spelt; primitive = h.primitive }

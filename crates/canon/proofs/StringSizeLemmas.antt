@@ -1,14 +1,13 @@
 -- Lemmas on how many octets encodings of strings have.
 use Rattle.std.proofs.Common.{◌≡◌, ◌≤◌, ◌<◌, ◌^◌, ℕ, List, ◌++◌, false, inl, inr, length, min, refl, arith, length-append}
+use Rattle.octets.specs.declared.canonical.Canonical.{Canonical}
+use Rattle.octets.specs.declared.canonical.Canonical.TheVariants.{Cer, Der}
 use Rattle.octets.specs.declared.TheConstants.{MAX_TAG_NUMBER}
 use Rattle.octets.specs.declared.tag.Tag.{Tag}
-use Rattle.octets.specs.Rule.{cer, der}
+use Rattle.octets.specs.Rule.{cer, der, rule_of}
 use Rattle.types.specs.Form.{IsPrimitive}
 use Rattle.types.proofs.CanonicalLemmas.{primitive_by_der}
 use Rattle.types.proofs.FormLemmas.{length-definite}
-use Rattle.canon.specs.declared.rule.CanonicalRule.{CanonicalRule}
-use Rattle.canon.specs.declared.rule.CanonicalRule.TheVariants.{Cer, Der}
-use Rattle.canon.specs.Rule.{rule_of}
 use Rattle.canon.specs.Size.{HasSize}
 use Rattle.canon.specs.Segments.{IsCutOf, IsStringOf}
 use Rattle.canon.proofs.PrimitiveLemmas.{primitive_exists}
@@ -19,7 +18,7 @@ abbrev pub SizesPrimitive : Tag → ℕ → ℕ → Type 0
 SizesPrimitive tag contents size = (inside octets : List ℕ) → contents ≡ min (length inside) 1_048_577 → IsPrimitive der tag inside octets → size ≡ min (length octets) 1_048_577
 
 -- a string of more octets than the limit has no encoding within it
-pub long_string_size : (rule : CanonicalRule) (tag segment : Tag) (whole lead string : List ℕ) → 1_048_576 < length string → HasSize (IsStringOf (rule_of rule) tag segment whole lead string) 1_048_577
+pub long_string_size : (rule : Canonical) (tag segment : Tag) (whole lead string : List ℕ) → 1_048_576 < length string → HasSize (IsStringOf (rule_of rule) tag segment whole lead string) 1_048_577
 long_string_size Cer tag segment whole lead string long = record {
   each = λ octets h.
       elim h [

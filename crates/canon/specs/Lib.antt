@@ -1,4 +1,3 @@
-pub mod Rule
 pub mod Size
 pub mod Segments
 pub mod Leaf

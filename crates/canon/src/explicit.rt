@@ -1,20 +1,18 @@
 //! Values under explicit tags, and under further ones inside.
 
 ghost use Rattle.std.specs.Prelude.{IfOk, OnErr};
-ghost use Rattle.octets.specs.Rule.{der};
+ghost use Rattle.octets.specs.Rule.{der, rule_of};
 ghost use Rattle.types.specs.Encoding.{IsEncoding};
 ghost use Rattle.types.specs.Shape.{Shape};
 ghost use Rattle.types.specs.View.{ty_view, value_view};
 ghost use Rattle.canon.specs.Part.{Keeps};
-ghost use Rattle.canon.specs.Rule.{rule_of};
 ghost use Rattle.canon.specs.Turned.{IsTurned};
 ghost use Rattle.canon.specs.Writes.{IsWritable, Writes};
 
 use crate::heads::{put_closing, put_opening};
-use crate::rule::CanonicalRule;
 use crate::turned::{moves_often, put_turned_head, turn_forward};
 use crate::writer::Writer;
-use octets::{NoMemory, Tag};
+use octets::{Canonical, NoMemory, Tag};
 use std::alloc::Global;
 use types::{Ty, Value};
 
@@ -119,7 +117,7 @@ fn put_turned(alloc: Global, ty: &Ty, value: &Value, out: &mut Vec<u8>) -> Resul
     match ty {
         Ty::Explicit(tag, inner) => put_turned_around(alloc, *tag, inner, value, out),
         _ => {
-            let rule = CanonicalRule::Der;
+            let rule = Canonical::Der;
             Writer { alloc, rule }.put_value(ty, value, out)?;
             Ok(out.len())
         }

@@ -1,22 +1,21 @@
 //! What stands around contents octets (X.690 9.1 and 10.1).
 
 ghost use Rattle.std.specs.Prelude.{true, ◌≡◌, ◌≤◌, ◌<◌, ◌+◌, ◌-◌, ◌∷◌, [], ◌++◌, ℕ, List, length, take, drop, reverse, IfOk, OnOk, OnErr};
+ghost use Rattle.octets.specs.declared.canonical.Canonical.TheVariants.{Cer, Der};
 ghost use Rattle.octets.specs.declared.TheConstants.{MAX_TAG_NUMBER};
 ghost use Rattle.octets.specs.declared.tag.Tag.{Tag as TagOf};
 ghost use Rattle.octets.specs.Front.{Appends};
 ghost use Rattle.octets.specs.Identifier.{class_bits};
+ghost use Rattle.octets.specs.Rule.{rule_of};
 ghost use Rattle.types.specs.Form.{IsConstructed};
-ghost use Rattle.canon.specs.declared.rule.CanonicalRule.TheVariants.{Cer, Der};
 ghost use Rattle.canon.specs.Few.{Spells};
 ghost use Rattle.canon.specs.Leaf.{IsPrimitiveHead};
 ghost use Rattle.canon.specs.Opening.{IsOpening, IsBroughtForward, IsLengthPut};
 ghost use Rattle.canon.specs.Part.{Keeps};
-ghost use Rattle.canon.specs.Rule.{rule_of};
 ghost use Rattle.canon.specs.Writes.{Writes};
 
 use crate::few::{Few, put_few, put_pair};
-use crate::rule::CanonicalRule;
-use octets::{Class, NoMemory, Tag, put_identifier, put_shortest_length};
+use octets::{Canonical, Class, NoMemory, Tag, put_identifier, put_shortest_length};
 
 // Appends what stands before so many contents octets of a primitive encoding: mostly two octets.
 #[inline(always)]
@@ -141,11 +140,7 @@ fn put_long_opening(tag: Tag, constructed: bool, out: &mut Vec<u8>) -> Result<us
 // Ends the constructed encoding that was opened at `place`: by end-of-contents octets, or by a length in
 // the place of the octet 80 (X.690 9.1 and 10.1).
 #[inline(always)]
-pub(crate) fn put_closing(
-    rule: CanonicalRule,
-    place: usize,
-    out: &mut Vec<u8>,
-) -> Result<(), NoMemory>
+pub(crate) fn put_closing(rule: Canonical, place: usize, out: &mut Vec<u8>) -> Result<(), NoMemory>
     requires { place < length out.old.items }
     ensures closed { OnOk result ((tag : TagOf) (before opened inside : List ℕ) →
         IsOpening tag true before opened place → out.old.items ≡ opened ++ inside →
@@ -153,8 +148,8 @@ pub(crate) fn put_closing(
     ensures kept { OnErr result (Keeps out.old.items out.new.items) }
 {
     match rule {
-        CanonicalRule::Cer => put_end(out),
-        CanonicalRule::Der => put_length(place, out),
+        Canonical::Cer => put_end(out),
+        Canonical::Der => put_length(place, out),
     }
 }
 

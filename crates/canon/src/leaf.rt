@@ -2,11 +2,10 @@
 
 ghost use Rattle.std.specs.Prelude.{◌≤◌, ◌+◌};
 ghost use Rattle.octets.specs.declared.TheConstants.{MAX_ENCODING, MAX_TAG_NUMBER};
-ghost use Rattle.octets.specs.Rule.{der};
+ghost use Rattle.octets.specs.Rule.{der, rule_of};
 ghost use Rattle.types.specs.Shape.{SimpleValue, Val};
 ghost use Rattle.types.specs.View.{value_view};
 ghost use Rattle.canon.specs.Leaf.{IsLeaf, IsLeafEncoding, IsSimple, IsSimplyEncoded};
-ghost use Rattle.canon.specs.Rule.{rule_of};
 ghost use Rattle.canon.specs.Size.{HasSize};
 ghost use Rattle.canon.specs.Writes.{Writes};
 
@@ -14,10 +13,9 @@ use crate::contents::{put_contents, size_of_contents};
 use crate::few::put_three;
 use crate::heads::{leading_octet, put_length, put_opening, put_primitive_head};
 use crate::numbers::put_number;
-use crate::rule::CanonicalRule;
 use crate::segments::{put_octets, put_string, size_of_string};
 use crate::sizes::size_of_definite;
-use octets::{Class, NoMemory, Tag};
+use octets::{Canonical, Class, NoMemory, Tag};
 use primitives::put_boolean;
 use types::Value;
 
@@ -33,7 +31,7 @@ const OCTET_SEGMENT: Tag = Tag {
 };
 
 // How many octets the encoding of a value under `tag` has.
-pub(crate) fn size_of_leaf(rule: CanonicalRule, tag: Tag, value: &Value) -> usize
+pub(crate) fn size_of_leaf(rule: Canonical, tag: Tag, value: &Value) -> usize
     requires tag { tag.number ≤ MAX_TAG_NUMBER }
     requires leaf { IsLeaf (value_view value.now) }
     ensures at_most { result ≤ MAX_ENCODING + 1 }
@@ -56,7 +54,7 @@ pub(crate) fn size_of_leaf(rule: CanonicalRule, tag: Tag, value: &Value) -> usiz
 // Appends the encoding of a value under `tag`.
 #[inline(always)]
 pub(crate) fn put_leaf(
-    rule: CanonicalRule,
+    rule: Canonical,
     tag: Tag,
     value: &Value,
     out: &mut Vec<u8>,

@@ -3,20 +3,19 @@
 ghost use Rattle.std.specs.Prelude.{◌≤◌, map};
 ghost use Rattle.std.specs.List.{AllByRecursion};
 ghost use Rattle.octets.specs.declared.TheConstants.{MAX_TAG_NUMBER};
+ghost use Rattle.octets.specs.Rule.{rule_of};
 ghost use Rattle.types.specs.View.{value_view};
 ghost use Rattle.canon.specs.Leaf.{IsLeaf, IsLeafEncoding};
 ghost use Rattle.canon.specs.Node.{AreItems};
-ghost use Rattle.canon.specs.Rule.{rule_of};
 ghost use Rattle.canon.specs.Writes.{Writes};
 
 use crate::leaf::put_leaf;
-use crate::rule::CanonicalRule;
-use octets::{NoMemory, Tag};
+use octets::{Canonical, NoMemory, Tag};
 use types::Value;
 
 // Appends the encodings of values under `tag`, one behind another.
 pub(crate) fn put_leaves(
-    rule: CanonicalRule,
+    rule: Canonical,
     tag: Tag,
     values: &[Value],
     out: &mut Vec<u8>,

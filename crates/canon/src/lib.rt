@@ -8,10 +8,8 @@
 #![tactic(auto)]
 
 mod canon;
-mod cer;
 mod contents;
 mod copying;
-mod der;
 mod explicit;
 mod few;
 mod heads;
@@ -21,8 +19,6 @@ mod leaves;
 mod numbers;
 mod ordering;
 mod parts;
-mod put;
-mod rule;
 mod sameness;
 mod segments;
 mod size_of;
@@ -33,9 +29,7 @@ mod turned;
 mod writer;
 mod writing;
 
-pub use canon::Canon;
-pub use cer::Cer;
-pub use der::Der;
+pub use canon::{Canon, Cer, Der};
 pub use laws::equal_in_order_exactly_if_same;
 pub use ordering::order;
 pub use sameness::same;

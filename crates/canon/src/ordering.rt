@@ -14,10 +14,9 @@ ghost use Rattle.canon.specs.Span.{part_of};
 
 use crate::copying::copy_leaf;
 use crate::parts::{chosen_in, items_in, slots_in};
-use crate::rule::CanonicalRule;
 use crate::spans::{Keyed, compare, with_key_of};
 use crate::writer::Writer;
-use octets::NoMemory;
+use octets::{Canonical, NoMemory};
 use std::alloc::Global;
 use std::cmp::Ordering;
 use types::{Field, Ty, Value, WellTyped};
@@ -127,7 +126,7 @@ fn sort_items(alloc: Global, ty: &Ty, items: &[Value]) -> Result<Vec<Value>, NoM
     if items.len() < 2 {
         return order_items(alloc, ty, items);
     }
-    let rule = CanonicalRule::Der;
+    let rule = Canonical::Der;
     let writer = Writer { alloc, rule };
     let mut octets = Vec::new(alloc);
     let mut placed = Vec::new(alloc);

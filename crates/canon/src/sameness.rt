@@ -5,9 +5,8 @@ ghost use Rattle.types.specs.Conforms.{Conforms};
 ghost use Rattle.types.specs.Same.{IsSame};
 ghost use Rattle.types.specs.View.{ty_view, value_view};
 
-use crate::rule::CanonicalRule;
 use crate::writer::Writer;
-use octets::NoMemory;
+use octets::{Canonical, NoMemory};
 use std::alloc::Global;
 use types::{Value, WellTyped};
 
@@ -21,7 +20,7 @@ pub fn same(alloc: Global, ty: &WellTyped, value: &Value, other: &Value) -> Resu
         IsSame (ty_view ty.now) (value_view value.now) (value_view other.now)) }
 {
     let shape = ty.as_type();
-    let rule = CanonicalRule::Der;
+    let rule = Canonical::Der;
     let writer = Writer { alloc, rule };
     let mut first = Vec::new(alloc);
     writer.put_value(shape, value, &mut first)?;

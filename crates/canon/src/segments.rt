@@ -9,22 +9,20 @@
 
 ghost use Rattle.std.specs.Prelude.{◌≡◌, ◌≤◌, ◌<◌, ◌+◌, ◌++◌, [], ℕ, List, length, OnOk, OnErr};
 ghost use Rattle.octets.specs.declared.TheConstants.{MAX_ENCODING, MAX_TAG_NUMBER};
-ghost use Rattle.octets.specs.Rule.{cer};
+ghost use Rattle.octets.specs.Rule.{cer, rule_of};
 ghost use Rattle.types.specs.Form.{IsPrimitive};
-ghost use Rattle.canon.specs.Rule.{rule_of};
 ghost use Rattle.canon.specs.Segments.{AreLeads, AreSegmentsOf, IsCutOf, IsStringOf, SizesCut};
 ghost use Rattle.canon.specs.Size.{HasSize};
 ghost use Rattle.canon.specs.Writes.{Writes};
 
 use crate::SEGMENT_OCTETS;
 use crate::heads::put_primitive_head;
-use crate::rule::CanonicalRule;
 use crate::sizes::{size_of_definite, size_of_identifier, size_of_length};
-use octets::{MAX_ENCODING, NoMemory, Tag, put_identifier};
+use octets::{Canonical, MAX_ENCODING, NoMemory, Tag, put_identifier};
 
 // How many octets an encoding under `tag` has of a string of so many octets, after so many others that
 // its contents octets begin with.
-pub(crate) fn size_of_string(rule: CanonicalRule, tag: Tag, lead: usize, octets: usize) -> usize
+pub(crate) fn size_of_string(rule: Canonical, tag: Tag, lead: usize, octets: usize) -> usize
     requires tag { tag.number ≤ MAX_TAG_NUMBER }
     requires lead { lead ≤ 1 }
     ensures at_most { result ≤ MAX_ENCODING + 1 }
@@ -36,11 +34,11 @@ pub(crate) fn size_of_string(rule: CanonicalRule, tag: Tag, lead: usize, octets:
         return MAX_ENCODING + 1;
     }
     match rule {
-        CanonicalRule::Cer if octets > SEGMENT_OCTETS - lead => {
+        Canonical::Cer if octets > SEGMENT_OCTETS - lead => {
             size_of_cut(tag, lead, octets).min(MAX_ENCODING + 1)
         }
-        CanonicalRule::Cer => size_of_definite(tag, lead + octets),
-        CanonicalRule::Der => size_of_definite(tag, (lead + octets).min(MAX_ENCODING + 1)),
+        Canonical::Cer => size_of_definite(tag, lead + octets),
+        Canonical::Der => size_of_definite(tag, (lead + octets).min(MAX_ENCODING + 1)),
     }
 }
 
@@ -62,7 +60,7 @@ fn size_of_cut(tag: Tag, lead: usize, octets: usize) -> usize
 // Appends the encoding under `tag` of a string of `octets`, after the contents octets `lead`. Segments
 // have the tag `segment`, and all but the last begin with `whole`, which is as long as `lead`.
 pub(crate) fn put_string(
-    rule: CanonicalRule,
+    rule: Canonical,
     tag: Tag,
     segment: Tag,
     whole: &[u8],
@@ -77,17 +75,17 @@ pub(crate) fn put_string(
         result out.old.items out.new.items }
 {
     match rule {
-        CanonicalRule::Cer if octets.len() > SEGMENT_OCTETS - lead.len() => {
+        Canonical::Cer if octets.len() > SEGMENT_OCTETS - lead.len() => {
             put_cut(tag, segment, whole, lead, octets, out)
         }
-        CanonicalRule::Cer | CanonicalRule::Der => put_primitive(tag, lead, octets, out),
+        Canonical::Cer | Canonical::Der => put_primitive(tag, lead, octets, out),
     }
 }
 
 // Appends the encoding under `tag` of a string whose contents octets are `octets`.
 #[inline(always)]
 pub(crate) fn put_octets(
-    rule: CanonicalRule,
+    rule: Canonical,
     tag: Tag,
     segment: Tag,
     octets: &[u8],
@@ -98,10 +96,10 @@ pub(crate) fn put_octets(
     ensures { Writes (IsStringOf (rule_of rule) tag segment [] [] octets.now) result out.old.items out.new.items }
 {
     match rule {
-        CanonicalRule::Cer if octets.len() > SEGMENT_OCTETS => {
+        Canonical::Cer if octets.len() > SEGMENT_OCTETS => {
             put_cut(tag, segment, &[], &[], octets, out)
         }
-        CanonicalRule::Cer | CanonicalRule::Der => put_primitive(tag, &[], octets, out),
+        Canonical::Cer | Canonical::Der => put_primitive(tag, &[], octets, out),
     }
 }
 

@@ -3,23 +3,22 @@
 
 ghost use Rattle.std.specs.Prelude.{◌≤◌, ◌+◌, map};
 ghost use Rattle.octets.specs.declared.TheConstants.{MAX_ENCODING};
+ghost use Rattle.octets.specs.Rule.{rule_of};
 ghost use Rattle.types.specs.Encoding.{IsEncoding};
 ghost use Rattle.types.specs.View.{ty_view, value_view, components_view, slots_view};
 ghost use Rattle.canon.specs.Node.{AreItems, AreComponents};
-ghost use Rattle.canon.specs.Rule.{rule_of};
 ghost use Rattle.canon.specs.Size.{HasSize};
 ghost use Rattle.canon.specs.Writes.{IsWritable, AreWritable, AreWritableSlots};
 
 use crate::leaf::size_of_leaf;
 use crate::parts::{chosen_in, items_in, slots_in};
-use crate::rule::CanonicalRule;
 use crate::sizes::size_of_constructed;
-use octets::MAX_ENCODING;
+use octets::{Canonical, MAX_ENCODING};
 use types::{Field, Ty, Value};
 
 // How many octets the encoding of `value` has, or one more than the limit. Takes no memory.
 #[cycle(size)]
-pub(crate) fn size_of(rule: CanonicalRule, ty: &Ty, value: &Value) -> usize
+pub(crate) fn size_of(rule: Canonical, ty: &Ty, value: &Value) -> usize
     requires { IsWritable (ty_view ty.now) (value_view value.now) }
     ensures at_most { result ≤ MAX_ENCODING + 1 }
     ensures size { HasSize (IsEncoding (rule_of rule) (ty_view ty.now) (value_view value.now)) result }
@@ -52,7 +51,7 @@ pub(crate) fn size_of(rule: CanonicalRule, ty: &Ty, value: &Value) -> usize
 
 // How many octets the encodings of items have, one after another, or one more than the limit.
 #[cycle(size)]
-fn size_of_items(rule: CanonicalRule, ty: &Ty, items: &[Value]) -> usize
+fn size_of_items(rule: Canonical, ty: &Ty, items: &[Value]) -> usize
     requires { AreWritable (ty_view ty.now) (map value_view items.now) }
     ensures at_most { result ≤ MAX_ENCODING + 1 }
     ensures size { HasSize
@@ -69,7 +68,7 @@ fn size_of_items(rule: CanonicalRule, ty: &Ty, items: &[Value]) -> usize
 
 // How many octets the encodings of components have, or one more than the limit.
 #[cycle(size)]
-fn size_of_components(rule: CanonicalRule, fields: &[Field], slots: &[Option<Value>]) -> usize
+fn size_of_components(rule: Canonical, fields: &[Field], slots: &[Option<Value>]) -> usize
     requires { AreWritableSlots (components_view fields.now) (slots_view slots.now) }
     ensures at_most { result ≤ MAX_ENCODING + 1 }
     ensures size { HasSize

@@ -5,15 +5,13 @@ ghost use Rattle.std.specs.Prelude.{◌≡◌, ◌≤◌, ◌<◌, ◌+◌, ◌^
 ghost use Rattle.octets.specs.declared.TheConstants.{MAX_ENCODING, MAX_TAG_NUMBER};
 ghost use Rattle.octets.specs.Identifier.{IsIdentifier};
 ghost use Rattle.octets.specs.Length.{IsShortestLength};
-ghost use Rattle.octets.specs.Rule.{der};
+ghost use Rattle.octets.specs.Rule.{der, rule_of};
 ghost use Rattle.types.specs.Form.{IsConstructed, IsDefinite};
-ghost use Rattle.canon.specs.Rule.{rule_of};
 
-use crate::rule::CanonicalRule;
-use octets::{MAX_ENCODING, Tag};
+use octets::{Canonical, MAX_ENCODING, Tag};
 
 // How many octets the constructed encoding around so many contents octets has.
-pub(crate) fn size_of_constructed(rule: CanonicalRule, tag: Tag, contents: usize) -> usize
+pub(crate) fn size_of_constructed(rule: Canonical, tag: Tag, contents: usize) -> usize
     requires tag { tag.number ≤ MAX_TAG_NUMBER }
     requires at_most { contents ≤ MAX_ENCODING + 1 }
     ensures at_most { result ≤ MAX_ENCODING + 1 }
@@ -22,8 +20,8 @@ pub(crate) fn size_of_constructed(rule: CanonicalRule, tag: Tag, contents: usize
         IsConstructed (rule_of rule) tag inside octets → result ≡ min (length octets) (MAX_ENCODING + 1) }
 {
     match rule {
-        CanonicalRule::Cer => (size_of_identifier(tag) + 3 + contents).min(MAX_ENCODING + 1),
-        CanonicalRule::Der => size_of_definite(tag, contents),
+        Canonical::Cer => (size_of_identifier(tag) + 3 + contents).min(MAX_ENCODING + 1),
+        Canonical::Der => size_of_definite(tag, contents),
     }
 }
 

@@ -4,6 +4,7 @@ ghost use Rattle.std.specs.Prelude.{◌≤◌, ◌∷◌, IsTrue};
 ghost use Rattle.std.specs.List.{AllPairs};
 ghost use Rattle.octets.specs.declared.TheConstants.{MAX_TAG_NUMBER};
 ghost use Rattle.octets.specs.declared.tag.Tag.{Tag as TagOf};
+ghost use Rattle.octets.specs.Rule.{rule_of};
 ghost use Rattle.octets.specs.Tag.{ComesBefore};
 ghost use Rattle.types.specs.FirstTags.{tags_of_components};
 ghost use Rattle.types.specs.Shape.{Val};
@@ -11,14 +12,12 @@ ghost use Rattle.types.specs.Encoding.{IsEncoding};
 ghost use Rattle.types.specs.Order.{BeginsWith, IsOrderTag};
 ghost use Rattle.types.specs.View.{components_view, ty_view};
 ghost use Rattle.canon.specs.Node.{HasGoodNodes};
-ghost use Rattle.canon.specs.Rule.{rule_of};
 
-use crate::rule::CanonicalRule;
-use octets::{Head, Tag, read_identifier};
+use octets::{Canonical, Head, Tag, read_identifier};
 use types::{Field, Ty, least_tag};
 
 // The tag by which an encoding of the type is ordered. Takes no memory.
-pub(crate) fn order_tag(rule: CanonicalRule, ty: &Ty, encoding: &[u8]) -> Tag
+pub(crate) fn order_tag(rule: Canonical, ty: &Ty, encoding: &[u8]) -> Tag
     requires { HasGoodNodes (ty_view ty.now) }
     ensures { (v : Val) → IsEncoding (rule_of rule) (ty_view ty.now) v encoding.now →
         IsOrderTag (rule_of rule) (ty_view ty.now) encoding.now result }
@@ -27,8 +26,8 @@ pub(crate) fn order_tag(rule: CanonicalRule, ty: &Ty, encoding: &[u8]) -> Tag
         return tag;
     }
     match rule {
-        CanonicalRule::Cer => least_tag(ty),
-        CanonicalRule::Der => tag_at_front(encoding),
+        Canonical::Cer => least_tag(ty),
+        Canonical::Der => tag_at_front(encoding),
     }
 }
 

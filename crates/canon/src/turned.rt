@@ -4,26 +4,24 @@
 
 ghost use Rattle.std.specs.Prelude.{IsTrue, ◌≡◌, ◌≤◌, ◌++◌, length, take, drop, reverse, OnOk, OnErr};
 ghost use Rattle.octets.specs.Front.{Appends};
-ghost use Rattle.octets.specs.Rule.{der};
+ghost use Rattle.octets.specs.Rule.{der, rule_of};
 ghost use Rattle.canon.specs.Part.{Keeps};
-ghost use Rattle.canon.specs.Rule.{rule_of};
 ghost use Rattle.canon.specs.Turned.{IsTurnedHead, IsTurnedForward};
 
 use crate::few::put_pair;
 use crate::heads::{bring_forward, leading_octet};
-use crate::rule::CanonicalRule;
-use octets::{NoMemory, Tag, put_identifier, put_shortest_length};
+use octets::{Canonical, NoMemory, Tag, put_identifier, put_shortest_length};
 use types::{Ty, Value};
 
 // Whether long contents octets would move for each of four explicit tags or more, one of them around `ty`. Under CER
 // none move.
 #[inline(always)]
-pub(crate) fn moves_often(rule: CanonicalRule, ty: &Ty, value: &Value) -> bool
+pub(crate) fn moves_often(rule: Canonical, ty: &Ty, value: &Value) -> bool
     ensures { IsTrue result → rule_of rule ≡ der }
 {
     match rule {
-        CanonicalRule::Cer => false,
-        CanonicalRule::Der => is_long_under_tags(ty, value),
+        Canonical::Cer => false,
+        Canonical::Der => is_long_under_tags(ty, value),
     }
 }
 

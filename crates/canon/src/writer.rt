@@ -1,6 +1,6 @@
 //! What writes by a canonical rule.
 
-use crate::rule::CanonicalRule;
+use octets::Canonical;
 use std::alloc::Global;
 
 /// What writes by a rule.
@@ -9,5 +9,5 @@ pub(crate) struct Writer {
     /// The memory for lists of parts, by which these are put in order.
     pub alloc: Global,
     /// The rule.
-    pub rule: CanonicalRule,
+    pub rule: Canonical,
 }

@@ -2,6 +2,7 @@
 //! they stand.
 
 ghost use Rattle.std.specs.Prelude.{map, IfOk, OnErr};
+ghost use Rattle.octets.specs.Rule.{rule_of};
 ghost use Rattle.types.specs.Encoding.{IsEncoding};
 ghost use Rattle.types.specs.FirstTags.{tags_of_components, AreDistinct};
 ghost use Rattle.types.specs.Leaf.{IsLeaf};
@@ -9,7 +10,6 @@ ghost use Rattle.types.specs.Shape.{Shape};
 ghost use Rattle.types.specs.View.{ty_view, value_view, alternatives_view, components_view, slots_view};
 ghost use Rattle.canon.specs.Node.{ArePartsOf, AreItems, AreItemsInOrder, AreComponents, AreComponentsByTag};
 ghost use Rattle.canon.specs.Part.{IsPut, Keeps};
-ghost use Rattle.canon.specs.Rule.{rule_of};
 ghost use Rattle.canon.specs.Writes.{IsWritable, AreWritable, AreWritableSlots, Writes};
 
 use crate::heads::{put_closing, put_opening};

@@ -1,10 +1,10 @@
 -- A call over a stream, read by read, and what it then has done.
 use Rattle.std.proofs.Common.{◌≡◌, ◌≢◌, ℕ, ◌+◌, ◌≤◌, ◌<◌, List, [], ◌++◌, length, Option, None, Some, refl, sym, ap, ◌∙◌, arith, length-append, append-nil, subst}
 use Rattle.std.specs.Prelude.{IfSome, IfOk, IfErr, Result, Ok, Err}
-use Rattle.strict.specs.declared.canonical.Canonical.{Canonical}
 use Rattle.engine.specs.Rule.{canonical_rule_of}
 use Rattle.engine.specs.declared.stopped.Stopped.{Stopped}
 use Rattle.std.specs.Io.KnownBytes.{Appends, Consumes, Keeps, IsAtEnd}
+use Rattle.octets.specs.declared.canonical.Canonical.{Canonical}
 use Rattle.octets.specs.Front.{HasFront}
 use Rattle.octets.specs.Rule.{Rule, ber, IsCanonical}
 use Rattle.types.specs.declared.refusal.Refusal.{Refusal}
@@ -13,6 +13,7 @@ use Rattle.types.specs.Encoding.{Meaning, IsAccepted, IsSomeAccepted}
 use Rattle.types.specs.Shape.{Shape}
 use Rattle.types.specs.Stream.{IsStream}
 use Rattle.types.specs.WellFormed.{IsWellFormed}
+use Rattle.octets.proofs.RuleLemmas.{rule_is_canonical}
 use Rattle.types.proofs.ZipLemmas.{zip_map}
 use Rattle.strict.proofs.StrictLemmas.{as_ber}
 use Rattle.devices.proofs.DeviceLemmas.{appends_none, consumes_none, appends_more, consumes_more, consumes_keeps}
@@ -21,7 +22,6 @@ use Rattle.engine.specs.Feeding.{IsUnfinished}
 use Rattle.engine.specs.Given.{HasGiven}
 use Rattle.engine.specs.Passing.{Writes, PassesOn, StopsPassing, StandsAfter}
 use Rattle.engine.proofs.StreamLemmas.{written_is_stream}
-use Rattle.engine.proofs.TranscodingLemmas.{to_is_canonical}
 use Rattle.engine.proofs.PassingLemmas.{writes_none, writes_on, writes_before, refuses_plainly, other}
 
 -- before the first read
@@ -208,7 +208,7 @@ pub all_converted : (from : Rule) (to : Canonical) (shape : Shape) {E : Type 0} 
     → IfOk r (λ done. OfStream left taken taken_new (IsConverted from (canonical_rule_of to) shape done))
 all_converted from to shape (Err e) left taken taken_new well h = tt
 all_converted from to shape (Ok done) left taken taken_new well h =
-    of_stream _ (IsConverted from (canonical_rule_of to) shape done) left taken taken_new (λ stream written w. converted from (canonical_rule_of to) shape done stream written well (to_is_canonical to) w.0 w.1) h
+    of_stream _ (IsConverted from (canonical_rule_of to) shape done) left taken taken_new (λ stream written w. converted from (canonical_rule_of to) shape done stream written well (rule_is_canonical to) w.0 w.1) h
 
 pub all_listed : (IsText : Meaning) (from : Rule) (shape : Shape) {E : Type 0} (r : Result ℕ E) (left taken taken_new : Option (List ℕ))
     → IfOk r (λ done. OfStream left taken taken_new (λ stream written. Writes from shape (IsLine IsText) done stream [] written [] × (length stream ≤ most_streamed)))

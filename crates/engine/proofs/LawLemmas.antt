@@ -1,20 +1,21 @@
 -- The laws of conversions of one value.
 use Rattle.std.proofs.Common.{ℕ, List, [], refl}
+use Rattle.octets.specs.declared.canonical.Canonical.{Canonical}
 use Rattle.octets.specs.Rule as encoding
 use Rattle.types.specs.Encoding.{IsAccepted}
 use Rattle.types.specs.Same.{IsSame}
 use Rattle.types.specs.Shape.{Shape, Val}
 use Rattle.types.specs.WellFormed.{IsWellFormed}
+use Rattle.octets.proofs.RuleLemmas.{rule_is_canonical}
 use Rattle.types.proofs.EncodingLemmas.{encoding_unique}
 use Rattle.types.proofs.OneEncodingLemmas.{one_canonical}
 use Rattle.types.proofs.SameExactlyLemmas.{equal_exactly_if_same as equal_encodings}
 use Rattle.strict.proofs.StrictLemmas.{as_ber as accepted_as_ber}
 use Rattle.engine.specs.declared.rule.Rule.{Rule}
-use Rattle.strict.specs.declared.canonical.Canonical.{Canonical}
 use Rattle.engine.specs.Rule.{rule_of, canonical_rule_of}
 use Rattle.engine.specs.Laws.{EqualExactlyIfSame, StayAsTheyAre, WrittenOctetsStay}
 use Rattle.engine.specs.Transcoding.{IsTranscoded}
-use Rattle.engine.proofs.TranscodingLemmas.{to_is_canonical, as_ber, accepted_as}
+use Rattle.engine.proofs.TranscodingLemmas.{as_ber, accepted_as}
 
 -- octets have one value
 pub one_value : (shape : Shape) (v w : Val) (octets : List ℕ) → IsWellFormed shape → IsAccepted encoding.ber shape v octets → IsAccepted encoding.ber shape w octets → IsSame shape v w
@@ -28,7 +29,7 @@ becomes from to shape v octets written well h t =
 
 pub equal_exactly_if_same : EqualExactlyIfSame
 equal_exactly_if_same from other to shape v w a b x y well h g t u =
-    equal_encodings (canonical_rule_of to) shape v w x y well (to_is_canonical to) (becomes from to shape v a x well h t).encoding (becomes other to shape w b y well g u).encoding
+    equal_encodings (canonical_rule_of to) shape v w x y well (rule_is_canonical to) (becomes from to shape v a x well h t).encoding (becomes other to shape w b y well g u).encoding
 
 -- octets that a canonical rule gives a value stay, by whatever rule they are read that BER contains
 pub they_stay : (from : encoding.Rule) (to : Canonical) (shape : Shape) (v : Val) (octets : List ℕ) → IsWellFormed shape → ((w : Val) → IsAccepted from shape w octets → IsAccepted encoding.ber shape w octets)
@@ -38,11 +39,11 @@ they_stay from to shape v octets well ber h g = record {
   only = λ others t.
       let same = one_value shape v t.value octets well (ber v h) (ber t.value t.read) in
       let again = accepted_as (canonical_rule_of to) shape v t.value others well same t.put in
-      one_canonical (canonical_rule_of to) shape v others octets well (to_is_canonical to) again.encoding g.encoding;
+      one_canonical (canonical_rule_of to) shape v others octets well (rule_is_canonical to) again.encoding g.encoding;
 }
 
 pub written_octets_stay : WrittenOctetsStay
 written_octets_stay from to shape octets written well t =
     let own = canonical_rule_of to in
-    let as_ber_of = λ (w : Val) (h : IsAccepted own shape w written). accepted_as_ber own shape w written well (to_is_canonical to) h in
+    let as_ber_of = λ (w : Val) (h : IsAccepted own shape w written). accepted_as_ber own shape w written well (rule_is_canonical to) h in
     (they_stay encoding.ber to shape t.value written well (λ w h. h) (as_ber_of t.value t.put) t.put, they_stay own to shape t.value written well as_ber_of t.put t.put)

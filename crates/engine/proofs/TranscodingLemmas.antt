@@ -2,7 +2,6 @@
 use Rattle.std.proofs.Common.{◌≡◌, ℕ, ◌≤◌, ◌<◌, ◌⊎◌, List, [], ◌++◌, inl, inr, length, take, drop, refl, sym, ◌∙◌, ap, arith, append-nil, length-append}
 use Rattle.std.proofs.lemmas.List.{length-take-le}
 use Rattle.octets.specs.Rule as encoding
-use Rattle.octets.specs.Rule.{IsCanonical}
 use Rattle.types.specs.declared.refusal.Refusal.{Refusal}
 use Rattle.types.specs.declared.refusal.Refusal.TheVariants.{Truncated, NotCanonical, OutputTooLong, NoMemory}
 use Rattle.types.specs.Encoding.{IsAccepted, IsSomeAccepted}
@@ -12,20 +11,13 @@ use Rattle.types.specs.WellFormed.{IsWellFormed}
 use Rattle.types.specs.Same.{IsSame}
 use Rattle.types.proofs.EncodingLemmas.{encoding_unique}
 use Rattle.types.proofs.SameLemmas.{same_encodings}
-use Rattle.strict.specs.declared.canonical.Canonical.{Canonical}
-use Rattle.strict.specs.declared.canonical.Canonical.TheVariants.{Cer, Der}
 use Rattle.engine.specs.declared.rule.Rule.{Rule}
 use Rattle.engine.specs.declared.rule.Rule.TheVariants as reading
 use Rattle.engine.specs.Refusal.{IsOfReadingBy}
-use Rattle.engine.specs.Rule.{rule_of, canonical_rule_of}
+use Rattle.engine.specs.Rule.{rule_of}
 use Rattle.octets.proofs.FrontLemmas.{front_of_more}
 use Rattle.octets.proofs.RuleLemmas.{cer_is_canonical, der_is_canonical}
 use Rattle.strict.proofs.StrictLemmas.{as_ber as accepted_as_ber}
-
--- CER and DER by their names in code
-pub to_is_canonical : (to : Canonical) → IsCanonical (canonical_rule_of to)
-to_is_canonical Cer = cer_is_canonical
-to_is_canonical Der = der_is_canonical
 
 -- what any of the rules accepts, BER accepts
 pub as_ber : (rule : Rule) (shape : Shape) (v : Val) (octets : List ℕ) → IsWellFormed shape → IsAccepted (rule_of rule) shape v octets → IsAccepted encoding.ber shape v octets

@@ -1,12 +1,12 @@
 -- What holds of all conversions of one value.
 use Rattle.std.specs.Prelude.{◌≡◌, ◌↔◌, ℕ, List}
+use Rattle.octets.specs.declared.canonical.Canonical.{Canonical}
 use Rattle.octets.specs.Rule as encoding
 use Rattle.types.specs.Encoding.{IsAccepted}
 use Rattle.types.specs.Same.{IsSame}
 use Rattle.types.specs.Shape.{Shape, Val}
 use Rattle.types.specs.WellFormed.{IsWellFormed}
 use Rattle.engine.specs.declared.rule.Rule.{Rule}
-use Rattle.strict.specs.declared.canonical.Canonical.{Canonical}
 use Rattle.engine.specs.Rule.{rule_of, canonical_rule_of}
 use Rattle.engine.specs.Transcoding.{IsTranscoded}
 

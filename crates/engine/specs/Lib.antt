@@ -1,4 +1,4 @@
-pub use Rattle.strict.specs.declared.canonical.Canonical
+pub use Rattle.octets.specs.declared.canonical.Canonical
 pub mod Rule
 pub mod Transcoding
 pub mod Refusal

@@ -2,7 +2,7 @@
 use Rattle.octets.specs.Rule as encoding
 use Rattle.engine.specs.declared.rule.Rule.{Rule}
 use Rattle.engine.specs.declared.rule.Rule.TheVariants as reading
-pub use Rattle.strict.specs.Canonical.{rule_of as canonical_rule_of}
+pub use Rattle.octets.specs.Rule.{rule_of as canonical_rule_of}
 
 abbrev pub rule_of : Rule → encoding.Rule
 rule_of reading.Ber = encoding.ber

@@ -16,9 +16,9 @@ mod transcoding;
 
 pub use any_reader::AnyReader;
 pub use laws::{equal_results_exactly_if_same_values, written_octets_stay};
+pub use octets::Canonical;
 pub use passing::MAX_STREAM;
 pub use rule::Rule;
 pub use stopped::Stopped;
 pub use streams::{check, convert, list};
-pub use strict::Canonical;
 pub use transcoding::{read_by, transcode};

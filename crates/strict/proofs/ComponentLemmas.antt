@@ -2,8 +2,9 @@
 use Rattle.std.proofs.Common.{◌≡◌, ℕ, ◌-◌, ◌≤◌, ◌⊎◌, inl, inr, List, [], ◌∷◌, ◌++◌, Bool, Option, Some, None, Contains, length, take, drop, refl, sym, ◌∙◌, ap, subst, subst₂, arith, append_assoc, length-append}
 use Rattle.std.specs.List.{AllByRecursion, concat}
 use Rattle.std.proofs.lemmas.List.{length-take-le}
+use Rattle.octets.specs.declared.canonical.Canonical.{Canonical}
 use Rattle.octets.specs.declared.tag.Tag.{Tag}
-use Rattle.octets.specs.Rule.{Rule}
+use Rattle.octets.specs.Rule.{Rule, rule_of}
 use Rattle.octets.proofs.FrontLemmas.{front_of_more}
 use Rattle.types.specs.Shape.{Val, Slots, absent, present, Requirement, required, optional, default, component}
 use Rattle.types.specs.Conforms.{MayBeAbsent, DiffersFromDefault}
@@ -22,8 +23,6 @@ use Rattle.types.proofs.SlotLemmas.{filled, begin_apart, run_is, run_begins}
 use Rattle.types.proofs.FirstTagLemmas.{tag_within}
 use Rattle.encoding_parts.specs.Parts.{IsGoodType, IsGoodComponent}
 use Rattle.encoding_parts.specs.Segments.{BeginsAboveZero}
-use Rattle.strict.specs.declared.canonical.Canonical.{Canonical}
-use Rattle.strict.specs.Canonical.{rule_of}
 use Rattle.strict.specs.Head.{Fills, mark, EndsHere}
 use Rattle.strict.specs.Components.{HasComponents, EndsOrBegins}
 use Rattle.strict.proofs.PartLemmas.{one_of, same_part, one_begins, no_end_here, ends_here, fills_after}

@@ -1,5 +1,6 @@
 -- Lemmas on encodings of types with parts, by what stands inside.
 use Rattle.std.proofs.Common.{◌≡◌, ◌+◌, ℕ, List, [], ◌∷◌, ◌++◌, length, take, drop, refl, sym, subst}
+use Rattle.octets.specs.declared.canonical.Canonical.{Canonical}
 use Rattle.octets.specs.declared.tag.Tag.{Tag}
 use Rattle.octets.specs.Rule.{Rule}
 use Rattle.types.specs.declared.value.Value.{Value}
@@ -8,7 +9,6 @@ use Rattle.types.specs.Form.{IsConstructed}
 use Rattle.types.specs.Shape.{Val, Shape}
 use Rattle.types.specs.Encoding.{IsEncoding}
 use Rattle.encoding_parts.specs.Parts.{IsNodeFor}
-use Rattle.strict.specs.declared.canonical.Canonical.{Canonical}
 use Rattle.strict.specs.declared.head.Inside.{Inside}
 use Rattle.strict.specs.Begun.{CanBeConstructed}
 use Rattle.strict.specs.Head.{HasConstructed, IsOpened, mark}

@@ -1,5 +1,7 @@
 -- Octets that a caller may wait with, and octets behind which nothing makes them an encoding.
 use Rattle.std.proofs.Common.{◌≡◌, inl, inr, ◌+◌, ◌<◌, ◌≤◌, ℕ, Bool, true, false, List, [], ◌∷◌, length, take, refl, sym, ap, ◌∙◌, subst, arith}
+use Rattle.octets.specs.declared.canonical.Canonical.{Canonical}
+use Rattle.octets.specs.declared.canonical.Canonical.TheVariants.{Cer, Der}
 use Rattle.octets.specs.declared.TheConstants.{MAX_ENCODING}
 use Rattle.octets.specs.declared.tag.Class.TheVariants.{Universal}
 use Rattle.octets.specs.declared.tag.Tag.{Tag}
@@ -13,8 +15,6 @@ use Rattle.octets.proofs.LengthLemmas.{length_unique, IsShortestLength-short, le
 use Rattle.types.specs.Shape.{Shape, SimpleType, StringType}
 use Rattle.types.proofs.NestingLemmas.{no_length-128}
 use Rattle.encoding_parts.specs.Lengths.{CanHaveLength}
-use Rattle.strict.specs.declared.canonical.Canonical.{Canonical}
-use Rattle.strict.specs.declared.canonical.Canonical.TheVariants.{Cer, Der}
 use Rattle.strict.proofs.ShortLemmas.{short_whole}
 use Rattle.strict.specs.Begun.{IsPrimitiveBegun, IsConstructedBegun, IsFormBegun, IsTypeBegun, IsBegun}
 

@@ -1,10 +1,12 @@
 -- Lemmas on octets that end inside the encoding at their front.
 use Rattle.std.proofs.Common.{◌≡◌, inl, inr, ℕ, ◌+◌, ◌-◌, ◌<◌, ◌≤◌, List, [], ◌∷◌, ◌++◌, Bool, true, false, length, take, drop, get_or, replicate, refl, sym, ◌∙◌, ap, subst, arith, append_assoc, append-nil, length-append}
 use Rattle.std.proofs.lemmas.List.{length-replicate, length-take-le, length-drop, take_rest, take-append-drop}
+use Rattle.octets.specs.declared.canonical.Canonical.{Canonical}
+use Rattle.octets.specs.declared.canonical.Canonical.TheVariants.{Cer, Der}
 use Rattle.octets.specs.declared.tag.Tag.{Tag}
 use Rattle.octets.specs.Identifier.{IsIdentifier}
 use Rattle.octets.specs.Length.{IsShortestLength}
-use Rattle.octets.specs.Rule.{cer, der}
+use Rattle.octets.specs.Rule.{cer, der, rule_of}
 use Rattle.octets.proofs.FrontLemmas.{same_front}
 use Rattle.types.specs.declared.ty.Alternative.{Alternative}
 use Rattle.types.specs.Leaf.{tag_of, IsLeaf}
@@ -14,11 +16,8 @@ use Rattle.encoding_parts.specs.Cut.{IsLengthCut, AreContentsCut}
 use Rattle.encoding_parts.specs.Joined.{IsString}
 use Rattle.encoding_parts.specs.Parts.{IsNodeFor}
 use Rattle.encoding_parts.proofs.ChoiceLemmas.{lead_at}
-use Rattle.strict.specs.declared.canonical.Canonical.{Canonical}
-use Rattle.strict.specs.declared.canonical.Canonical.TheVariants.{Cer, Der}
 use Rattle.strict.specs.declared.head.Inside.{Inside}
 use Rattle.strict.specs.Begun.{CanBeConstructed, AreOpenContentsBegun, IsPrimitiveBegun, IsConstructedBegun, IsFormBegun, IsBehindIdentifier, IsBegun, IsConstructedCut}
-use Rattle.strict.specs.Canonical.{rule_of}
 use Rattle.strict.specs.Head.{AreFewer, IsOpened, mark}
 
 -- too few behind so many are too few

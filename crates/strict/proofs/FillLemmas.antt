@@ -1,13 +1,12 @@
 -- Lemmas on values, and the contents octets that they are of.
 use Rattle.std.proofs.Common.{◌≤◌, ℕ, List, arith, slice_range}
-use Rattle.octets.specs.Rule.{der}
+use Rattle.octets.specs.declared.canonical.Canonical.{Canonical}
+use Rattle.octets.specs.Rule.{der, rule_of}
 use Rattle.types.specs.declared.value.Value.{Value}
 use Rattle.types.specs.Shape.{Shape}
 use Rattle.types.specs.Leaf.{tag_of, IsLeaf}
 use Rattle.types.specs.View.{value_view}
 use Rattle.encoding_parts.specs.Contents.{HoldsValue}
-use Rattle.strict.specs.declared.canonical.Canonical.{Canonical}
-use Rattle.strict.specs.Canonical.{rule_of}
 use Rattle.strict.specs.Leaf.{IsPlace}
 use Rattle.strict.specs.Reading.{IsRead}
 use Rattle.strict.proofs.PlaceLemmas.{leaf_read}

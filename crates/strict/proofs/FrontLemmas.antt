@@ -1,9 +1,11 @@
 -- Lemmas on what stands at the front: a tag, or the end of contents octets.
 use Rattle.std.proofs.Common.{◌≡◌, ◌↔◌, ℕ, ◌≤◌, inl, inr, List, ◌∷◌, ◌++◌, Bool, true, false, Option, Some, None, IsTrue, Contains, MatchOption, length, take, drop, refl, sym, ◌∙◌, ap, subst, arith, append_assoc, length-append}
 use Rattle.std.proofs.lemmas.List.{length-take-le, take-append-drop}
+use Rattle.octets.specs.declared.canonical.Canonical.{Canonical}
+use Rattle.octets.specs.declared.canonical.Canonical.TheVariants.{Cer, Der}
 use Rattle.octets.specs.declared.tag.Tag.{Tag}
 use Rattle.octets.specs.Identifier.{IsIdentifier}
-use Rattle.octets.specs.Rule.{Rule, IsCanonical}
+use Rattle.octets.specs.Rule.{Rule, IsCanonical, rule_of}
 use Rattle.octets.proofs.IdentifierLemmas.{identifier_unique}
 use Rattle.types.specs.Shape.{Shape}
 use Rattle.types.specs.FirstTags.{first_tags}
@@ -13,9 +15,6 @@ use Rattle.types.proofs.FirstTagLemmas.{tag_within}
 use Rattle.encoding_parts.specs.Head.{IsTagWithin, IsReadTag}
 use Rattle.encoding_parts.specs.Parts.{IsGoodType}
 use Rattle.encoding_parts.specs.Segments.{BeginsAboveZero}
-use Rattle.strict.specs.declared.canonical.Canonical.{Canonical}
-use Rattle.strict.specs.declared.canonical.Canonical.TheVariants.{Cer, Der}
-use Rattle.strict.specs.Canonical.{rule_of}
 use Rattle.strict.specs.Head.{EndsHere}
 use Rattle.strict.specs.Components.{IsFront, EndsOrBegins}
 use Rattle.strict.specs.Reading.{HasPart}

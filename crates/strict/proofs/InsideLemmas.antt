@@ -2,21 +2,20 @@
 use Rattle.std.proofs.Common.{◌≡◌, ℕ, ◌+◌, ◌-◌, ◌≤◌, inr, List, [], ◌∷◌, ◌++◌, Bool, true, false, length, take, drop, refl, sym, ◌∙◌, ap, subst, arith, append_assoc, append-nil, length-append}
 use Rattle.std.proofs.Math.Seq.{take-add}
 use Rattle.std.proofs.lemmas.List.{length-take-le, length-drop, drop-drop}
+use Rattle.octets.specs.declared.canonical.Canonical.{Canonical}
+use Rattle.octets.specs.declared.canonical.Canonical.TheVariants.{Cer, Der}
 use Rattle.octets.specs.declared.tag.Tag.{Tag}
 use Rattle.octets.specs.Identifier.{IsIdentifier}
-use Rattle.octets.specs.Rule.{Rule, cer, der}
+use Rattle.octets.specs.Rule.{Rule, cer, der, rule_of}
 use Rattle.octets.proofs.FrontLemmas.{front_of_more}
 use Rattle.octets.proofs.IdentifierLemmas.{identifier_unique}
 use Rattle.types.specs.Form.{IsConstructed}
 use Rattle.types.proofs.NestingLemmas.{parts_of_indefinite}
 use Rattle.encoding_parts.specs.Head.{IsTagWithin, IsExtentWithin, IsReadIndefinite}
 use Rattle.types.specs.declared.refusal.Refusal.{Refusal}
-use Rattle.strict.specs.declared.canonical.Canonical.{Canonical}
-use Rattle.strict.specs.declared.canonical.Canonical.TheVariants.{Cer, Der}
 use Rattle.strict.specs.declared.head.Inside.{Inside}
 use Rattle.strict.specs.Bars.{RefusesStrictly}
 use Rattle.strict.specs.Begun.{IsConstructedCut}
-use Rattle.strict.specs.Canonical.{rule_of}
 use Rattle.strict.specs.Head.{HasDefinite, IsDefiniteAt, HasConstructed, IsOpened, Fills, mark, EndsHere}
 use Rattle.strict.proofs.BarsLemmas.{refused_by}
 

@@ -9,8 +9,9 @@ use Rattle.std.specs.Cmp.Lexicographic.{slice_cmp}
 use Rattle.std.proofs.Math.Seq.{take-add}
 use Rattle.std.proofs.lemmas.List.{length-take-le, length-drop, drop-drop, map-append}
 use Rattle.std.proofs.lemmas.List.Sorted.{IsPermutation-refl}
+use Rattle.octets.specs.declared.canonical.Canonical.{Canonical}
 use Rattle.octets.specs.declared.tag.Tag.{Tag}
-use Rattle.octets.specs.Rule.{Rule}
+use Rattle.octets.specs.Rule.{Rule, rule_of}
 use Rattle.octets.proofs.FrontLemmas.{front_of_more}
 use Rattle.types.specs.declared.value.Value.{Value}
 use Rattle.types.specs.declared.value.Value as value
@@ -28,8 +29,6 @@ use Rattle.types.proofs.ViewLemmas.{value-Items, listed-items_of}
 use Rattle.types.proofs.ZipLemmas.{zip_permutes}
 use Rattle.encoding_parts.specs.Parts.{IsGoodType}
 use Rattle.encoding_parts.specs.Segments.{BeginsAboveZero}
-use Rattle.strict.specs.declared.canonical.Canonical.{Canonical}
-use Rattle.strict.specs.Canonical.{rule_of}
 use Rattle.strict.specs.Head.{Fills, mark, EndsHere}
 use Rattle.strict.specs.Inside.{HasInside, IsInsideRead, list_of}
 use Rattle.strict.specs.Reading.{IsRead, HasPart}

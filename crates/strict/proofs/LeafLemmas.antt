@@ -1,8 +1,10 @@
 -- Lemmas on encodings of types without parts: they are primitive, or CER cuts them.
 use Rattle.std.proofs.Common.{◌≡◌, ◌⊎◌, inl, inr, ℕ, List, ◌++◌, Bool, true, false, replicate, take, refl, sym, ◌∙◌, ap, subst, append-nil}
+use Rattle.octets.specs.declared.canonical.Canonical.{Canonical}
+use Rattle.octets.specs.declared.canonical.Canonical.TheVariants.{Cer, Der}
 use Rattle.octets.specs.declared.tag.Tag.{Tag}
 use Rattle.octets.specs.Identifier.{IsIdentifier}
-use Rattle.octets.specs.Rule.{cer, der}
+use Rattle.octets.specs.Rule.{cer, der, rule_of}
 use Rattle.octets.proofs.RuleLemmas.{cer_is_canonical, der_is_canonical}
 use Rattle.types.specs.Shape.{StringType, StringValue, Shape, Val}
 use Rattle.types.specs.Conforms.{Conforms}
@@ -17,9 +19,6 @@ use Rattle.encoding_parts.specs.declared.joined.Kind.TheVariants.{Bits, Octets}
 use Rattle.encoding_parts.specs.Head.{IsTagWithin}
 use Rattle.encoding_parts.specs.Joined.{IsStringOf}
 use Rattle.encoding_parts.proofs.LeafLemmas.{simple_contents, contents_of_simple}
-use Rattle.strict.specs.declared.canonical.Canonical.{Canonical}
-use Rattle.strict.specs.declared.canonical.Canonical.TheVariants.{Cer, Der}
-use Rattle.strict.specs.Canonical.{rule_of}
 use Rattle.strict.specs.Head.{HasDefinite, HasConstructed}
 use Rattle.strict.specs.Leaf.{IsPrimitiveLeaf, HasPrimitive, IsCutLeaf, HasCut}
 use Rattle.strict.specs.Reading.{HasPart}

@@ -2,10 +2,11 @@
 use Rattle.std.proofs.Common.{◌≡◌, ℕ, ◌+◌, ◌-◌, ◌≤◌, List, ◌++◌, false, length, take, drop, sym, ◌∙◌, ap, subst, arith, slice_range, length-append}
 use Rattle.std.proofs.Math.Seq.{take-add}
 use Rattle.std.proofs.lemmas.List.{length-take-le, length-drop, drop-drop}
+use Rattle.octets.specs.declared.canonical.Canonical.{Canonical}
 use Rattle.octets.specs.declared.tag.Tag.{Tag}
 use Rattle.octets.specs.Identifier.{IsIdentifier}
 use Rattle.octets.specs.Length.{IsShortestLength}
-use Rattle.octets.specs.Rule.{ber, der}
+use Rattle.octets.specs.Rule.{ber, der, rule_of}
 use Rattle.octets.proofs.FrontLemmas.{same_front, front_of_more}
 use Rattle.types.specs.declared.value.Value.{Value}
 use Rattle.types.specs.Shape.{Shape, Val}
@@ -17,8 +18,6 @@ use Rattle.encoding_parts.specs.Contents.{HoldsContents}
 use Rattle.encoding_parts.specs.Head.{IsReadDefinite}
 use Rattle.encoding_parts.specs.Lengths.{CanHaveLength}
 use Rattle.encoding_parts.proofs.ContentsLengthLemmas.{simple_length, string_length}
-use Rattle.strict.specs.declared.canonical.Canonical.{Canonical}
-use Rattle.strict.specs.Canonical.{rule_of}
 use Rattle.strict.specs.Head.{HasDefinite, IsDefiniteAt}
 use Rattle.strict.specs.Leaf.{IsWhole, HasPrimitive, IsPlace}
 use Rattle.strict.specs.Reading.{IsRead}

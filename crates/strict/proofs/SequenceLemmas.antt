@@ -3,8 +3,9 @@ use Rattle.std.proofs.Common.{◌≡◌, ℕ, ◌+◌, ◌-◌, ◌≤◌, inl, 
 use Rattle.std.specs.List.{AllByRecursion, concat}
 use Rattle.std.proofs.Math.Seq.{take-add}
 use Rattle.std.proofs.lemmas.List.{length-drop, drop-drop, drop_all, take_all}
+use Rattle.octets.specs.declared.canonical.Canonical.{Canonical}
 use Rattle.octets.specs.declared.tag.Tag.{Tag}
-use Rattle.octets.specs.Rule.{Rule, ber, cer, der}
+use Rattle.octets.specs.Rule.{Rule, ber, cer, der, rule_of}
 use Rattle.types.specs.declared.value.Value.{Value}
 use Rattle.types.specs.declared.value.Value as value
 use Rattle.types.specs.declared.ty.Field.{Field}
@@ -18,8 +19,6 @@ use Rattle.types.specs.View.{ComponentView, value_view, field_view, components_o
 use Rattle.types.proofs.ViewLemmas.{value-Fields}
 use Rattle.encoding_parts.specs.Parts.{IsGoodType, IsGoodComponent}
 use Rattle.encoding_parts.proofs.PartsOpenLemmas.{components_good}
-use Rattle.strict.specs.declared.canonical.Canonical.{Canonical}
-use Rattle.strict.specs.Canonical.{rule_of}
 use Rattle.strict.specs.Head.{Fills, mark, EndsHere}
 use Rattle.strict.specs.Inside.{HasInside, IsInsideRead}
 use Rattle.strict.specs.Components.{HasPresent, IsPresentRead, HasComponents, AreComponentsRead}

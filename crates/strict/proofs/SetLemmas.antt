@@ -4,8 +4,9 @@ use Rattle.std.specs.List.{AllByRecursion}
 use Rattle.std.proofs.Math.Seq.{take-add}
 use Rattle.std.proofs.lemmas.List.{length-drop, drop-drop, take_rest}
 use Rattle.std.proofs.lemmas.List.Sorted.{IsPermutation-refl, IsPermutation-sym, IsPermutation-trans, IsPermutation-cons, IsPermutation-swap, IsPermutation-to_front}
+use Rattle.octets.specs.declared.canonical.Canonical.{Canonical}
 use Rattle.octets.specs.declared.tag.Tag.{Tag}
-use Rattle.octets.specs.Rule.{Rule, IsCanonical}
+use Rattle.octets.specs.Rule.{Rule, IsCanonical, rule_of}
 use Rattle.octets.specs.Tag.{ComesBefore}
 use Rattle.types.specs.declared.ty.Field.{Field}
 use Rattle.types.specs.declared.value.Value.{Value}
@@ -28,8 +29,6 @@ use Rattle.encoding_parts.specs.HeldParts.{members_view}
 use Rattle.encoding_parts.specs.Parts.{IsVacant, IsGoodType, IsGoodComponent}
 use Rattle.encoding_parts.proofs.PartsOpenLemmas.{components_good}
 use Rattle.encoding_parts.proofs.SetComponentLemmas.{AreFilled}
-use Rattle.strict.specs.declared.canonical.Canonical.{Canonical}
-use Rattle.strict.specs.Canonical.{rule_of}
 use Rattle.strict.specs.Head.{EndsHere}
 use Rattle.strict.specs.Inside.{HasInside, IsInsideRead}
 use Rattle.strict.specs.Components.{IsFront, IsPresentRead}

@@ -3,6 +3,8 @@
 -- (8.13), and under an explicit tag those of the tag (8.14). The encoding has at most `room` octets, `taken` of which
 -- stand before these.
 use Rattle.std.specs.Prelude.{◌≡◌, ◌⊎◌, ⊤, ℕ, ◌+◌, ◌<◌, Bool, true, false, List, ◌∷◌, ◌++◌, length}
+use Rattle.octets.specs.declared.canonical.Canonical.{Canonical}
+use Rattle.octets.specs.declared.canonical.Canonical.TheVariants.{Cer, Der}
 use Rattle.octets.specs.declared.tag.Tag.{Tag}
 use Rattle.octets.specs.Identifier.{IsIdentifier}
 use Rattle.octets.specs.Length.{IsShortestLength}
@@ -11,8 +13,6 @@ use Rattle.types.specs.Shape.{Shape}
 use Rattle.encoding_parts.specs.Cut.{IsIdentifierCut, IsLengthCut, AreContentsCut}
 use Rattle.encoding_parts.specs.Lengths.{CanHaveLength}
 use Rattle.encoding_parts.specs.Parts.{IsNodeFor}
-use Rattle.strict.specs.declared.canonical.Canonical.{Canonical}
-use Rattle.strict.specs.declared.canonical.Canonical.TheVariants.{Cer, Der}
 use Rattle.strict.specs.Leaf.{IsWhole}
 
 -- an encoding of the node can be constructed: of those without parts only a string's, under CER (9.2 and 10.2)

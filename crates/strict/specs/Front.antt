@@ -1,7 +1,9 @@
 -- What a read of the one encoding at the front of some octets returns.
 use Rattle.std.specs.Prelude.{◌≡◌, ◌≤◌, ◌++◌, ℕ, List, Result, Err, IfOk, IfErr, length, take}
+use Rattle.octets.specs.declared.canonical.Canonical.{Canonical}
 use Rattle.octets.specs.declared.TheConstants.{MAX_ENCODING}
 use Rattle.octets.specs.Front.{HasFront}
+use Rattle.octets.specs.Rule.{rule_of}
 use Rattle.types.specs.declared.refusal.Refusal.{Refusal}
 use Rattle.types.specs.declared.refusal.Refusal.TheVariants.{Truncated}
 use Rattle.types.specs.declared.value.Value.{Value}
@@ -10,9 +12,7 @@ use Rattle.types.specs.Refusal.{IsFinal}
 use Rattle.types.specs.Same.{IsSame}
 use Rattle.types.specs.Shape.{Val, Shape}
 use Rattle.types.specs.View.{value_view}
-use Rattle.strict.specs.declared.canonical.Canonical.{Canonical}
 use Rattle.strict.specs.Begun.{IsBegun}
-use Rattle.strict.specs.Canonical.{rule_of}
 use Rattle.strict.specs.Refusal.{IsOfStrictReading}
 
 -- the value and how many octets its encoding has, which no other encoding at the front has, or a refusal

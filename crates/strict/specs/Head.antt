@@ -1,11 +1,11 @@
 -- Encodings at the front by their identifier octets and length octets, and where their contents octets end.
 use Rattle.std.specs.Prelude.{◌≡◌, ◌+◌, ◌<◌, ◌≤◌, ⊤, ℕ, Bool, true, false, List, [], ◌∷◌, ◌++◌, length, take, drop}
+use Rattle.octets.specs.declared.canonical.Canonical.{Canonical}
+use Rattle.octets.specs.declared.canonical.Canonical.TheVariants.{Cer, Der}
 use Rattle.octets.specs.declared.tag.Tag.{Tag}
 use Rattle.octets.specs.Rule.{Rule, ber, cer, der}
 use Rattle.types.specs.Form.{IsDefinite, IsConstructed}
 use Rattle.octets.specs.declared.TheConstants.{MAX_ENCODING}
-use Rattle.strict.specs.declared.canonical.Canonical.{Canonical}
-use Rattle.strict.specs.declared.canonical.Canonical.TheVariants.{Cer, Der}
 use Rattle.strict.specs.declared.head.Inside.{Inside}
 
 -- the octets begin with an encoding of the definite form

@@ -1,5 +1,7 @@
 -- Encodings of types without parts under the canonical rules: primitive ones, and strings that CER cuts (X.690 9.2).
 use Rattle.std.specs.Prelude.{◌≡◌, ◌≤◌, ⊤, ℕ, Bool, false, List, ◌++◌, length, take, drop, slice_range}
+use Rattle.octets.specs.declared.canonical.Canonical.{Canonical}
+use Rattle.octets.specs.declared.canonical.Canonical.TheVariants.{Cer}
 use Rattle.octets.specs.declared.tag.Tag.{Tag}
 use Rattle.octets.specs.Rule.{cer, der}
 use Rattle.primitives.specs.Bits.{IsBits}
@@ -15,8 +17,6 @@ use Rattle.encoding_parts.specs.declared.joined.Kind.{Kind}
 use Rattle.encoding_parts.specs.declared.joined.Kind.TheVariants.{Bits, Octets}
 use Rattle.encoding_parts.specs.Contents.{HoldsContents}
 use Rattle.encoding_parts.specs.Joined.{Element, segment_of, IsWholePiece, typed}
-use Rattle.strict.specs.declared.canonical.Canonical.{Canonical}
-use Rattle.strict.specs.declared.canonical.Canonical.TheVariants.{Cer}
 use Rattle.strict.specs.Head.{HasDefinite}
 
 -- so many contents octets are not to be cut: of a string CER takes 1000 at most

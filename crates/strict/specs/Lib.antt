@@ -1,5 +1,4 @@
 pub mod Refusal
-pub mod Canonical
 pub mod Bars
 pub mod Head
 pub mod Leaf

@@ -1,15 +1,14 @@
 -- A value that has been read at the front of some octets, what can stand there, and why it cannot.
 use Rattle.std.specs.Prelude.{◌≡◌, ◌≤◌, ℕ, Bool, List, ◌++◌, length, take}
-use Rattle.octets.specs.Rule.{Rule}
+use Rattle.octets.specs.declared.canonical.Canonical.{Canonical}
+use Rattle.octets.specs.Rule.{Rule, rule_of}
 use Rattle.types.specs.declared.refusal.Refusal.{Refusal}
 use Rattle.types.specs.declared.value.Value.{Value}
 use Rattle.types.specs.Shape.{Val, Shape}
 use Rattle.types.specs.View.{AlternativeView, alternatives_of, value_view}
 use Rattle.types.specs.Encoding.{IsEncoding, IsAlternativeEncoding}
-use Rattle.strict.specs.declared.canonical.Canonical.{Canonical}
 use Rattle.strict.specs.Bars.{RefusesStrictly}
 use Rattle.strict.specs.Begun.{IsBegun}
-use Rattle.strict.specs.Canonical.{rule_of}
 use Rattle.strict.specs.Head.{Fills, mark}
 
 -- so many octets are an encoding of the value

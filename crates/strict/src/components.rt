@@ -2,26 +2,25 @@
 
 ghost use Rattle.std.specs.Prelude.{◌<◌, ◌≤◌, length, map, IfOk, IfErr, IfSome};
 ghost use Rattle.std.specs.List.{AllByRecursion};
+ghost use Rattle.octets.specs.declared.canonical.Canonical.{Canonical};
 ghost use Rattle.octets.specs.declared.TheConstants.{MAX_ENCODING};
 ghost use Rattle.octets.specs.declared.tag.Tag.{Tag};
+ghost use Rattle.octets.specs.Rule.{rule_of};
 ghost use Rattle.types.specs.FirstTags.{RunsAreDistinct};
 ghost use Rattle.types.specs.Shape.{Shape};
 ghost use Rattle.types.specs.View.{components_view, field_view};
 ghost use Rattle.encoding_parts.specs.Parts.{IsGoodComponent};
-ghost use Rattle.strict.specs.declared.canonical.Canonical.{Canonical};
-ghost use Rattle.strict.specs.Canonical.{rule_of};
 ghost use Rattle.strict.specs.Bars.{RefusesStrictly};
 ghost use Rattle.strict.specs.Head.{AreFewer};
 ghost use Rattle.strict.specs.Inside.{IsInsideRead};
 ghost use Rattle.strict.specs.Components.{HasPresent, IsPresentRead, HasComponents, IsComponentRead, HasComponentFirst};
 
-use crate::canonical::Canonical;
 use crate::filling::read_shortly;
 use crate::fronts::{front_tag, left_over, stands_next, why_not_read};
 use crate::head::Inside;
 use crate::parts::read_one;
 use encoding_parts::{clear, is_default, take_slots};
-use octets::MAX_ENCODING;
+use octets::{Canonical, MAX_ENCODING};
 use std::alloc::Global;
 use types::{Field, Refusal, Value, may_be_absent};
 

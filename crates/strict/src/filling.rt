@@ -1,12 +1,11 @@
 //! Values of contents octets, made where they stay: a value is large to hand on.
 
 ghost use Rattle.std.specs.Prelude.{◌≡◌, length, IsTrue, IfSome};
-ghost use Rattle.octets.specs.Rule.{der};
+ghost use Rattle.octets.specs.declared.canonical.Canonical.{Canonical};
+ghost use Rattle.octets.specs.Rule.{der, rule_of};
 ghost use Rattle.types.specs.Leaf.{tag_of, IsLeaf};
 ghost use Rattle.types.specs.View.{ty_view, value_view};
 ghost use Rattle.encoding_parts.specs.Contents.{HoldsValue};
-ghost use Rattle.strict.specs.declared.canonical.Canonical.{Canonical};
-ghost use Rattle.strict.specs.Canonical.{rule_of};
 ghost use Rattle.strict.specs.Leaf.{IsBitsOf, IsBooleanOf};
 ghost use Rattle.strict.specs.Reading.{IsRead};
 

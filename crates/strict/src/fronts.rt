@@ -1,13 +1,13 @@
 //! What stands at the front where a component must begin or the contents octets end.
 
 ghost use Rattle.std.specs.Prelude.{◌≡◌, ◌↔◌, ◌⊎◌, Option, Contains, IsTrue, IfOk, IfErr, MatchOption};
+ghost use Rattle.octets.specs.declared.canonical.Canonical.{Canonical};
 ghost use Rattle.octets.specs.declared.tag.Tag.{Tag};
+ghost use Rattle.octets.specs.Rule.{rule_of};
 ghost use Rattle.types.specs.FirstTags.{first_tags};
 ghost use Rattle.types.specs.Refusal.{IsFinal};
 ghost use Rattle.types.specs.View.{ty_view};
 ghost use Rattle.encoding_parts.specs.Parts.{IsGoodType};
-ghost use Rattle.strict.specs.declared.canonical.Canonical.{Canonical};
-ghost use Rattle.strict.specs.Canonical.{rule_of};
 ghost use Rattle.strict.specs.Bars.{RefusesStrictly};
 ghost use Rattle.strict.specs.Components.{IsFront, EndsOrBegins};
 ghost use Rattle.strict.specs.Head.{AreFewer};

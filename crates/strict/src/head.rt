@@ -4,17 +4,16 @@ ghost use Rattle.std.specs.Prelude.{◌≡◌, ◌↔◌, ◌+◌, ◌^◌, ◌<
 ghost use Rattle.octets.specs.declared.TheConstants.{MAX_ENCODING, MAX_TAG_NUMBER};
 ghost use Rattle.octets.specs.declared.tag.Tag.{Tag};
 ghost use Rattle.octets.specs.Length.{IsLength, IsShortestLength};
+ghost use Rattle.octets.specs.Rule.{rule_of};
 ghost use Rattle.encoding_parts.specs.Head.{IsExtentWithin, IsReadDefinite, IsReadTag, IsTagWithin};
-ghost use Rattle.strict.specs.Canonical.{rule_of};
 ghost use Rattle.strict.specs.Bars.{RefusesStrictly, StandsFor};
 ghost use Rattle.strict.specs.Head.{IsDefiniteAt, HasDefinite, IsInsideDefinite, IsOpened, HasConstructed, mark};
 ghost use Rattle.encoding_parts.specs.Cut.{IsIdentifierCut, IsLengthCut};
 ghost use Rattle.strict.specs.Begun.{IsConstructedCut};
 
-use crate::canonical::Canonical;
 use crate::short::short_opened;
 use encoding_parts::{Extent, not_due, read_extent, read_head_tag};
-use octets::{MAX_ENCODING, Tag};
+use octets::{Canonical, MAX_ENCODING, Tag};
 use types::Refusal;
 
 /// A constructed encoding of which the identifier octets and length octets have been read.

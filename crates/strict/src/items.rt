@@ -5,22 +5,21 @@ ghost use Rattle.std.specs.Ordering.{nat_cmp, is_lt};
 ghost use Rattle.std.specs.Cmp.Lexicographic.{slice_cmp};
 ghost use Rattle.octets.specs.declared.TheConstants.{MAX_ENCODING};
 ghost use Rattle.octets.specs.declared.tag.Tag.{Tag};
+ghost use Rattle.octets.specs.Rule.{rule_of};
 ghost use Rattle.types.specs.View.{ty_view};
 ghost use Rattle.encoding_parts.specs.Parts.{IsGoodType};
 ghost use Rattle.encoding_parts.specs.Renewed.{new_items};
-ghost use Rattle.strict.specs.Canonical.{rule_of};
 ghost use Rattle.strict.specs.Bars.{RefusesStrictly};
 ghost use Rattle.strict.specs.Head.{AreFewer};
 ghost use Rattle.strict.specs.Inside.{IsInsideRead, list_of};
 ghost use Rattle.strict.specs.Items.{HasItems, IsItemRead};
 ghost use Rattle.strict.specs.Reading.{RefusesPart};
 
-use crate::canonical::Canonical;
 use crate::ends::ends;
 use crate::head::Inside;
 use crate::parts::read_one;
 use encoding_parts::Renewed;
-use octets::MAX_ENCODING;
+use octets::{Canonical, MAX_ENCODING};
 use std::alloc::Global;
 use types::{Refusal, Ty, Value};
 

@@ -4,22 +4,21 @@
 ghost use Rattle.std.specs.Prelude.{◌≡◌, ◌↔◌, ◌+◌, ◌≤◌, ℕ, false, IfOk, IfErr, drop};
 ghost use Rattle.octets.specs.declared.TheConstants.{MAX_ENCODING};
 ghost use Rattle.octets.specs.declared.tag.Tag.{Tag};
+ghost use Rattle.octets.specs.Rule.{rule_of};
 ghost use Rattle.types.specs.Leaf.{tag_of, IsLeaf};
 ghost use Rattle.types.specs.View.{ty_view};
 ghost use Rattle.encoding_parts.specs.Head.{IsReadTag};
 ghost use Rattle.encoding_parts.specs.Parts.{IsGoodType};
 ghost use Rattle.strict.specs.Bars.{RefusesStrictly, StandsFor};
-ghost use Rattle.strict.specs.Canonical.{rule_of};
 ghost use Rattle.strict.specs.Leaf.{HasPrimitive, IsPlace, IsWhole};
 ghost use Rattle.strict.specs.Reading.{RefusesPart, IsRead};
 ghost use Rattle.strict.specs.Begun.{IsPrimitiveBegun};
 
-use crate::canonical::Canonical;
 use crate::head::{is_inside_definite, is_shortest, read_its_tag, read_size};
 use crate::segments::{SEGMENT_OCTETS, read_cut};
 use crate::values::read_value;
 use encoding_parts::{can_have_length, contents_refusal, kind_of};
-use octets::{Length, MAX_ENCODING, Tag, read_length};
+use octets::{Canonical, Length, MAX_ENCODING, Tag, read_length};
 use std::alloc::Global;
 use types::{Refusal, Ty, Value};
 

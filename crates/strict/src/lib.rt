@@ -5,7 +5,6 @@
 //! values.
 #![tactic(auto)]
 
-mod canonical;
 mod components;
 mod ends;
 mod filling;
@@ -21,5 +20,4 @@ mod short;
 mod tags;
 mod values;
 
-pub use canonical::Canonical;
 pub use reading::{read_canonical, read_cer, read_der, read_into};

@@ -7,20 +7,19 @@ ghost use Rattle.types.specs.FirstTags.{AreDistinct, tags_of_components};
 ghost use Rattle.types.specs.View.{field_view, components_view};
 ghost use Rattle.types.specs.Shape.{Shape};
 ghost use Rattle.encoding_parts.specs.Parts.{IsGoodComponent};
-ghost use Rattle.strict.specs.Canonical.{rule_of};
 ghost use Rattle.strict.specs.Bars.{RefusesStrictly};
 ghost use Rattle.strict.specs.Head.{AreFewer};
 ghost use Rattle.strict.specs.Inside.{IsInsideRead};
 ghost use Rattle.strict.specs.Members.{HasMembers};
 ghost use Rattle.octets.specs.declared.TheConstants.{MAX_ENCODING};
+ghost use Rattle.octets.specs.Rule.{rule_of};
 
-use crate::canonical::Canonical;
 use crate::components::read_present;
 use crate::fronts::front_tag;
 use crate::head::Inside;
 use crate::tags::{comes_behind, order_tag};
 use encoding_parts::{SetComponents, emptied_slots};
-use octets::MAX_ENCODING;
+use octets::{Canonical, MAX_ENCODING};
 use std::alloc::Global;
 use types::{Field, Refusal, Value};
 

@@ -2,16 +2,15 @@
 
 ghost use Rattle.std.specs.Prelude.{◌-◌, ◌≤◌, drop, IfOk, IfErr};
 ghost use Rattle.octets.specs.declared.TheConstants.{MAX_ENCODING};
+ghost use Rattle.octets.specs.Rule.{rule_of};
 ghost use Rattle.types.specs.Shape.{Shape};
 ghost use Rattle.types.specs.View.{alternatives_view, ty_view};
 ghost use Rattle.encoding_parts.specs.Parts.{IsGoodType};
-ghost use Rattle.strict.specs.Canonical.{rule_of};
 ghost use Rattle.strict.specs.Bars.{RefusesStrictly};
 ghost use Rattle.strict.specs.Head.{EndsHere, AreFewer};
 ghost use Rattle.strict.specs.Inside.{HasParts, HasInside, IsInsideRead};
 ghost use Rattle.strict.specs.Reading.{IsRead, RefusesPart, HasAlone};
 
-use crate::canonical::Canonical;
 use crate::components::read_components;
 use crate::filling::read_shortly;
 use crate::fronts::front_tag;
@@ -20,7 +19,7 @@ use crate::items::read_items;
 use crate::leaf::read_leaf;
 use crate::members::read_members;
 use encoding_parts::{by_tag, choose, not_due, read_head_tag};
-use octets::MAX_ENCODING;
+use octets::{Canonical, MAX_ENCODING};
 use std::alloc::Global;
 use types::{Alternative, Refusal, Ty, Value};
 

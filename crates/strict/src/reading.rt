@@ -9,14 +9,13 @@ ghost use Rattle.types.specs.Shape.{Val};
 ghost use Rattle.types.specs.View.{ty_view, value_view};
 ghost use Rattle.types.specs.WellFormed.{IsWellFormed};
 ghost use Rattle.octets.specs.declared.TheConstants.{MAX_ENCODING};
-ghost use Rattle.strict.specs.Canonical.{rule_of};
+ghost use Rattle.octets.specs.Rule.{rule_of};
 ghost use Rattle.strict.specs.Refusal.{IsOfStrictReading};
 ghost use Rattle.strict.specs.Begun.{IsBegun};
 ghost use Rattle.strict.specs.Front.{ReadsFront};
 
-use crate::canonical::Canonical;
 use crate::parts::read_one;
-use octets::MAX_ENCODING;
+use octets::{Canonical, MAX_ENCODING};
 use std::alloc::Global;
 use types::{Refusal, Value, WellTyped};
 

@@ -1,6 +1,7 @@
 //! Strings that CER cuts into segments (X.690 9.2).
 
 ghost use Rattle.std.specs.Prelude.{◌≡◌, ◌≢◌, ◌↔◌, ◌+◌, ◌-◌, ◌≤◌, ◌<◌, ◌++◌, [], ℕ, List, length, true, false, IsTrue, IfOk, IfErr, OnOk};
+ghost use Rattle.octets.specs.declared.canonical.Canonical.{Canonical};
 ghost use Rattle.octets.specs.declared.TheConstants.{MAX_ENCODING, MAX_TAG_NUMBER};
 ghost use Rattle.octets.specs.declared.tag.Tag.{Tag};
 ghost use Rattle.octets.specs.Rule.{cer};
@@ -15,7 +16,6 @@ ghost use Rattle.strict.specs.Leaf.{HasCut, HoldsSegment, IsOfSpelling, IsPlace,
 ghost use Rattle.strict.specs.Reading.{IsRead};
 ghost use Rattle.strict.specs.Segments.{AreSegmentsKnown, HasSomeSegments, IsJoinedSegment, IsLong};
 ghost use Rattle.strict.specs.Begun.{IsConstructedCut};
-ghost use Rattle.strict.specs.declared.canonical.Canonical.{Canonical};
 
 use crate::ends::ends;
 use crate::head::{indefinite, is_shortest, read_size};

@@ -3,14 +3,12 @@
 
 ghost use Rattle.std.specs.Prelude.{◌+◌, ◌≤◌, ◌<◌, ◌∷◌, [], true, length, get_or, IsTrue, IfSome};
 ghost use Rattle.octets.specs.Identifier.{IsIdentifier};
-ghost use Rattle.octets.specs.Rule.{cer, der};
-ghost use Rattle.strict.specs.Canonical.{rule_of};
+ghost use Rattle.octets.specs.Rule.{cer, der, rule_of};
 ghost use Rattle.strict.specs.Head.{IsOpened};
 
-use crate::canonical::Canonical;
 use crate::head::Inside;
 use encoding_parts::is_identifier;
-use octets::Tag;
+use octets::{Canonical, Tag};
 
 // What stands inside the constructed encoding at the front, if it has the tag, the form of the rule and at most `room`
 // octets.

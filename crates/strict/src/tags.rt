@@ -1,14 +1,13 @@
 //! The tags by which the components of a SET are ordered (X.690 9.3 and 10.3).
 
 ghost use Rattle.std.specs.Prelude.{◌↔◌, ⊤, IsTrue, MatchOption};
+ghost use Rattle.octets.specs.Rule.{rule_of};
 ghost use Rattle.octets.specs.Tag.{ComesBefore};
 ghost use Rattle.types.specs.View.{ty_view};
 ghost use Rattle.encoding_parts.specs.Parts.{IsGoodType};
-ghost use Rattle.strict.specs.Canonical.{rule_of};
 ghost use Rattle.strict.specs.Members.{IsOrderTagOf};
 
-use crate::canonical::Canonical;
-use octets::Tag;
+use octets::{Canonical, Tag};
 use types::{Ty, least_tag};
 
 // The tag by which an encoding of the type is ordered that begins with this one.

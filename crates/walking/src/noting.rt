@@ -6,7 +6,7 @@ use crate::walk::behind;
 use crate::{Note, Notes, Walk};
 use cutting::Ends;
 use encoding_parts::{Kind, kind_of};
-use strict::Canonical;
+use octets::Canonical;
 use types::Ty;
 
 // The contents octets of a full segment under CER (X.690 9.2).

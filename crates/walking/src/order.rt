@@ -2,8 +2,7 @@
 
 ghost use Rattle.std.specs.Prelude.{◌≡◌};
 
-use octets::Tag;
-use strict::Canonical;
+use octets::{Canonical, Tag};
 use types::{Alternative, Ty};
 
 /// The tag by which a component is ordered that begins with this one: the least that its type can begin with under

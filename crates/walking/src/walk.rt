@@ -8,10 +8,9 @@ use crate::places::Places;
 use crate::{Line, Notes, Part, Reason, Step, Stop, Stopped, What};
 use berslice::MAX_NESTED;
 use encoding_parts::{Joined, OUTSIDE, contents_refusal, read_end, read_head_tag};
-use octets::{MAX_ENCODING, NoMemory, Tag};
+use octets::{Canonical, MAX_ENCODING, NoMemory, Tag};
 use std::alloc::Global;
 use std::string::String;
-use strict::Canonical;
 use types::{Refusal, Ty, WellTyped};
 
 /// A walk over the octets of a value, and then of the next one, in the same room.

@@ -4,8 +4,9 @@ use Rattle.std.specs.declared.result.Result.{Result}
 use Rattle.octets.specs.declared.no_memory.NoMemory.{NoMemory}
 use Rattle.octets.specs.declared.tag.Tag.{Tag}
 use Rattle.octets.specs.Front.{Appends}
-use Rattle.octets.specs.Rule.{Rule}
+use Rattle.octets.specs.Rule.{Rule, rule_of}
 use Rattle.octets.proofs.ResultLemmas.{OnOk-map}
+use Rattle.octets.proofs.RuleLemmas.{rule_is_canonical}
 use Rattle.types.specs.declared.ty.Ty.{Ty}
 use Rattle.types.specs.declared.ty.Ty as node
 use Rattle.types.specs.declared.ty.Alternative.{Alternative}
@@ -22,7 +23,6 @@ use Rattle.canon.specs.declared.spans.Keyed.{Keyed}
 use Rattle.canon.specs.Keyed.{with_key}
 use Rattle.canon.specs.Node.{ArePartsOf, AreItems, AreItemsInOrder, AreComponents, AreComponentsByTag}
 use Rattle.canon.specs.Part.{AreLaid, IsPut, Keeps}
-use Rattle.canon.specs.Rule.{rule_of}
 use Rattle.canon.specs.Span.{part_of}
 use Rattle.canon.specs.Writes.{IsWritable, AreWritable, Writes}
 use Rattle.canon.proofs.JoinLemmas.{BeginsComponents, none_joined, present_joined, absent_joined, all_joined}
@@ -33,7 +33,6 @@ use Rattle.canon.proofs.NodeLemmas.{choice_parts, explicit_alike, has_items, has
 use Rattle.canon.proofs.OpeningLemmas.{opened_kept}
 use Rattle.canon.proofs.PartLemmas.{part_put}
 use Rattle.canon.proofs.PutLemmas.{laid_more, laid_cut, laid_keys, order_made}
-use Rattle.canon.proofs.SimpleLemmas.{rule_is_canonical}
 use Rattle.canon.proofs.StepLemmas.{as_many_slots, present_at}
 use Rattle.canon.proofs.ForwardLemmas.{chosen_in_choice}
 use Rattle.octets.specs.Tag.{ComesBefore}

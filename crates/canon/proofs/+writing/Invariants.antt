@@ -1,11 +1,11 @@
 use Rattle.std.proofs.Common.{map, take}
 use Rattle.octets.specs.Front.{Appends}
+use Rattle.octets.specs.Rule.{rule_of}
 use Rattle.types.specs.Encoding.{IsEncoding}
 use Rattle.types.specs.Shape.{Shape}
 use Rattle.types.specs.View.{ty_view, value_view, alternatives_view}
 use Rattle.canon.specs.Node.{AreItems}
 use Rattle.canon.specs.Part.{AreLaid}
-use Rattle.canon.specs.Rule.{rule_of}
 use Rattle.canon.proofs.JoinLemmas.{BeginsComponents}
 use Rattle.canon.proofs.TagPutLemmas.{LaidTo}
 use Rattle.canon.proofs.+writing.Given as goal

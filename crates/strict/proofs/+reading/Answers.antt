@@ -2,6 +2,7 @@ use Rattle.std.proofs.Common.{rules, ◌≡◌, ◌+◌, ◌-◌, ◌≤◌, ◌
 use Rattle.std.specs.Ordering.{nat_cmp, is_lt}
 use Rattle.std.specs.Cmp.Lexicographic.{slice_cmp}
 use Rattle.std.proofs.lemmas.List.{take_rest, take_more_set, length-set, length-drop}
+use Rattle.octets.specs.Rule.{rule_of}
 use Rattle.types.specs.Shape.{Shape, Val}
 use Rattle.types.specs.View.{ty_view, value_view, field_view, components_view, alternative_view, alternatives_view}
 use Rattle.types.specs.Conforms.{MayBeAbsent}
@@ -15,7 +16,6 @@ use Rattle.types.proofs.LimitLemmas.{alternative_type}
 use Rattle.types.proofs.ViewLemmas.{ty-Sequence, ty-Set, ty-SequenceOf, ty-SetOf, ty-Explicit}
 use Rattle.encoding_parts.specs.Parts.{IsGoodType, IsSlotOf}
 use Rattle.encoding_parts.specs.Renewed.{new_items}
-use Rattle.strict.specs.Canonical.{rule_of}
 use Rattle.strict.specs.Begun.{IsBegun}
 use Rattle.strict.specs.Head.{EndsHere, IsEndKnown, AreFewer}
 use Rattle.strict.specs.Reading.{IsRead, HasPart, RefusesPart}

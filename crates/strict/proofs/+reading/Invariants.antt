@@ -1,7 +1,7 @@
 use Rattle.std.proofs.Common.{◌≡◌, length, map, take, drop, ◌-◌}
+use Rattle.octets.specs.Rule.{rule_of}
 use Rattle.types.specs.View.{ty_view, field_view}
 use Rattle.encoding_parts.specs.Renewed.{new_items}
-use Rattle.strict.specs.Canonical.{rule_of}
 use Rattle.strict.specs.Items.{AreItemsRead}
 use Rattle.strict.specs.Components.{AreComponentsRead}
 use Rattle.strict.specs.Members.{AreMembersRead}

@@ -1,8 +1,8 @@
 use Rattle.std.proofs.Common.{OnOk, sym, subst}
+use Rattle.octets.specs.declared.canonical.Canonical.{Canonical}
 use Rattle.octets.specs.Front.{Appends}
 use Rattle.types.specs.Encoding.{IsAccepted}
 use Rattle.types.specs.View.{ty_view, value_view}
-use Rattle.strict.specs.declared.canonical.Canonical.{Canonical}
 use Rattle.engine.specs.Rule.{canonical_rule_of}
 use Rattle.asn1x_c.proofs.first_value.put_by.Goals as goal
 

@@ -1,9 +1,9 @@
 use Rattle.std.proofs.Common.{[], subst}
+use Rattle.octets.specs.Rule.{rule_of}
 use Rattle.types.specs.Strings.{octet_segment}
 use Rattle.types.specs.View.{value_view}
 use Rattle.primitives.specs.Bits.{IsPadded}
 use Rattle.primitives.proofs.BitsLemmas.{one_padding}
-use Rattle.canon.specs.Rule.{rule_of}
 use Rattle.canon.specs.Segments.{IsStringOf}
 use Rattle.canon.proofs.LeafLemmas.{bits_put, octets_put, simply_leaf}
 use Rattle.canon.proofs.SimpleLemmas.{simply_from_der}

@@ -1,4 +1,5 @@
 use Rattle.std.proofs.Common.{◌≡◌, ◌⊎◌, ◌∙◌, ◌∷◌, [], inl, inr, ℕ, ℤ, Bool, Vec, Global, refl, sym, ap, subst, arith, false}
+use Rattle.octets.specs.Rule.{rule_of}
 use Rattle.types.specs.Strings.{bit_segment, octet_segment}
 use Rattle.types.specs.Shape.{SimpleValue, Val}
 use Rattle.types.specs.declared.value.Value.{Value}
@@ -6,7 +7,6 @@ use Rattle.types.specs.declared.value.Value as value_is
 use Rattle.types.specs.View.{value_view}
 use Rattle.types.proofs.ViewLemmas.{value-Boolean, value-Integer, value-WideInteger, value-Enumerated, value-Null, value-Oid, value-RelativeOid}
 use Rattle.canon.specs.Leaf.{IsLeaf, IsSimple}
-use Rattle.canon.specs.Rule.{rule_of}
 use Rattle.canon.proofs.AlikeLemmas.{size_alike}
 use Rattle.canon.proofs.LeafLemmas.{bits_size, octets_size, simply_alike}
 use Rattle.canon.proofs.SimpleLemmas.{simple_size}

@@ -1,6 +1,6 @@
 use Rattle.std.proofs.Common.{arith}
+use Rattle.octets.specs.Rule.{rule_of}
 use Rattle.canon.specs.Leaf.{IsLeafEncoding}
-use Rattle.canon.specs.Rule.{rule_of}
 use Rattle.canon.proofs.KeptLemmas.{keeps_chain}
 use Rattle.canon.proofs.LeavesLemmas.{leaf_at, item_behind}
 use Rattle.canon.proofs.WritesLemmas.{refused}

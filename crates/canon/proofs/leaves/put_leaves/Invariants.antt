@@ -1,9 +1,9 @@
 use Rattle.std.proofs.Common.{map, take}
 use Rattle.octets.specs.Front.{Appends}
+use Rattle.octets.specs.Rule.{rule_of}
 use Rattle.types.specs.View.{value_view}
 use Rattle.canon.specs.Leaf.{IsLeafEncoding}
 use Rattle.canon.specs.Node.{AreItems}
-use Rattle.canon.specs.Rule.{rule_of}
 use Rattle.canon.proofs.leaves.put_leaves.Given as goal
 
 abbrev pub invariant-loop-value : goal.invariant-loop-value

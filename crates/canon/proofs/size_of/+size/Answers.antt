@@ -1,4 +1,5 @@
 use Rattle.std.proofs.Common.{◌≡◌, ◌∙◌, ◌+◌, ◌-◌, ◌<◌, List, Some, None, length, drop, get_or, map, min, sym, ap, subst, subst₂, arith, rules}
+use Rattle.octets.specs.Rule.{rule_of}
 use Rattle.types.specs.declared.ty.Ty.{Ty}
 use Rattle.types.specs.declared.ty.Ty as node
 use Rattle.types.specs.declared.ty.Field.{Field}
@@ -8,16 +9,15 @@ use Rattle.types.specs.Shape.{Val, Shape, Slots}
 use Rattle.types.specs.View.{ty_view, value_view, components_view, slots_view}
 use Rattle.types.specs.Conforms.{Conforms}
 use Rattle.types.specs.Encoding.{IsEncoding}
+use Rattle.octets.proofs.RuleLemmas.{rule_is_canonical}
 use Rattle.types.proofs.ViewLemmas.{ty-Choice, ty-Explicit}
 use Rattle.canon.specs.Node.{HasGoodNodes, AreItems, AreComponents}
-use Rattle.canon.specs.Rule.{rule_of}
 use Rattle.canon.specs.Size.{HasSize}
 use Rattle.canon.specs.Writes.{AreWritable}
 use Rattle.canon.proofs.AlikeLemmas.{size_alike}
 use Rattle.canon.proofs.LeafLemmas.{leaf_alike}
 use Rattle.canon.proofs.NodeLemmas.{choice_parts, has_items, has_slots, has_inner, explicit_alike}
 use Rattle.canon.proofs.NodeSizeLemmas.{around_size}
-use Rattle.canon.proofs.SimpleLemmas.{rule_is_canonical}
 use Rattle.canon.proofs.StepLemmas.{item_size, as_many_slots, present_at, size_from_end, present_size, absent_size_any}
 use Rattle.canon.proofs.TyLemmas.{leaf_of, list_view, record_view, list_size, record_size}
 use Rattle.canon.proofs.ForwardLemmas.{chosen_in_choice}

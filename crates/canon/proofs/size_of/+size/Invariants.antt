@@ -1,8 +1,8 @@
 use Rattle.std.proofs.Common.{◌-◌, ◌≤◌, drop, map}
+use Rattle.octets.specs.Rule.{rule_of}
 use Rattle.types.specs.Encoding.{IsEncoding}
 use Rattle.types.specs.View.{ty_view, value_view, components_view, slots_view}
 use Rattle.canon.specs.Node.{AreItems, AreComponents}
-use Rattle.canon.specs.Rule.{rule_of}
 use Rattle.canon.specs.Size.{HasSize}
 use Rattle.canon.proofs.size_of.+size.Given as goal
 

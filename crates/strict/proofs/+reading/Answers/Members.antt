@@ -1,6 +1,7 @@
 -- What is answered of the readers of a SET.
 use Rattle.std.proofs.Common.{rules, ◌≡◌, ◌-◌, ◌++◌, List, Some, None, length, map, take, drop, true, false, sym, refl, subst, subst₂, arith}
 use Rattle.std.proofs.lemmas.List.{take_rest, length-drop}
+use Rattle.octets.specs.Rule.{rule_of}
 use Rattle.types.specs.declared.ty.Field.{Field}
 use Rattle.types.specs.View.{ty_view, field_view}
 use Rattle.types.specs.declared.ty.Ty as node
@@ -8,7 +9,6 @@ use Rattle.types.specs.declared.ty.Field as field
 use Rattle.encoding_parts.specs.HeldParts.{members_view}
 use Rattle.encoding_parts.specs.Parts.{IsGoodType, IsGoodComponent}
 use Rattle.encoding_parts.proofs.SetComponentLemmas.{NoneDue, AreFilled, members_in_slots, vacant_below}
-use Rattle.strict.specs.Canonical.{rule_of}
 use Rattle.strict.specs.Head.{EndsHere}
 use Rattle.strict.specs.Components.{IsFront, IsPresentRead}
 use Rattle.strict.specs.Members.{IsOrderTagOf}

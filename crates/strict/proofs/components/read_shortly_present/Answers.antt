@@ -1,7 +1,7 @@
 use Rattle.std.proofs.Common.{length, sym, subst}
+use Rattle.octets.specs.Rule.{rule_of}
 use Rattle.types.specs.Conforms.{DiffersFromDefault}
 use Rattle.types.specs.View.{value_view, requirement_view}
-use Rattle.strict.specs.Canonical.{rule_of}
 use Rattle.strict.specs.Reading.{IsRead}
 use Rattle.strict.proofs.FieldLemmas.{field_type, field_requirement}
 use Rattle.strict.proofs.PresentLemmas.{differs_of}

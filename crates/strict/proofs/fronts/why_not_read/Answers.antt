@@ -1,6 +1,6 @@
 use Rattle.std.proofs.Common.{inr, false, Some, subst}
+use Rattle.octets.specs.Rule.{rule_of}
 use Rattle.types.specs.View.{ty_view}
-use Rattle.strict.specs.Canonical.{rule_of}
 use Rattle.strict.specs.Components.{IsFront}
 use Rattle.strict.specs.Head.{EndsHere}
 use Rattle.strict.proofs.BarsLemmas.{refused_for_good, refused_by}

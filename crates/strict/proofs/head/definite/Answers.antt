@@ -1,5 +1,6 @@
 use Rattle.std.proofs.Common.{◌≡◌, true, false, ◌-◌, ◌++◌, length, take, drop, Err, ap, sym, ◌∙◌, subst, rules, inl}
 use Rattle.std.proofs.lemmas.List.{take_rest, length-take-le}
+use Rattle.octets.specs.declared.canonical.Canonical.TheVariants.{Der}
 use Rattle.octets.specs.Identifier.{IsIdentifier}
 use Rattle.octets.proofs.FrontLemmas.{front_of_more}
 use Rattle.types.proofs.NestingLemmas.{no_length-128}
@@ -8,7 +9,6 @@ use Rattle.encoding_parts.specs.Head.{IsExtentWithin, IsReadDefinite, IsReadInde
 use Rattle.strict.proofs.BarsLemmas.{refused_of, refused_for_good, refused_by, refused_behind, refused_through}
 use Rattle.strict.proofs.HeadLemmas.{tag_of_definite, form_of_definite, behind_identifier, its_length, shortest_of, definite_at}
 use Rattle.strict.proofs.EndingLemmas.{length_cut}
-use Rattle.strict.specs.declared.canonical.Canonical.TheVariants.{Der}
 use Rattle.strict.proofs.head.definite.Goals as goal
 
 pub returns-in_err-constructed-clause-refused : goal.returns-in_err-constructed-clause-refused

@@ -1,5 +1,6 @@
 use Rattle.std.proofs.Common.{◌≡◌, ◌-◌, ◌∷◌, ◌++◌, length, take, drop, true, Err, ap, sym, ◌∙◌, subst, rules, inl}
 use Rattle.std.proofs.lemmas.List.{take_rest}
+use Rattle.octets.specs.declared.canonical.Canonical.TheVariants.{Cer}
 use Rattle.octets.specs.Identifier.{IsIdentifier}
 use Rattle.octets.proofs.FrontLemmas.{front_of_more}
 use Rattle.types.proofs.NestingLemmas.{no_length-128}
@@ -8,7 +9,6 @@ use Rattle.encoding_parts.specs.Head.{IsExtentWithin, IsReadDefinite, IsReadInde
 use Rattle.strict.proofs.BarsLemmas.{refused_of, refused_for_good, refused_by, refused_behind, refused_through}
 use Rattle.strict.proofs.InsideLemmas.{tag_of_indefinite, form_of_indefinite, behind_indefinite, opened_indefinite}
 use Rattle.strict.proofs.EndingLemmas.{length_cut}
-use Rattle.strict.specs.declared.canonical.Canonical.TheVariants.{Cer}
 use Rattle.strict.proofs.head.indefinite.Goals as goal
 
 pub returns-in_err-form-clause-refused : goal.returns-in_err-form-clause-refused

@@ -1,5 +1,5 @@
 use Rattle.std.proofs.Common.{sym, subst, true}
-use Rattle.strict.specs.Canonical.{rule_of}
+use Rattle.octets.specs.Rule.{rule_of}
 use Rattle.strict.specs.Head.{IsOpened}
 use Rattle.strict.proofs.BarsLemmas.{refused_named}
 use Rattle.strict.proofs.InsideLemmas.{opened_definite, refused_definite}

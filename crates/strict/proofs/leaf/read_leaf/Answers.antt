@@ -1,9 +1,9 @@
 use Rattle.std.proofs.Common.{◌≡◌, ◌++◌, subst, inl, true, false, sym, ◌∙◌}
+use Rattle.octets.specs.declared.canonical.Canonical.TheVariants.{Cer, Der}
 use Rattle.octets.proofs.ResultLemmas.{IfErr-map}
 use Rattle.types.specs.Leaf.{tag_of}
 use Rattle.types.specs.View.{ty_view}
 use Rattle.encoding_parts.specs.Head.{IsTagWithin}
-use Rattle.strict.specs.declared.canonical.Canonical.TheVariants.{Cer, Der}
 use Rattle.strict.specs.Bars.{RefusesStrictly}
 use Rattle.strict.specs.Begun.{IsConstructedCut}
 use Rattle.strict.specs.Leaf.{HasCut}

@@ -1,12 +1,12 @@
 use Rattle.std.proofs.Common.{ℕ, List, ◌++◌, IfErr, refl, subst}
 use Rattle.std.proofs.lemmas.Result.{IfOk-weaker, IfErr-at_err, IfErr-weaker}
 use Rattle.octets.specs.Front.{HasFront}
+use Rattle.octets.specs.Rule.{rule_of}
 use Rattle.types.specs.declared.refusal.Refusal.TheVariants.{Truncated}
 use Rattle.types.specs.Encoding.{IsSomeAccepted}
 use Rattle.types.specs.Refusal.{IsFinal}
 use Rattle.types.specs.View.{ty_view}
 use Rattle.strict.specs.Begun.{IsBegun}
-use Rattle.strict.specs.Canonical.{rule_of}
 use Rattle.strict.specs.Reading.{IsRead, HasPart, RefusesPart}
 use Rattle.strict.proofs.BarsLemmas.{bars_cut, bars_never}
 use Rattle.strict.proofs.FrontLemmas.{canonical_of}

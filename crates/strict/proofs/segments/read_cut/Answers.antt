@@ -1,5 +1,6 @@
 use Rattle.std.proofs.Common.{◌≡◌, ◌-◌, ◌++◌, length, take, drop, sym, subst}
 use Rattle.std.proofs.lemmas.List.{take_rest}
+use Rattle.octets.specs.declared.canonical.Canonical.TheVariants.{Cer}
 use Rattle.octets.specs.Rule.{cer}
 use Rattle.types.specs.Conforms.{Conforms}
 use Rattle.types.specs.Leaf.{tag_of}
@@ -12,7 +13,6 @@ use Rattle.strict.proofs.BarsLemmas.{refused_for_good, refused_contents, refused
 use Rattle.strict.proofs.CutLemmas.{segments_inside, string_is, cut_read}
 use Rattle.strict.proofs.LeafLemmas.{constructed_of_cut}
 use Rattle.strict.proofs.EndingLemmas.{opened_cut}
-use Rattle.strict.specs.declared.canonical.Canonical.TheVariants.{Cer}
 use Rattle.strict.proofs.segments.read_cut.Goals as goal
 
 pub returns-in_err-inside-clause-refused : goal.returns-in_err-inside-clause-refused
