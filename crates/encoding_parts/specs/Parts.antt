@@ -84,9 +84,10 @@ pub record IsRunLeft (levels : ℕ) (left : List ComponentView) (octets : List �
   pub each : AllZip (IsLeft levels) left encodings
   pub joined : octets ≡ concat (standing encodings)
 
-pub record AreSetComponentsLeft (levels : ℕ) (set_components : List SetComponent) (octets : List ℕ) : Type 0 where
+-- encodings of the components of a SET, joined in some order
+pub record AreSetComponents (IsOne : SetComponent → Option (List ℕ) → Type 0) (set_components : List SetComponent) (octets : List ℕ) : Type 0 where
   pub encodings : List (Option (List ℕ))
-  pub each : AllZip (IsLeftOfSetComponent levels) set_components encodings
+  pub each : AllZip IsOne set_components encodings
   pub order : List (List ℕ)
   pub permutes : IsPermutation (standing encodings) order
   pub joined : octets ≡ concat order
@@ -97,7 +98,7 @@ CanFill levels (Parts.explicit inner None) octets = IsPart levels inner octets
 CanFill levels (Parts.explicit inner (Some value)) octets = octets ≡ []
 CanFill levels (Parts.items inner values) octets = AreItemsLeft levels inner octets
 CanFill levels (Parts.sequence passed slots left) octets = IsRunLeft levels left octets
-CanFill levels (Parts.set set_components) octets = AreSetComponentsLeft levels set_components octets
+CanFill levels (Parts.set set_components) octets = AreSetComponents (IsLeftOfSetComponent levels) set_components octets
 
 -- the parts once this one has come, as far as more may come: any value serves where only that is asked
 abbrev pub any_value : Val
@@ -146,20 +147,13 @@ pub record IsRunCome (levels : ℕ) (passed : List ComponentView) (slots : List 
   pub each : AreCome levels passed slots encodings
   pub joined : octets ≡ concat (standing encodings)
 
-pub record AreSetComponentsCome (levels : ℕ) (set_components : List SetComponent) (octets : List ℕ) : Type 0 where
-  pub encodings : List (Option (List ℕ))
-  pub each : AllZip (HasComeBy levels) set_components encodings
-  pub order : List (List ℕ)
-  pub permutes : IsPermutation (standing encodings) order
-  pub joined : octets ≡ concat order
-
 -- these contents octets are the parts that have come
 abbrev pub Holds : ℕ → Parts → List ℕ → Type 0
 Holds levels (Parts.explicit inner None) octets = octets ≡ []
 Holds levels (Parts.explicit inner (Some value)) octets = IsPartOf levels inner value octets
 Holds levels (Parts.items inner values) octets = AreItemsCome levels inner values octets
 Holds levels (Parts.sequence passed slots left) octets = IsRunCome levels passed slots octets
-Holds levels (Parts.set set_components) octets = AreSetComponentsCome levels set_components octets
+Holds levels (Parts.set set_components) octets = AreSetComponents (HasComeBy levels) set_components octets
 
 -- these are parts of an encoding of this type
 abbrev pub ArePartsOf : Shape → Parts → Type 0

@@ -18,6 +18,7 @@ use Rattle.encoding_parts.specs.declared.joined.Kind.TheVariants.{Bits, Octets}
 use Rattle.encoding_parts.specs.Contents.{HoldsContents}
 use Rattle.encoding_parts.specs.Joined.{Element, segment_of, IsWholePiece, typed}
 use Rattle.strict.specs.Head.{HasDefinite}
+use Rattle.strict.specs.Part.{BeginsWith}
 
 -- so many contents octets are not to be cut: of a string CER takes 1000 at most
 abbrev pub IsWhole : Canonical → Shape → ℕ → Type 0
@@ -32,14 +33,9 @@ pub record IsPrimitiveLeaf (rule : Canonical) (type : Shape) (v : Val) (octets :
   pub whole : IsWhole rule type (length contents)
   pub primitive : IsDefinite der (tag_of type) false contents octets
 
--- the octets begin with one, of at most so many octets
-pub record HasPrimitive (rule : Canonical) (type : Shape) (room : ℕ) (octets : List ℕ) : Type 0 where
-  pub value : Val
-  pub part : List ℕ
-  pub rest : List ℕ
-  pub encoding : IsPrimitiveLeaf rule type value part
-  pub fits : length part ≤ room
-  pub parts : octets ≡ part ++ rest
+-- the octets begin with one
+abbrev pub HasPrimitive : Canonical → Shape → ℕ → List ℕ → Type 0
+HasPrimitive rule type = BeginsWith (IsPrimitiveLeaf rule type)
 
 -- the contents octets of a segment hold this piece of the string
 abbrev pub HoldsSegment : (kind : Kind) → List (Element kind) → List ℕ → Type 0
@@ -59,13 +55,8 @@ pub record IsCutLeaf (kind : Kind) (type : Shape) (v : Val) (octets : List ℕ) 
   pub cut : IsCut (tag_of type) (segment_of kind) (HoldsSegment kind) (IsWholePiece kind) string octets
 
 -- the octets begin with one
-pub record HasCut (kind : Kind) (type : Shape) (room : ℕ) (octets : List ℕ) : Type 0 where
-  pub value : Val
-  pub part : List ℕ
-  pub rest : List ℕ
-  pub encoding : IsCutLeaf kind type value part
-  pub fits : length part ≤ room
-  pub parts : octets ≡ part ++ rest
+abbrev pub HasCut : Kind → Shape → ℕ → List ℕ → Type 0
+HasCut kind type = BeginsWith (IsCutLeaf kind type)
 
 -- between these places stand the contents octets of a primitive encoding, of which the octets begin with no other
 pub record IsPlace (tag : Tag) (room : ℕ) (octets : List ℕ) (start stop : ℕ) : Type 0 where

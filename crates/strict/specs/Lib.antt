@@ -1,5 +1,6 @@
 pub mod Refusal
 pub mod Bars
+pub mod Part
 pub mod Head
 pub mod Leaf
 pub mod Begun

@@ -10,19 +10,15 @@ use Rattle.types.specs.Encoding.{IsEncoding, IsAlternativeEncoding}
 use Rattle.strict.specs.Bars.{RefusesStrictly}
 use Rattle.strict.specs.Begun.{IsBegun}
 use Rattle.strict.specs.Head.{Fills, mark}
+use Rattle.strict.specs.Part.{BeginsWith}
 
 -- so many octets are an encoding of the value
 abbrev pub IsRead : Rule → Shape → ℕ → List ℕ → Value → ℕ → Type 0
 IsRead rule type room octets value used = (used ≤ length octets) × (used ≤ room) × IsEncoding rule type (value_view value) (take used octets)
 
--- the octets begin with an encoding of the type, of at most so many octets
-pub record HasPart (rule : Rule) (type : Shape) (room : ℕ) (octets : List ℕ) : Type 0 where
-  pub value : Val
-  pub part : List ℕ
-  pub rest : List ℕ
-  pub encoding : IsEncoding rule type value part
-  pub fits : length part ≤ room
-  pub parts : octets ≡ part ++ rest
+-- the octets begin with an encoding of the type
+abbrev pub HasPart : Rule → Shape → ℕ → List ℕ → Type 0
+HasPart rule type = BeginsWith (IsEncoding rule type)
 
 -- they are refused where they are to begin so
 abbrev pub RefusesPart : Canonical → Shape → ℕ → List ℕ → Refusal → Type 0
