@@ -1,5 +1,5 @@
 -- Lemmas on one subidentifier.
-use Rattle.std.proofs.Common.{◌≡◌, ◌≢◌, ℕ, ◌+◌, ◌-◌, ◌*◌, ◌^◌, ◌<◌, ◌≤◌, ◌%◌, List, [], ◌∷◌, ◌++◌, length, take, drop, refl, sym, ◌∙◌, ap, arith, All, get_or, subst, length-append}
+use Rattle.std.proofs.Common.{◌≡◌, ◌≢◌, ℕ, ◌+◌, ◌*◌, ◌^◌, ◌<◌, ◌≤◌, ◌%◌, List, [], ◌∷◌, ◌++◌, length, take, drop, refl, sym, ◌∙◌, ap, arith, All, get_or, subst, length-append}
 use Rattle.std.proofs.lemmas.List.{take_more, take-append-drop, length-take-le}
 use Rattle.std.proofs.Math.Nat.{pow-le-pow_right, mul-le-mul_left}
 use Rattle.octets.specs.Base128.{base_128_octets, IsBase128}
@@ -40,7 +40,7 @@ IsBase128-from_begun octets i number octet h below item low =
     subst (IsBase128 (number * 128 + d)) (sym spelt) (IsBase128-snoc number d h.digits h.are_digits (omega arith))
 
 -- of no octets
-IsBegun-none : (octets : List ℕ) → IsBegun octets 0 0
+pub IsBegun-none : (octets : List ℕ) → IsBegun octets 0 0
 IsBegun-none octets = record {
   digits = [];
   size = refl;
@@ -54,23 +54,6 @@ one_octet octets o some item low =
     let last = IsBase128-from_begun octets 0 0 o (IsBegun-none octets) some item low in
     let value : 0 * 128 + o % 128 ≡ o = omega arith in
     record { there = omega arith; within = omega arith; spelt = subst (λ n. IsBase128 n (take 1 octets)) value last }
-
--- a subidentifier of two octets
-pub two_octets : (octets : List ℕ) (a b n : ℕ) → 1 < length octets → get_or octets 0 0 ≡ a → 128 < a → a < 256 → get_or octets 1 0 ≡ b → b < 128 → n ≡ (a - 128) * 128 + b → IsReadSubidentifier octets n 2
-two_octets octets a b n some first above below second low whole =
-    let begun = IsBegun-more octets 0 0 a (IsBegun-none octets) (omega arith) first (omega arith) below (λ _ same. omega (arith, same, above)) in
-    let last = IsBase128-from_begun octets 1 (0 * 128 + a % 128) b begun some second low in
-    let value : (0 * 128 + a % 128) * 128 + b % 128 ≡ n = omega (arith, whole) in
-    record { there = omega arith; within = omega (arith, whole); spelt = subst (λ n. IsBase128 n (take 2 octets)) value last }
-
--- a subidentifier of three octets
-pub three_octets : (octets : List ℕ) (a b c n : ℕ) → 2 < length octets → get_or octets 0 0 ≡ a → 128 < a → a < 256 → get_or octets 1 0 ≡ b → 128 ≤ b → b < 256 → get_or octets 2 0 ≡ c → c < 128 → n ≡ ((a - 128) * 128 + (b - 128)) * 128 + c → IsReadSubidentifier octets n 3
-three_octets octets a b c n some first above below second high byte third low whole =
-    let one = IsBegun-more octets 0 0 a (IsBegun-none octets) (omega arith) first (omega arith) below (λ _ same. omega (arith, same, above)) in
-    let two = IsBegun-more octets 1 (0 * 128 + a % 128) b one (omega arith) second high byte (λ none. absurd (omega (arith, none))) in
-    let last = IsBase128-from_begun octets 2 ((0 * 128 + a % 128) * 128 + b % 128) c two some third low in
-    let value : ((0 * 128 + a % 128) * 128 + b % 128) * 128 + c % 128 ≡ n = omega (arith, whole) in
-    record { there = omega arith; within = omega (arith, whole); spelt = subst (λ n. IsBase128 n (take 3 octets)) value last }
 
 -- digits that go on from others
 record GoOn (ds es : List ℕ) : Type 0 where
@@ -138,3 +121,7 @@ subidentifier_unique m n a b r s f g whole =
 
 pub some_octets : (n : ℕ) (a : List ℕ) → IsBase128 n a → 1 ≤ length a
 some_octets n a h = omega (arith, ap length h.spelt, length-base_128_octets h.digits, h.at_least_one)
+
+-- a subidentifier that is read has octets
+pub some_read : (octets : List ℕ) (n used : ℕ) → IsReadSubidentifier octets n used → 1 ≤ used
+some_read octets n used h = omega (arith, some_octets n (take used octets) h.spelt, length-take-le used octets h.there)

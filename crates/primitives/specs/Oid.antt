@@ -1,6 +1,6 @@
 -- Contents octets of an OBJECT IDENTIFIER and of a RELATIVE-OID (X.690 8.19 and 8.20), the same under
 -- every rule.
-use Rattle.std.specs.Prelude.{◌≡◌, ℕ, ◌+◌, ◌-◌, ◌*◌, ◌^◌, ◌<◌, ◌≤◌, List, [], ◌∷◌, ◌++◌, length, take, All}
+use Rattle.std.specs.Prelude.{◌≡◌, ℕ, ◌+◌, ◌*◌, ◌^◌, ◌<◌, ◌≤◌, List, ◌∷◌, length, take, All}
 use Rattle.std.specs.List.{AllZip, concat}
 use Rattle.octets.specs.Base128.{IsBase128}
 
@@ -63,17 +63,3 @@ pub record IsReadSubidentifier (octets : List ℕ) (number used : ℕ) : Type 0 
   pub there : used ≤ length octets
   pub within : number < 2 ^ 128
   pub spelt : IsBase128 number (take used octets)
-
--- the number of the subidentifier that was read at the front of the octets stands behind the others
-pub record IsOneRead (octets old new : List ℕ) (used : ℕ) : Type 0 where
-  pub number : ℕ
-  pub appended : new ≡ old ++ number ∷ []
-  pub read : IsReadSubidentifier octets number used
-
--- the two arcs of the subidentifier that was read at the front of the octets stand behind the others
-pub record AreTwoRead (octets old new : List ℕ) (used : ℕ) : Type 0 where
-  pub shared : ℕ
-  pub first : ℕ
-  pub is_first : IsFirstArc shared first
-  pub appended : new ≡ old ++ first ∷ (shared - 40 * first) ∷ []
-  pub read : IsReadSubidentifier octets shared used

@@ -2,15 +2,15 @@
 //!
 //! The limits on the number and the size of subidentifiers are this project's own (`docs/PROFILE.md`).
 
-ghost use Rattle.std.specs.Prelude.{◌≡◌, ◌≤◌, ◌<◌, ◌+◌, ◌-◌, ◌*◌, ◌^◌, ℕ, min, List, [], ◌∷◌, ◌++◌, length, vec_len, vec_capacity, IfOk, OnOk, OnErr, IsErrOf};
-ghost use Rattle.octets.specs.Base128.{IsBase128};
-ghost use Rattle.octets.specs.Front.{Appends, HasFront};
-ghost use Rattle.primitives.specs.Oid.{AreSubidentifiers, AreSmallSubidentifiers, AreTwoRead, IsFirstArc, IsOneRead, IsOid, IsOidValue, IsRelativeOid, IsRelativeOidValue};
+ghost use Rattle.std.specs.Prelude.{◌≡◌, ◌≤◌, ◌<◌, ◌+◌, ◌-◌, ◌*◌, ℕ, min, List, [], ◌∷◌, ◌++◌, length, vec_len, vec_capacity, IfOk, OnOk, OnErr, IsErrOf, IsTrue};
+ghost use Rattle.octets.specs.Front.{Appends};
+ghost use Rattle.primitives.specs.declared.TheConstants.{MAX_SUBIDENTIFIERS};
+ghost use Rattle.primitives.specs.Oid.{AreSubidentifiers, AreSmallSubidentifiers, IsFirstArc, IsOid, IsOidValue, IsRelativeOid, IsRelativeOidValue};
 
 use crate::subidentifier::read_subidentifier;
 use crate::{Fault, MAX_SUBIDENTIFIERS};
 use octets::{NoMemory, put_base_128};
-use std::alloc::{AllocError, Global};
+use std::alloc::Global;
 
 /// The arcs of an OBJECT IDENTIFIER's contents octets.
 pub fn read_oid(alloc: Global, contents: &[u8]) -> Result<Vec<u128>, Fault>
@@ -18,71 +18,103 @@ pub fn read_oid(alloc: Global, contents: &[u8]) -> Result<Vec<u128>, Fault>
     ensures within { IfOk result (λ arcs. IsOidValue arcs.items) }
     ensures none { IsErrOf result Fault.Contents → (arcs : List ℕ) → IsOidValue arcs → ¬ IsOid arcs contents.now }
 {
-    let mut arcs = Vec::new(alloc);
+    let mut arcs = Vec::with_capacity(alloc, most_numbers(contents) + 1)?;
     read_oid_into(contents, &mut arcs)?;
     Ok(arcs)
 }
 
 /// Puts the arcs of an OBJECT IDENTIFIER's contents octets into the vector in place of those in it, where they have
 /// room if it has. Where the octets are refused, it may hold any numbers.
+#[inline(always)]
 pub fn read_oid_into(contents: &[u8], arcs: &mut Vec<u128>) -> Result<(), Fault>
     ensures value { OnOk result (IsOid arcs.new.items contents.now) }
     ensures within { OnOk result (IsOidValue arcs.new.items) }
     ensures none { IsErrOf result Fault.Contents → (arcs : List ℕ) → IsOidValue arcs → ¬ IsOid arcs contents.now }
 {
-    clear_for_two(arcs)?;
-    let used = put_two_arcs(contents, arcs);
-    if used == 0 {
-        return Err(Fault::Contents);
+    if read_short_arcs(contents, arcs) {
+        return Ok(());
     }
-    // One arc more than subidentifiers.
-    read_subidentifiers(&contents[used..], MAX_SUBIDENTIFIERS + 1, arcs)
+    read_any_arcs(contents, arcs)
 }
 
-// Empties the vector, and makes room for two numbers where there is none.
+// Puts the arcs there, and says whether it has: only where there is surely room, the first subidentifier has one octet,
+// and each other at most four.
 #[inline(always)]
-fn clear_for_two(numbers: &mut Vec<u128>) -> Result<(), AllocError>
-    ensures items { OnOk result (numbers.new.items ≡ []) }
-    ensures room { OnOk result (vec_len numbers.new + 2 ≤ vec_capacity numbers.new) }
+fn read_short_arcs(contents: &[u8], arcs: &mut Vec<u128>) -> bool
+    ensures value { IsTrue result → IsOid arcs.new.items contents.now }
+    ensures within { IsTrue result → IsOidValue arcs.new.items }
 {
-    numbers.clear();
-    if numbers.capacity() < 2 {
-        numbers.reserve(2)?;
+    // There are no more subidentifiers than octets.
+    if contents.len() > MAX_SUBIDENTIFIERS || contents.len() >= arcs.capacity() {
+        return false;
     }
-    Ok(())
+    if contents.is_empty() || contents[0] >= 0x80 {
+        return false;
+    }
+    arcs.clear();
+    let (first, second) = two_arcs(u128::from(contents[0]));
+    arcs.push_reserved(first);
+    arcs.push_reserved(second);
+    put_short_numbers(&contents[1..], arcs)
 }
 
-// Appends the two arcs of the subidentifier at the front of `octets`, and says how many octets it has: mostly one. It
-// is 0 where there is no subidentifier within the limit.
+// Appends the subidentifiers of the octets, and says whether it has: only where each has at most four.
 #[inline(always)]
-fn put_two_arcs(octets: &[u8], arcs: &mut Vec<u128>) -> usize
-    requires { vec_len arcs.old + 2 ≤ vec_capacity arcs.old }
-    ensures value { 1 ≤ result → AreTwoRead octets.now arcs.old.items arcs.new.items result }
-    ensures none { result ≡ 0 → (number : ℕ) → number < 2 ^ 128 → ¬ HasFront (IsBase128 number) octets.now }
+fn put_short_numbers(octets: &[u8], numbers: &mut Vec<u128>) -> bool
+    requires { vec_len numbers.old + length octets.now ≤ vec_capacity numbers.old }
+    ensures appended { IsTrue result → Appends (λ more. AreSmallSubidentifiers more octets.now) numbers.old.items numbers.new.items }
+    ensures few { length numbers.new.items ≤ length numbers.old.items + length octets.now }
 {
-    if !octets.is_empty() && octets[0] < 0x80 {
-        let (first, second) = two_arcs(u128::from(octets[0]));
-        arcs.push_reserved(first);
-        arcs.push_reserved(second);
-        return 1;
+    // The number so far of a subidentifier that goes on, or 0.
+    let mut begun = 0u32;
+    for octet in octets {
+        if *octet < 0x80 {
+            numbers.push_reserved(u128::from(begun * 128 + u32::from(*octet)));
+            begun = 0;
+        } else {
+            begun = begun * 128 + u32::from(*octet - 0x80);
+            if !goes_on(begun) {
+                return false;
+            }
+        }
     }
-    put_long_two_arcs(octets, arcs)
+    begun == 0
 }
 
-// Appends the two arcs of a subidentifier of any size.
+// Whether another octet may follow those that make the number so far: octet 80 would be a leading zero, and a fifth
+// octet is too many here.
+#[inline(always)]
+fn goes_on(begun: u32) -> bool
+    ensures { IsTrue result → (1 ≤ begun) × (begun < 2097152) }
+{
+    begun != 0 && begun < 0x20_0000
+}
+
+// Puts the arcs of any contents octets into the vector in place of those in it.
 #[inline(never)]
-fn put_long_two_arcs(octets: &[u8], arcs: &mut Vec<u128>) -> usize
-    requires { vec_len arcs.old + 2 ≤ vec_capacity arcs.old }
-    ensures value { 1 ≤ result → AreTwoRead octets.now arcs.old.items arcs.new.items result }
-    ensures none { result ≡ 0 → (number : ℕ) → number < 2 ^ 128 → ¬ HasFront (IsBase128 number) octets.now }
+fn read_any_arcs(contents: &[u8], arcs: &mut Vec<u128>) -> Result<(), Fault>
+    ensures value { OnOk result (IsOid arcs.new.items contents.now) }
+    ensures within { OnOk result (IsOidValue arcs.new.items) }
+    ensures none { IsErrOf result Fault.Contents → (arcs : List ℕ) → IsOidValue arcs → ¬ IsOid arcs contents.now }
 {
-    let Some((shared, used)) = read_subidentifier(octets) else {
-        return 0;
+    arcs.clear();
+    arcs.reserve(most_numbers(contents) + 1)?;
+    let Some((shared, used)) = read_subidentifier(contents) else {
+        return Err(Fault::Contents);
     };
     let (first, second) = two_arcs(shared);
     arcs.push_reserved(first);
     arcs.push_reserved(second);
-    used
+    // One arc more than subidentifiers.
+    read_subidentifiers(&contents[used..], MAX_SUBIDENTIFIERS + 1, arcs)
+}
+
+// How many subidentifiers the contents octets may have: each has an octet at least.
+#[inline(always)]
+fn most_numbers(contents: &[u8]) -> usize
+    ensures { result ≡ min (length contents.now) MAX_SUBIDENTIFIERS }
+{
+    contents.len().min(MAX_SUBIDENTIFIERS)
 }
 
 // The two arcs that share a subidentifier.
@@ -106,7 +138,7 @@ pub fn read_relative_oid(alloc: Global, contents: &[u8]) -> Result<Vec<u128>, Fa
     ensures within { IfOk result (λ arcs. IsRelativeOidValue arcs.items) }
     ensures none { IsErrOf result Fault.Contents → (arcs : List ℕ) → IsRelativeOidValue arcs → ¬ IsRelativeOid arcs contents.now }
 {
-    let mut arcs = Vec::new(alloc);
+    let mut arcs = Vec::with_capacity(alloc, most_numbers(contents))?;
     read_subidentifiers(contents, MAX_SUBIDENTIFIERS, &mut arcs)?;
     if arcs.is_empty() {
         return Err(Fault::Contents);
@@ -114,83 +146,26 @@ pub fn read_relative_oid(alloc: Global, contents: &[u8]) -> Result<Vec<u128>, Fa
     Ok(arcs)
 }
 
-// Appends the subidentifiers of contents octets to the vector, which gets no longer than `most`.
-#[inline(always)]
+// Appends the subidentifiers of contents octets to the vector, which has room for them and gets no longer than `most`.
 fn read_subidentifiers(contents: &[u8], most: usize, arcs: &mut Vec<u128>) -> Result<(), Fault>
-    requires { length arcs.old.items ≤ most }
+    requires few { length arcs.old.items ≤ most }
+    requires room { min (length arcs.old.items + length contents.now) most ≤ vec_capacity arcs.old }
     ensures appended { OnOk result (Appends (λ numbers. AreSmallSubidentifiers numbers contents.now) arcs.old.items arcs.new.items) }
     ensures within { OnOk result (length arcs.new.items ≤ most) }
     ensures none { IsErrOf result Fault.Contents → (numbers : List ℕ) → length arcs.old.items + length numbers ≤ most → ¬ AreSmallSubidentifiers numbers contents.now }
 {
     let mut start = 0usize;
-    let mut room = room_within(most, arcs);
     while start < contents.len() {
-        if arcs.len() >= room {
-            if arcs.len() == most {
-                return Err(Fault::Contents);
-            }
-            arcs.reserve(1)?;
-            room = room_within(most, arcs);
-        }
-        let used = put_number(&contents[start..], arcs);
-        if used == 0 {
+        if arcs.len() == most {
             return Err(Fault::Contents);
         }
+        let Some((number, used)) = read_subidentifier(&contents[start..]) else {
+            return Err(Fault::Contents);
+        };
+        arcs.push_reserved(number);
         start += used;
     }
     Ok(())
-}
-
-// Appends the subidentifier at the front of `octets`, and says how many octets it has: mostly one to three. It is 0
-// where there is no subidentifier within the limit.
-#[inline(always)]
-fn put_number(octets: &[u8], numbers: &mut Vec<u128>) -> usize
-    requires { vec_len numbers.old < vec_capacity numbers.old }
-    ensures value { 1 ≤ result → IsOneRead octets.now numbers.old.items numbers.new.items result }
-    ensures none { result ≡ 0 → (number : ℕ) → number < 2 ^ 128 → ¬ HasFront (IsBase128 number) octets.now }
-    ensures capacity { vec_capacity numbers.new ≡ vec_capacity numbers.old }
-{
-    if !octets.is_empty() && octets[0] < 0x80 {
-        numbers.push_reserved(u128::from(octets[0]));
-        return 1;
-    }
-    // Octet 80 would be a leading zero.
-    if octets.len() > 1 && octets[0] > 0x80 && octets[1] < 0x80 {
-        let number = u32::from(octets[0] - 0x80) * 128 + u32::from(octets[1]);
-        numbers.push_reserved(u128::from(number));
-        return 2;
-    }
-    if octets.len() > 2 && octets[0] > 0x80 && octets[1] >= 0x80 && octets[2] < 0x80 {
-        let front = u32::from(octets[0] - 0x80) * 128 + u32::from(octets[1] - 0x80);
-        numbers.push_reserved(u128::from(front * 128 + u32::from(octets[2])));
-        return 3;
-    }
-    put_long_number(octets, numbers)
-}
-
-// Appends the subidentifier at the front of `octets`, of any size.
-#[inline(never)]
-fn put_long_number(octets: &[u8], numbers: &mut Vec<u128>) -> usize
-    requires { vec_len numbers.old < vec_capacity numbers.old }
-    ensures value { 1 ≤ result → IsOneRead octets.now numbers.old.items numbers.new.items result }
-    ensures none { result ≡ 0 → (number : ℕ) → number < 2 ^ 128 → ¬ HasFront (IsBase128 number) octets.now }
-    ensures capacity { vec_capacity numbers.new ≡ vec_capacity numbers.old }
-{
-    let Some((number, used)) = read_subidentifier(octets) else {
-        return 0;
-    };
-    numbers.push_reserved(number);
-    used
-}
-
-// How many numbers the vector may hold before it is looked at again: it has room for them, and they are not past
-// `most`.
-#[inline(always)]
-fn room_within(most: usize, numbers: &Vec<u128>) -> usize
-    ensures { result ≡ min (vec_capacity numbers.now) most }
-{
-    let room = numbers.capacity();
-    if room < most { room } else { most }
 }
 
 /// Appends the contents octets of an OBJECT IDENTIFIER.

@@ -1,4 +1,4 @@
-use Rattle.std.proofs.Common.{length, ◌-◌, ◌≤◌}
+use Rattle.std.proofs.Common.{◌≡◌, length, ◌-◌, ◌+◌, ◌≤◌}
 use Rattle.octets.specs.Front.{Appends}
 use Rattle.primitives.proofs.OidLemmas.{AreRead}
 use Rattle.primitives.proofs.oid.read_subidentifiers.Given as goal
@@ -7,8 +7,8 @@ abbrev pub invariant-loop-start : goal.invariant-loop-start
 invariant-loop-start l = record {
   read : Appends (AreRead l.contents l.start) l.fn.arcs.items l.arcs.items;
   within : length l.arcs.items ≤ l.most;
-  room_there : l.room ≤ l.arcs.cap;
-  room_within : l.room ≤ l.most;
+  few : length l.arcs.items ≤ length l.fn.arcs.items + l.start;
+  room : l.arcs.cap ≡ l.fn.arcs.cap;
 }
 
 abbrev pub decreases-loop-start : goal.decreases-loop-start
