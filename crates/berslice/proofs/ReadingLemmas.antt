@@ -1,6 +1,6 @@
 -- Lemmas on values that are read at once.
 use Rattle.std.specs.List.{AllByRecursion, concat}
-use Rattle.std.proofs.Common.{◌≡◌, ◌≢◌, ◌+◌, ◌-◌, ◌<◌, ◌≤◌, ℕ, zero, suc, List, [], ◌∷◌, ◌++◌, Option, Some, None, Box, Vec, Global, IfSome, refl, sym, ap, ◌∙◌, subst, subst₂, arith, set, take, drop, map, option_map, length, get_or, append-nil, append_assoc}
+use Rattle.std.proofs.Common.{◌≡◌, ◌≢◌, ◌+◌, ◌-◌, ◌<◌, ◌≤◌, ℕ, zero, suc, List, [], ◌∷◌, ◌++◌, Option, Some, None, Box, Vec, Global, IfSome, refl, sym, ap, ◌∙◌, subst, subst₂, arith, set, take, drop, map, option_map, length, get_or, append-nil, append_assoc, drop-drop}
 use Rattle.std.proofs.Math.Seq.{take-add}
 use Rattle.std.proofs.lemmas.List.{map_push, map_more, length-drop, take_all, take_rest}
 use Rattle.octets.specs.declared.tag.Tag.{Tag}
@@ -98,19 +98,45 @@ item_read levels type octets items v at used h is =
     }
 
 -- the items behind those that had come
-pub no_more_items : (levels : ℕ) (type : Shape) (octets : List ℕ) (old : List Value) → AreMoreItemsRead levels type octets old old 0
+no_more_items : (levels : ℕ) (type : Shape) (octets : List ℕ) (old : List Value) → AreMoreItemsRead levels type octets old old 0
 no_more_items levels type octets old = record { more = []; joined = sym (append-nil old); read = no_items levels type octets [] refl }
 
-pub item_behind : (levels : ℕ) (type : Shape) (octets : List ℕ) (at used : ℕ) (old new : List Value) → IsItemRead levels type (take (length octets - at) (drop at octets)) old new used → IsItemRead levels type (drop at octets) old new used
-item_behind levels type octets at used old new h = subst (λ o. IsItemRead levels type o old new used) (take_rest octets at) h
-
-pub one_item_more : (levels : ℕ) (type : Shape) (octets : List ℕ) (old items new : List Value) (at used : ℕ) → AreMoreItemsRead levels type octets old items at → IsItemRead levels type (drop at octets) items new used → AreMoreItemsRead levels type octets old new (at + used)
+one_item_more : (levels : ℕ) (type : Shape) (octets : List ℕ) (old items new : List Value) (at used : ℕ) → AreMoreItemsRead levels type octets old items at → IsItemRead levels type (drop at octets) items new used → AreMoreItemsRead levels type octets old new (at + used)
 one_item_more levels type octets old items new at used h one =
     let last = one.value ∷ [] in record {
       more = h.more ++ last;
       joined = one.joined ∙ (ap (λ l. l ++ last) h.joined ∙ append_assoc old h.more last);
       read = item_read levels type octets h.more one.value at used h.read one.read;
     }
+
+-- the items that stand in front of those octets that are left
+pub record AreItemsBefore (levels : ℕ) (type : Shape) (octets rest : List ℕ) (old new : List Value) : Type 0 where
+  pub at : ℕ
+  pub left : rest ≡ drop at octets
+  pub read : AreMoreItemsRead levels type octets old new at
+
+pub no_items_before : (levels : ℕ) (type : Shape) (octets : List ℕ) (old : List Value) → AreItemsBefore levels type octets octets old old
+no_items_before levels type octets old = record { at = 0; left = refl; read = no_more_items levels type octets old }
+
+pub one_more_before : (levels : ℕ) (type : Shape) (octets rest : List ℕ) (old items new : List Value) (used : ℕ) → AreItemsBefore levels type octets rest old items → IsItemRead levels type rest items new used
+    → AreItemsBefore levels type octets (take (length rest - used) (drop used rest)) old new
+one_more_before levels type octets rest old items new used h one = record {
+  at = h.at + used;
+  left = take_rest rest used ∙ (ap (drop used) h.left ∙ drop-drop used h.at octets);
+  read = one_item_more levels type octets old items new h.at used h.read (subst (λ o. IsItemRead levels type o items new used) h.left one);
+}
+
+-- they have as many octets as are not left
+pub items_before : (levels : ℕ) (type : Shape) (octets rest : List ℕ) (old new : List Value) (count : ℕ) → AreItemsBefore levels type octets rest old new → count ≡ length octets - length rest → AreMoreItemsRead levels type octets old new count
+items_before levels type octets rest old new count h is =
+    let same : h.at ≡ count = omega (arith, is, ap length h.left, length-drop h.at octets, h.read.read.there) in
+    subst (λ n. AreMoreItemsRead levels type octets old new n) same h.read
+
+-- fewer are left behind one item more
+pub fewer_left : (levels : ℕ) (type : Shape) (rest : List ℕ) (old new : List Value) (used : ℕ) → IsItemRead levels type rest old new used → length (take (length rest - used) (drop used rest)) < length rest
+fewer_left levels type rest old new used one =
+    let some = read_some levels type rest one.value used one.read in
+    omega (arith, some, one.read.0, ap length (take_rest rest used), length-drop used rest)
 
 pub all_items : (levels : ℕ) (type : Shape) (octets : List ℕ) (old new : List Value) (used : ℕ) → old ≡ [] → AreMoreItemsRead levels type octets old new used → AreItemsRead levels type octets new used
 all_items levels type octets old new used none h = subst (λ l. AreItemsRead levels type octets l used) (sym (h.joined ∙ ap (λ l. l ++ h.more) none)) h.read

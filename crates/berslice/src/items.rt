@@ -4,19 +4,19 @@ ghost use Rattle.std.specs.Prelude.{◌≡◌, ◌≤◌, None, IfSome, vec_len}
 ghost use Rattle.types.specs.FirstTags.{IsUsable};
 ghost use Rattle.types.specs.Leaf.{IsLeaf, tag_of};
 ghost use Rattle.types.specs.Shape.{Shape};
-ghost use Rattle.types.specs.View.{ty_view};
+ghost use Rattle.types.specs.View.{alternatives_view, ty_view};
 ghost use Rattle.encoding_parts.specs.Parts.{IsGoodType};
 ghost use Rattle.encoding_parts.specs.Renewed.{new_items};
 ghost use Rattle.berslice.specs.Reading.{IsRead, IsItemRead, AreMoreItemsRead};
 
 use crate::heads::{ends_at, identifier_of, opened};
-use crate::leaf::read_leaf;
+use crate::leaf::{read_leaf, read_leaf_behind};
 use crate::places::Places;
 use crate::reading::{read_alternative, read_nested, read_one};
-use encoding_parts::Renewed;
+use encoding_parts::{Renewed, choose};
 use octets::Tag;
 use std::alloc::Global;
-use types::{Ty, Value};
+use types::{Alternative, Ty, Value};
 
 // Reads a SEQUENCE OF or SET OF at the front into the value.
 #[cycle(reading)]
@@ -75,18 +75,17 @@ pub fn read_items(
     let before = list.count;
     let leaf = inner.leaf_tag();
     let mut places = Places::of(inner);
-    let mut at = 0;
-    while !ends_at(&octets[at..], definite) {
-        let rest = &octets[at..];
+    let mut rest = octets;
+    while !ends_at(rest, definite) {
         match read_item(alloc, inner, leaf, levels, rest, before, &mut places, list) {
-            Some(used) => at += used,
+            Some(used) => rest = &rest[used..],
             None => {
                 drop_begun(list);
-                return at;
+                return octets.len() - rest.len();
             }
         }
     }
-    at
+    octets.len() - rest.len()
 }
 
 // Drops what has come of the item behind the new ones, which was begun and is read again, part by part, or refused.
@@ -176,18 +175,63 @@ fn read_among(
     }
     if let Some(places) = places {
         if let Ty::Choice(alternatives) = ty {
-            let identifier = identifier_of(octets)?;
-            let which = places.place_of(alternatives, identifier.tag)?;
-            return read_alternative(
-                alloc,
-                alternatives,
-                which,
-                identifier,
-                levels,
-                octets,
-                value,
-            );
+            return read_choice(alloc, alternatives, places, levels, octets, value);
         }
     }
     read_nested(alloc, ty, levels, octets, value)
+}
+
+// Reads the encoding at the front into the value. Mostly it is one of an alternative without parts that has come.
+#[cycle(reading)]
+#[inline(always)]
+fn read_choice(
+    alloc: Global,
+    alternatives: &[Alternative],
+    places: &mut Places,
+    levels: usize,
+    octets: &[u8],
+    value: &mut Value,
+) -> Option<usize>
+    requires { IsGoodType (Shape.choice (alternatives_view alternatives.now)) }
+    ensures { IfSome result (λ used. IsRead levels (Shape.choice (alternatives_view alternatives.now)) octets.now value.new used) }
+{
+    let identifier = identifier_of(octets)?;
+    let Some((which, alternative)) = places.leaf_of(alternatives, identifier.tag) else {
+        return read_other_choice(alloc, alternatives, levels, octets, places, value);
+    };
+    if !choose(alloc, which, value) {
+        return None;
+    }
+    let Value::Chosen(_, boxed) = value else {
+        return None;
+    };
+    read_leaf_behind(alloc, &alternative.ty, identifier, levels, octets, boxed)
+}
+
+// Reads the encoding at the front, of an alternative that has parts or has not come, into the value. It reads the
+// identifier octets once more: handed on, they would go through memory in `read_choice` too.
+#[cycle(reading)]
+#[inline(never)]
+fn read_other_choice(
+    alloc: Global,
+    alternatives: &[Alternative],
+    levels: usize,
+    octets: &[u8],
+    places: &mut Places,
+    value: &mut Value,
+) -> Option<usize>
+    requires { IsGoodType (Shape.choice (alternatives_view alternatives.now)) }
+    ensures { IfSome result (λ used. IsRead levels (Shape.choice (alternatives_view alternatives.now)) octets.now value.new used) }
+{
+    let identifier = identifier_of(octets)?;
+    let which = places.place_of(alternatives, identifier.tag)?;
+    read_alternative(
+        alloc,
+        alternatives,
+        which,
+        identifier,
+        levels,
+        octets,
+        value,
+    )
 }

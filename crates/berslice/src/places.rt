@@ -1,6 +1,8 @@
 //! Where alternatives of a CHOICE stand that have come in a list.
 
-ghost use Rattle.std.specs.Prelude.{◌<◌, length, IfSome};
+ghost use Rattle.std.specs.Prelude.{◌≡◌, ◌<◌, length, get_or, IfSome};
+ghost use Rattle.types.specs.Leaf.{IsLeaf, tag_of};
+ghost use Rattle.types.specs.View.{ty_view};
 
 use encoding_parts::{begins, by_tag};
 use octets::Tag;
@@ -20,6 +22,27 @@ impl Places {
             Some(Places { each: [0; 256] })
         } else {
             None
+        }
+    }
+
+    // The alternative that has come with the tag, and its place; None unless it is one without parts.
+    #[inline(always)]
+    pub fn leaf_of<'a>(
+        &self,
+        alternatives: &'a [Alternative],
+        tag: Tag,
+    ) -> Option<(usize, &'a Alternative)>
+        ensures there { IfSome result (λ p. (p.0 < length alternatives.now) × (p.1.now ≡ get_or alternatives.now p.0 p.1.now)) }
+        ensures leaf { IfSome result (λ p. IsLeaf (ty_view p.1.now.ty) × (tag_of (ty_view p.1.now.ty) ≡ tag)) }
+    {
+        let which = usize::from(self.each[(tag.number % 256) as usize]);
+        if which >= alternatives.len() {
+            return None;
+        }
+        let alternative = &alternatives[which];
+        match alternative.ty.leaf_tag() {
+            Some(own) if own == tag => Some((which, alternative)),
+            _ => None,
         }
     }
 

@@ -16,7 +16,7 @@ use Rattle.encoding_parts.proofs.SetComponentLemmas.{members_in_slots, vacant_be
 use Rattle.berslice.specs.Heads.{IsOpened}
 use Rattle.berslice.specs.Reading.{IsRead, AreContentsRead, IsComponentRead, AreComponentsRead, AreMoreItemsRead}
 use Rattle.encoding_parts.specs.Renewed.{new_items}
-use Rattle.berslice.proofs.ReadingLemmas.{both_of, IfSome-map, read_some, explicit_contents, sequence_contents, constructed_read, sequence_of_read, set_of_read, no_more_items, one_item_more, item_behind, all_items, no_components, component_read, all_components, component_stands, good_components, good_component, good_alternative, place_chosen, chosen_read, no_members, member_behind, member_come, member_read, member_some, field_type, due_field, set_contents, good_members}
+use Rattle.berslice.proofs.ReadingLemmas.{both_of, IfSome-map, explicit_contents, sequence_contents, constructed_read, sequence_of_read, set_of_read, no_items_before, one_more_before, items_before, fewer_left, all_items, no_components, component_read, all_components, component_stands, good_components, good_component, good_alternative, place_chosen, chosen_read, no_members, member_behind, member_come, member_read, member_some, field_type, due_field, set_contents, good_members}
 use Rattle.berslice.proofs.+reading.Goals as goal
 use Rattle.berslice.proofs.+reading.Goals.{items::read_list-in-Some, items::read_list-in-None}
 
@@ -102,39 +102,46 @@ reading::read_constructed-returns t c =
     (λ n there whole. constructed_read c.args.levels tag type octets inside.octets.now v used n c.requires (search rules) c.in_ok-tag.ensures.value c.in_ok-used.ensures there (whole tag c.in_ok-inside.ensures))
 
 pub items::read_items-loop-alloc-init : goal.items::read_items-loop-alloc-init
-items::read_items-loop-alloc-init t c = no_more_items c.args.levels (ty_view c.args.inner.now) c.args.octets.now (new_items c.args.list.now)
-
-pub items::read_items-slice_bounds-ends_at-count : goal.items::read_items-slice_bounds-ends_at-count
-items::read_items-slice_bounds-ends_at-count t c = c.loop-alloc.invariant.read.there
-
-pub items::read_items-slice_bounds-ends_at-start : goal.items::read_items-slice_bounds-ends_at-start
-items::read_items-slice_bounds-ends_at-start t c = c.loop-alloc.invariant.read.there
+items::read_items-loop-alloc-init t c = no_items_before c.args.levels (ty_view c.args.inner.now) c.args.octets.now (new_items c.args.list.now)
 
 pub items::read_items-loop-alloc-smaller : goal.items::read_items-loop-alloc-smaller
 items::read_items-loop-alloc-smaller t c =
-    let octets = c.args.octets.now in
-    let at = c.loop-alloc.at in
-    let type = ty_view c.args.inner.now in
-    let one = item_behind c.args.levels type octets at c.in-Some.used (new_items c.loop-alloc.list) (new_items c.read_item.new.list) c.in-Some.ensures.some in
-    let some = read_some c.args.levels type (drop at octets) one.value c.in-Some.used one.read in
-    let rest = length-drop at octets in
-    omega (arith, some, one.read.0, rest, c.loop-alloc.invariant.read.there)
+    fewer_left c.args.levels (ty_view c.args.inner.now) c.loop-alloc.rest.now (new_items c.loop-alloc.list) (new_items c.read_item.new.list) c.in-Some.used c.in-Some.ensures.some
 
 pub items::read_items-loop-alloc-preserved : goal.items::read_items-loop-alloc-preserved
 items::read_items-loop-alloc-preserved t c =
-    let octets = c.args.octets.now in
-    let at = c.loop-alloc.at in
-    let type = ty_view c.args.inner.now in
-    let items = (new_items c.loop-alloc.list) in
-    let new = (new_items c.read_item.new.list) in
-    one_item_more c.args.levels type octets (new_items c.args.list.now) items new at c.in-Some.used c.loop-alloc.invariant (item_behind c.args.levels type octets at c.in-Some.used items new c.in-Some.ensures.some)
+    one_more_before c.args.levels (ty_view c.args.inner.now) c.args.octets.now c.loop-alloc.rest.now (new_items c.args.list.now) (new_items c.loop-alloc.list) (new_items c.read_item.new.list) c.in-Some.used c.loop-alloc.invariant c.in-Some.ensures.some
 
 pub items::read_items-returns-in-None : goal.items::read_items-returns-in-None
 items::read_items-returns-in-None t c =
-    subst (λ l. AreMoreItemsRead c.args.levels (ty_view c.args.inner.now) c.args.octets.now (new_items c.args.list.now) l c.loop-alloc.at) (sym (c.drop_begun.ensures ∙ c.in-None.ensures.none refl)) c.loop-alloc.invariant
+    let type = ty_view c.args.inner.now in
+    let octets = c.args.octets.now in
+    let rest = c.loop-alloc.rest.now in
+    let used = length octets - length rest in
+    let read = items_before c.args.levels type octets rest (new_items c.args.list.now) (new_items c.loop-alloc.list) used c.loop-alloc.invariant refl in
+    subst (λ l. AreMoreItemsRead c.args.levels type octets (new_items c.args.list.now) l used) (sym (c.drop_begun.ensures ∙ c.in-None.ensures.none refl)) read
 
 pub items::read_items-returns : goal.items::read_items-returns
-items::read_items-returns t c = c.loop-alloc.invariant
+items::read_items-returns t c =
+    items_before c.args.levels (ty_view c.args.inner.now) c.args.octets.now c.loop-alloc.rest.now (new_items c.args.list.now) (new_items c.loop-alloc.list) _ c.loop-alloc.invariant refl
+
+pub items::read_choice-read_leaf_behind-requires-clause-good : goal.items::read_choice-read_leaf_behind-requires-clause-good
+items::read_choice-read_leaf_behind-requires-clause-good t c =
+    let found = c.in-Some.ensures.there in
+    good_alternative c.args.alternatives.now c.in-Some.which c.in-Some.alternative.now found.0 found.1 c.requires
+
+pub items::read_choice-returns : goal.items::read_choice-returns
+unfolding value.out-Value denote.Hole.Carrier.out
+items::read_choice-returns t c =
+    let levels = c.args.levels in
+    let octets = c.args.octets.now in
+    let xs = c.args.alternatives.now in
+    let which = c.in-Some.which in
+    let found = c.in-Some.ensures.there in
+    let v = c.read_leaf_behind.new.value in
+    let place : c.in-Chosen.field-0 ≡ which = place_chosen which c.in-Chosen.field-0 c.in-Chosen.boxed c.choose.new.value (c.choose.ensures c.if-not-choose.false) c.in-Chosen.is in
+    IfSome-map c.read_leaf_behind.result _ (λ used. IsRead levels (Shape.choice (alternatives_view xs)) octets _ used)
+    (λ used h. chosen_read levels xs which c.in-Some.alternative.now octets v _ used found.0 found.1 (search (rules, value.the_lemmas) ∙ ap (λ p. Val.chosen p (value_view v)) place) h) c.read_leaf_behind.ensures
 
 pub items::read_list-close-whole-requires-clause-there : goal.items::read_list-close-whole-requires-clause-there
 items::read_list-close-whole-requires-clause-there t c = c.read_items-used.ensures.read.there

@@ -2,7 +2,8 @@ use Rattle.std.proofs.Common.{◌≡◌, length, map, take, ◌-◌}
 use Rattle.types.specs.View.{ty_view, field_view}
 use Rattle.encoding_parts.specs.HeldParts.{come_view}
 use Rattle.encoding_parts.specs.Parts.{Parts}
-use Rattle.berslice.specs.Reading.{AreComponentsRead, AreMoreItemsRead, AreMembersRead}
+use Rattle.berslice.specs.Reading.{AreComponentsRead, AreMembersRead}
+use Rattle.berslice.proofs.ReadingLemmas.{AreItemsBefore}
 use Rattle.encoding_parts.specs.Renewed.{new_items}
 use Rattle.berslice.proofs.+reading.Given as goal
 
@@ -12,10 +13,10 @@ invariant-components::read_components-loop-place l =
     × (length l.slots.items ≡ length l.fields)
 
 abbrev pub invariant-items::read_items-loop-alloc : goal.invariant-items::read_items-loop-alloc
-invariant-items::read_items-loop-alloc l = AreMoreItemsRead l.levels (ty_view l.inner) l.octets (new_items l.initial.list) (new_items l.list) l.at
+invariant-items::read_items-loop-alloc l = AreItemsBefore l.levels (ty_view l.inner) l.octets l.rest (new_items l.initial.list) (new_items l.list)
 
 abbrev pub decreases-items::read_items-loop-alloc : goal.decreases-items::read_items-loop-alloc
-decreases-items::read_items-loop-alloc l = length l.octets - l.at
+decreases-items::read_items-loop-alloc l = length l.rest
 
 abbrev pub invariant-members::read_members-loop-alloc : goal.invariant-members::read_members-loop-alloc
 invariant-members::read_members-loop-alloc l = AreMembersRead l.levels (map field_view l.fields) l.octets (Parts.set (come_view l.set_components)) l.at
