@@ -2,3 +2,4 @@
 pub mod HeadLemmas
 pub mod LeafLemmas
 pub mod ReadingLemmas
+pub mod RenewedSetLemmas

@@ -218,10 +218,10 @@ none_come : (fields : List Field) → AllByRecursion (λ (s : SetComponent). s.c
 none_come [] = tt
 none_come (f ∷ fields) = (refl, none_come fields)
 
-pub no_members : (levels : ℕ) (fields : List Field) (octets : List ℕ) (slots : List (Option Value)) → slots ≡ map (λ c. None) (map field_view fields) → AreMembersRead levels (map field_view fields) octets (Parts.set (members_view fields slots)) 0
-no_members levels fields octets slots empty =
+pub no_members : (levels : ℕ) (fields : List Field) (octets : List ℕ) (come : List SetComponent) → come ≡ members_view fields (map (λ c. None) (map field_view fields)) → AreMembersRead levels (map field_view fields) octets (Parts.set come) 0
+no_members levels fields octets come empty =
     let none : List (Option Value) = map (λ c. None) (map field_view fields) in
-    subst (λ (l : List (Option Value)). AreMembersRead levels (map field_view fields) octets (Parts.set (members_view fields l)) 0) (sym empty)
+    subst (λ (l : List SetComponent). AreMembersRead levels (map field_view fields) octets (Parts.set l) 0) (sym empty)
     record { there = omega arith; set_components = λ other. ap components_of (sym (none_of fields)); come = none_holds levels (Parts.set (members_view fields none)) (none_come fields) }
 
 -- a component that is read into its slot

@@ -13,6 +13,7 @@ mod leaf;
 mod members;
 mod places;
 mod reading;
+mod renewed_set;
 
 pub use items::read_items;
 pub use reading::read_whole;

@@ -1,4 +1,4 @@
-use Rattle.std.proofs.Common.{rules, IfSome, ◌≡◌, ◌+◌, ◌-◌, ◌<◌, ◌≤◌, [], ◌∷◌, ◌++◌, set, refl, sym, ap, ◌∙◌, subst, arith, take, drop, map, length}
+use Rattle.std.proofs.Common.{rules, IfSome, Some, ◌≡◌, ◌+◌, ◌-◌, ◌<◌, ◌≤◌, [], ◌∷◌, ◌++◌, set, refl, sym, ap, ◌∙◌, subst, arith, take, drop, map, length}
 use Rattle.std.proofs.lemmas.List.{take_rest, take_more_set, length-set, length-drop}
 use Rattle.octets.specs.declared.tag.Tag.{Tag}
 use Rattle.octets.specs.Rule.{ber}
@@ -10,13 +10,14 @@ use Rattle.types.specs.Form.{IsConstructed}
 use Rattle.types.specs.Shape.{Shape, Val}
 use Rattle.types.specs.View.{ty_view, field_view, components_view, alternatives_view, value_view}
 use Rattle.types.proofs.ViewLemmas.{ty-Sequence, ty-Set}
-use Rattle.encoding_parts.specs.Parts.{Parts, IsVacant, IsGoodType}
-use Rattle.encoding_parts.specs.HeldParts.{come_view}
-use Rattle.encoding_parts.proofs.SetComponentLemmas.{members_in_slots, vacant_below}
+use Rattle.encoding_parts.specs.Parts.{Parts, IsGoodType}
+use Rattle.encoding_parts.specs.HeldParts.{members_view}
 use Rattle.berslice.specs.Heads.{IsOpened}
-use Rattle.berslice.specs.Reading.{IsRead, AreContentsRead, IsComponentRead, AreComponentsRead, AreMoreItemsRead}
+use Rattle.berslice.specs.Reading.{IsRead, AreContentsRead, IsComponentRead, AreComponentsRead, AreMoreItemsRead, IsMemberRead}
+use Rattle.berslice.specs.RenewedSet.{renewed_view, slots_view}
+use Rattle.berslice.proofs.RenewedSetLemmas.{renewed_come}
 use Rattle.encoding_parts.specs.Renewed.{new_items}
-use Rattle.berslice.proofs.ReadingLemmas.{both_of, IfSome-map, explicit_contents, sequence_contents, constructed_read, sequence_of_read, set_of_read, no_items_before, one_more_before, items_before, fewer_left, all_items, no_components, component_read, all_components, component_stands, good_components, good_component, good_alternative, place_chosen, chosen_read, no_members, member_behind, member_come, member_read, member_some, field_type, due_field, set_contents, good_members}
+use Rattle.berslice.proofs.ReadingLemmas.{both_of, IfSome-map, explicit_contents, sequence_contents, constructed_read, sequence_of_read, set_of_read, no_items_before, one_more_before, items_before, fewer_left, all_items, no_components, component_read, all_components, component_stands, good_components, good_component, good_alternative, place_chosen, chosen_read, no_members, member_behind, member_read, member_some, field_type, due_field, set_contents, good_members}
 use Rattle.berslice.proofs.+reading.Goals as goal
 use Rattle.berslice.proofs.+reading.Goals.{items::read_list-in-Some, items::read_list-in-None}
 
@@ -180,75 +181,69 @@ items::read_list-returns-clause-set t c = elim c.match-whole.branch [
 
 pub members::read_member-bounds-fields-place : goal.members::read_member-bounds-fields-place
 members::read_member-bounds-fields-place t c =
-    let place = due_field c.in_ok-identifier.identifier.tag c.args.fields.now (come_view c.args.set_components.now) c.in-Ok.place (ty_view c.in-Ok.field-0-1.now) c.requires.set_components c.in-Ok.ensures.value.0 in
+    let next = c.in_ok-place.ensures.next in
+    let place = due_field c.in_ok-identifier.identifier.tag c.args.fields.now (renewed_view c.args.set.now) c.in_ok-place.place next.type c.requires.set_components next.vacant in
     place.below
 
 pub members::read_member-offset_bounds-fields-place : goal.members::read_member-offset_bounds-fields-place
 members::read_member-offset_bounds-fields-place t c =
-    let place = due_field c.in_ok-identifier.identifier.tag c.args.fields.now (come_view c.args.set_components.now) c.in-Ok.place (ty_view c.in-Ok.field-0-1.now) c.requires.set_components c.in-Ok.ensures.value.0 in
+    let next = c.in_ok-place.ensures.next in
+    let place = due_field c.in_ok-identifier.identifier.tag c.args.fields.now (renewed_view c.args.set.now) c.in_ok-place.place next.type c.requires.set_components next.vacant in
     let bound = place.below in
     search (rules, bound)
 
 pub members::read_member-index_mut-slot-requires : goal.members::read_member-index_mut-slot-requires
-members::read_member-index_mut-slot-requires t c =
-    let own = c.args.set_components.now in
-    let there = vacant_below (come_view own) c.in-Ok.place (ty_view c.in-Ok.field-0-1.now) c.in-Ok.ensures.value.0 in
-    let all = members_in_slots own.fields.now own.slots.items in
-    omega (arith, there, all)
-
-pub members::read_member-overflow_add-set_components : goal.members::read_member-overflow_add-set_components
-members::read_member-overflow_add-set_components t c =
-    let place = due_field c.in_ok-identifier.identifier.tag c.args.fields.now (come_view c.args.set_components.now) c.in-Ok.place (ty_view c.in-Ok.field-0-1.now) c.requires.set_components c.in-Ok.ensures.value.0 in
-    let bound = place.below in
-    search (rules, bound)
+members::read_member-index_mut-slot-requires t c = omega (arith, c.in_ok-place.ensures.next.there)
 
 pub members::read_member-read_begun-requires : goal.members::read_member-read_begun-requires
 members::read_member-read_begun-requires t c =
     let fields = c.args.fields.now in
     let f = c.index-fields-place.result in
     let at = c.index-fields-place.is in
-    let place = due_field c.in_ok-identifier.identifier.tag c.args.fields.now (come_view c.args.set_components.now) c.in-Ok.place (ty_view c.in-Ok.field-0-1.now) c.requires.set_components c.in-Ok.ensures.value.0 in
+    let next = c.in_ok-place.ensures.next in
+    let place = due_field c.in_ok-identifier.identifier.tag fields (renewed_view c.args.set.now) c.in_ok-place.place next.type c.requires.set_components next.vacant in
     let bound = place.below in
-    (search (rules, node.the_lemmas, field.the_lemmas, bound, at), (subst IsGoodType (field_type f) (good_component fields c.in-Ok.place f bound at c.requires.good).type, c.in_ok-identifier.ensures))
+    (search (rules, node.the_lemmas, field.the_lemmas, bound, at), (subst IsGoodType (field_type f) (good_component fields c.in_ok-place.place f bound at c.requires.good).type, c.in_ok-identifier.ensures))
 
-pub members::read_member-returns : goal.members::read_member-returns
-members::read_member-returns t c =
+pub members::read_member-returns-clause-read : goal.members::read_member-returns-clause-read
+members::read_member-returns-clause-read t c =
     let levels = c.args.levels in
     let octets = c.args.octets.now in
-    let own = c.args.set_components.now in
-    let which = c.in-Ok.place in
-    let type = ty_view c.in-Ok.field-0-1.now in
+    let own = c.args.set.now in
+    let which = c.in_ok-place.place in
     let f = c.index-fields-place.result in
     let v = c.read_begun.new.value in
-    let used = c.in_ok-used.used in
-    let vacant : IsVacant (come_view own) which type = c.in-Ok.ensures.value.0 in
-    let place = due_field c.in_ok-identifier.identifier.tag c.args.fields.now (come_view own) which type c.requires.set_components vacant in
-    let read : IsRead levels type octets v used = subst (λ shape. IsRead levels shape octets v used) (place.types f c.index-fields-place.is) c.in_ok-used.ensures in
-    member_come levels own.fields.now octets own.slots.items v which type used vacant read
+    let new = c.due.new.self in
+    let next = c.in_ok-place.ensures.next in
+    let place = due_field c.in_ok-identifier.identifier.tag c.args.fields.now (renewed_view own) which next.type c.requires.set_components next.vacant in
+    let come = members_view new.set_components.fields.now (slots_view new (set new.set_components.slots.items which (Some v))) in
+    IfSome-map c.read_begun.result _ (λ used. IsMemberRead levels octets (Parts.set (renewed_view own)) (Parts.set come) used)
+    (λ used h. renewed_come levels octets own new v which used next (subst (λ shape. IsRead levels shape octets v used) (place.types f c.index-fields-place.is) h)) c.read_begun.ensures
 
 pub members::read_members-loop-alloc-smaller : goal.members::read_members-loop-alloc-smaller
 members::read_members-loop-alloc-smaller t c =
     let octets = c.args.octets.now in
     let at = c.loop-alloc.at in
-    let old = Parts.set (come_view c.loop-alloc.set_components) in
-    let new = Parts.set (come_view c.read_member.new.set_components) in
-    let read = member_behind c.args.levels octets at c.in_ok-at.field-0 old new c.in_ok-at.ensures in
+    let old = Parts.set (renewed_view c.loop-alloc.set) in
+    let new = Parts.set (renewed_view c.read_member.new.set) in
+    let read = member_behind c.args.levels octets at c.in_ok-at.field-0 old new c.in_ok-at.ensures.read in
     let some = member_some c.args.levels (drop at octets) old new c.in_ok-at.field-0 read in
     let rest = length-drop at octets in
-    omega (arith, some, read.there, rest, c.loop-alloc.invariant.there)
+    omega (arith, some, read.there, rest, c.loop-alloc.invariant.0.there)
 
 pub members::read_members-loop-alloc-preserved : goal.members::read_members-loop-alloc-preserved
 members::read_members-loop-alloc-preserved t c =
     let octets = c.args.octets.now in
     let at = c.loop-alloc.at in
-    let old = Parts.set (come_view c.loop-alloc.set_components) in
-    let new = Parts.set (come_view c.read_member.new.set_components) in
-    let read = member_behind c.args.levels octets at c.in_ok-at.field-0 old new c.in_ok-at.ensures in
-    member_read c.args.levels (map field_view c.args.fields.now) octets old new at c.in_ok-at.field-0 c.loop-alloc.invariant read
+    let old = Parts.set (renewed_view c.loop-alloc.set) in
+    let new = Parts.set (renewed_view c.read_member.new.set) in
+    let read = member_behind c.args.levels octets at c.in_ok-at.field-0 old new c.in_ok-at.ensures.read in
+    (member_read c.args.levels (map field_view c.args.fields.now) octets old new at c.in_ok-at.field-0 c.loop-alloc.invariant.0 read, c.in_ok-at.ensures.fields.0, c.in_ok-at.ensures.fields.1)
 
 pub members::read_members-loop-alloc-init : goal.members::read_members-loop-alloc-init
 members::read_members-loop-alloc-init t c =
-    no_members c.args.levels c.args.fields.now c.args.octets.now c.in-Ok.slots.items c.in-Ok.ensures
+    let made = c.in_ok-set.ensures in
+    (no_members c.args.levels c.args.fields.now c.args.octets.now _ made.none, made.roomy, made.fields)
 
 pub members::read_members-returns : goal.members::read_members-returns
 members::read_members-returns t c = λ tag.
@@ -256,8 +251,8 @@ members::read_members-returns t c = λ tag.
     let fields = c.args.fields.now in
     let octets = c.args.octets.now in
     let at = c.loop-alloc.at in
-    let parts = Parts.set (come_view c.loop-alloc.set_components) in
-    set_contents levels tag (map field_view fields) octets parts c.in-Ok-into_value.read at c.loop-alloc.invariant c.in-Ok-into_value.ensures.value
+    let parts = Parts.set (renewed_view c.loop-alloc.set) in
+    set_contents levels tag (map field_view fields) octets parts c.in_ok-read.read at c.loop-alloc.invariant.0 c.in_ok-read.ensures
 
 pub reading::read_inside-read_components-requires : goal.reading::read_inside-read_components-requires
 reading::read_inside-read_components-requires t c =

@@ -1,6 +1,6 @@
 use Rattle.std.proofs.Common.{◌≡◌, length, map, take, ◌-◌}
 use Rattle.types.specs.View.{ty_view, field_view}
-use Rattle.encoding_parts.specs.HeldParts.{come_view}
+use Rattle.berslice.specs.RenewedSet.{renewed_view, IsRoomy}
 use Rattle.encoding_parts.specs.Parts.{Parts}
 use Rattle.berslice.specs.Reading.{AreComponentsRead, AreMembersRead}
 use Rattle.berslice.proofs.ReadingLemmas.{AreItemsBefore}
@@ -19,7 +19,10 @@ abbrev pub decreases-items::read_items-loop-alloc : goal.decreases-items::read_i
 decreases-items::read_items-loop-alloc l = length l.rest
 
 abbrev pub invariant-members::read_members-loop-alloc : goal.invariant-members::read_members-loop-alloc
-invariant-members::read_members-loop-alloc l = AreMembersRead l.levels (map field_view l.fields) l.octets (Parts.set (come_view l.set_components)) l.at
+invariant-members::read_members-loop-alloc l =
+    AreMembersRead l.levels (map field_view l.fields) l.octets (Parts.set (renewed_view l.set)) l.at
+    × IsRoomy l.set
+    × (l.set.set_components.fields.now ≡ l.fields)
 
 abbrev pub decreases-members::read_members-loop-alloc : goal.decreases-members::read_members-loop-alloc
 decreases-members::read_members-loop-alloc l = length l.octets - l.at
