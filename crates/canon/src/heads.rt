@@ -59,7 +59,8 @@ pub(crate) fn low_head(tag: Tag, contents: usize) -> Few
     }
 }
 
-// The head of which the tag's number has one digit or two behind the leading octet, and the length one octet.
+// The head of which the tag's number has one digit or two behind the leading octet, and the length one octet. It is
+// made without a branch: how many digits the next tag of a list has, a processor cannot guess.
 #[inline(always)]
 pub(crate) fn high_head(tag: Tag, contents: usize) -> Few
     requires high { 31 ≤ tag.number }
@@ -70,17 +71,16 @@ pub(crate) fn high_head(tag: Tag, contents: usize) -> Few
 {
     let first = u64::from(class_octet(tag.class)) + 0x1F;
     let number = u64::from(tag.number);
-    let size = contents as u64;
-    if number < 0x80 {
-        return Few {
-            count: 3,
-            word: (first << 56) + (number << 48) + (size << 40),
-        };
-    }
-    let more = 0x80 + number / 128;
+    // Of two digits the first has bit 8 set (X.690 8.1.2.4.2), and comes one bit higher than in the number.
+    let (count, digits) = if number < 0x80 {
+        (3, number)
+    } else {
+        (4, 0x8000 + number / 128 * 128 + number)
+    };
+    let head = ((first << (8 * count - 16)) + digits) * 256 + contents as u64;
     Few {
-        count: 4,
-        word: (first << 56) + (more << 48) + ((number % 128) << 40) + (size << 32),
+        count,
+        word: head << (64 - 8 * count),
     }
 }
 

@@ -35,12 +35,14 @@ fn put_high_number(tag: Tag, number: i128, out: &mut Vec<u8>) -> Result<(), NoMe
     requires { 31 ≤ tag.number }
     ensures { Writes (IsNumberEncoding tag number) result out.old.items out.new.items }
 {
-    let distance = distance_of(number);
-    if distance >= 1 << 31 || tag.number >= 0x4000 {
-        return put_long_number(tag, number, out);
+    if tag.number < 0x4000 {
+        let distance = distance_of(number);
+        if distance < 1 << 31 {
+            let contents = contents_near(number, distance as u64);
+            return put_few(joined(high_head(tag, contents.count), contents), out);
+        }
     }
-    let contents = contents_near(number, distance as u64);
-    put_few(joined(high_head(tag, contents.count), contents), out)
+    put_long_number(tag, number, out)
 }
 
 // The contents octets of a number that stands so far above 0, or below -1.
@@ -50,11 +52,12 @@ fn contents_near(number: i128, distance: u64) -> Few
     ensures contents { Spells (IsInteger number) result }
     ensures few { (most : ℕ) → distance < 2 ^ (8 * most + 7) → result.count ≤ most + 1 }
 {
-    let count = (63 - (2 * distance + 1).leading_zeros() as usize) / 8 + 1;
+    // Twice the distance has a bit more than the distance, for the sign.
+    let free = (2 * distance + 1).leading_zeros() as usize / 8;
     let low = (number.cast_unsigned() % (1 << 64)) as u64;
     Few {
-        count,
-        word: low << (64 - 8 * count),
+        count: 8 - free,
+        word: low << (8 * free),
     }
 }
 

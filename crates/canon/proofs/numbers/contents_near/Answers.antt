@@ -13,7 +13,7 @@ use Rattle.canon.proofs.WordLemmas.{contents_spelt}
 use Rattle.canon.proofs.numbers.contents_near.Goals as goal
 
 -- the bits of twice the distance and one are one more than those of the distance
-bits : (distance : ℕ) → distance < 2 ^ 47 → (bits : ℕ) × (bits ≡ 63 - count_leading_zeros 64 (2 * distance + 1)) × (distance < 2 ^ bits) × (2 ^ bits ≤ 2 * distance + 1)
+bits : (distance : ℕ) → distance < 2 ^ 47 → (bits : ℕ) × (bits + count_leading_zeros 64 (2 * distance + 1) ≡ 63) × (distance < 2 ^ bits) × (2 ^ bits ≤ 2 * distance + 1)
 bits distance near =
     let there = leading_length 64 (2 * distance + 1) (omega (arith, near)) in
     let some : 1 ≤ there.0 = elim (cases_lt there.0 1) [
@@ -30,14 +30,16 @@ returns-clause-few c = λ most near.
     omega (arith, there.1, few_bits (8 * most + 7) c.args.distance there.0 near there.3)
 
 -- the contents octets, of which it is known how many there are
-spelt : (number own : ℤ) (distance : ℕ) (few : Few) (low : ℕ) → FitsSigned w128 number → (near : distance < 2 ^ 47) → few.count ≡ (63 - count_leading_zeros 64 (2 * distance + 1)) / 8 + 1 → few.word ≡ (low % 2 ^ 64 * 2 ^ (64 - 8 * few.count)) % 2 ^ 64 → low ≡ cast_unsigned w128 own → own ≡ number
+spelt : (number own : ℤ) (distance : ℕ) (few : Few) (low : ℕ) → FitsSigned w128 number → (near : distance < 2 ^ 47) → few.count ≡ 8 - count_leading_zeros 64 (2 * distance + 1) / 8 → few.word ≡ (low % 2 ^ 64 * 2 ^ (8 * (count_leading_zeros 64 (2 * distance + 1) / 8))) % 2 ^ 64 → low ≡ cast_unsigned w128 own → own ≡ number
     → ((negative : Bool) × (number ≡ number_at negative distance)) → Spells (IsInteger number) few
 spelt number own distance few low fits near count word is same at =
     let there = bits distance near in
-    let size : few.count ≡ there.0 / 8 + 1 = count ∙ ap (λ n. n / 8 + 1) (sym there.1) in
+    let zeros = count_leading_zeros 64 (2 * distance + 1) in
+    let size : few.count ≡ there.0 / 8 + 1 = omega (arith, count, there.1) in
+    let free : 8 * (zeros / 8) ≡ 64 - 8 * few.count = omega (arith, count, there.1) in
     contents_spelt number few fits (omega (arith, size, few_bits 47 distance there.0 near there.3))
     (λ contents h. size_by_bits at.0 distance there.0 contents there.2 there.3 (subst (λ n. IsInteger n contents) at.1 h) ∙ sym size)
-    (word ∙ ap (λ b. (b % 2 ^ 64 * 2 ^ (64 - 8 * few.count)) % 2 ^ 64) (is ∙ ap (cast_unsigned w128) same))
+    (word ∙ ap (λ k. (low % 2 ^ 64 * 2 ^ k) % 2 ^ 64) free ∙ ap (λ b. (b % 2 ^ 64 * 2 ^ (64 - 8 * few.count)) % 2 ^ 64) (is ∙ ap (cast_unsigned w128) same))
 
 pub returns-clause-contents : goal.returns-clause-contents
 returns-clause-contents c =

@@ -8,17 +8,17 @@ use Rattle.canon.proofs.WordLemmas.{joined_count, number_spelt, put_spelt}
 use Rattle.canon.proofs.numbers.put_high_number.Goals as goal
 
 pub high_head-requires-clause-short : goal.high_head-requires-clause-short
-high_head-requires-clause-short c = omega (arith, c.contents_near-contents.ensures.few 3 c.if-distance.false)
+high_head-requires-clause-short c = omega (arith, c.contents_near-contents.ensures.few 3 c.if-distance.true)
 
 pub joined-requires-clause-fit : goal.joined-requires-clause-fit
-joined-requires-clause-fit c = omega (arith, c.contents_near-contents.ensures.few 3 c.if-distance.false, c.high_head.ensures.few)
+joined-requires-clause-fit c = omega (arith, c.contents_near-contents.ensures.few 3 c.if-distance.true, c.high_head.ensures.few)
 
 pub put_few-requires : goal.put_few-requires
 put_few-requires c =
-    omega (arith, c.contents_near-contents.ensures.few 3 c.if-distance.false, c.high_head.ensures.few, joined_count c.joined.result c.high_head.ensures.head c.contents_near-contents.ensures.contents c.joined.ensures)
+    omega (arith, c.contents_near-contents.ensures.few 3 c.if-distance.true, c.high_head.ensures.few, joined_count c.joined.result c.high_head.ensures.head c.contents_near-contents.ensures.contents c.joined.ensures)
 
-pub returns : goal.returns
-returns c =
+pub returns-then-distance : goal.returns-then-distance
+returns-then-distance c =
     let tag = c.args.tag in
     let number = c.args.number in
     let contents = c.contents_near-contents.result in
