@@ -1,17 +1,20 @@
 -- Lemmas on the tags by which the components of a SET are ordered.
-use Rattle.std.proofs.Common.{suc, ◌≡◌, ◌≢◌, ◌⊎◌, inl, inr, ℕ, Bool, true, false, Decides, List, [], ◌∷◌, ◌++◌, Option, Some, None, length, get_or, map, refl, sym, ap, ◌∙◌, subst, arith, All, AllPairs, Contains, IsPermutation}
+use Rattle.std.proofs.Common.{suc, ◌+◌, ◌*◌, ◌^◌, ◌<◌, ◌≡◌, ◌≢◌, ◌⊎◌, inl, inr, ℕ, Bool, true, false, Decides, List, [], ◌∷◌, ◌++◌, Option, Some, None, length, get_or, map, refl, sym, ap, ◌∙◌, subst, arith, All, AllPairs, Contains, IsPermutation}
 use Rattle.std.proofs.lemmas.List.Elements.{All-nil, All-cons}
 use Rattle.std.proofs.lemmas.List.Kept.{AllPairs-cons}
 use Rattle.std.proofs.lemmas.List.Sorted.{All-permutation, IsPermutation-map, IsPermutation-refl}
 use Rattle.std.specs.List.{concat}
-use Rattle.std.specs.Ordering.{MatchOrdering, is_lt}
+use Rattle.std.specs.Ordering.{MatchOrdering}
 use Rattle.std.specs.declared.cmp.Ordering.{Ordering}
 use Rattle.std.specs.declared.cmp.Ordering.TheVariants.{Less, Equal, Greater}
 use Rattle.std.proofs.lemmas.Bool.Decides.{same_from_decides}
 use Rattle.std.proofs.lemmas.Map.Keys.{IsDistinct-from_apart, IsDistinct-IsPermutation, apart_from_distinct}
 use Rattle.octets.specs.declared.tag.Tag.{Tag}
 use Rattle.octets.specs.Rule.{Rule, ber, cer, der, IsCanonical}
-use Rattle.octets.specs.Tag.{ComesBefore}
+use Rattle.octets.specs.declared.tag.Class.{Class}
+use Rattle.octets.specs.declared.tag.Class.TheVariants.{Universal, Application, Context, Private}
+use Rattle.octets.specs.Identifier.{class_bits}
+use Rattle.octets.specs.Tag.{place_of, ComesBefore}
 use Rattle.octets.proofs.TagLemmas.{tag_order, tag_order-means}
 use Rattle.types.specs.Shape.{Val, Slots, no_slot, absent, present, Requirement, Shape, Components, no_component, component}
 use Rattle.types.specs.FirstTags.{first_tags, tags_of_components, AreDistinct}
@@ -270,8 +273,22 @@ by_tag_size rule components slots n canonical distinct h = record {
       );
 }
 
--- what `order` says of two tags where it is the first that comes before
-pub less_before : (a b : Tag) (o : Ordering) → MatchOrdering o (ComesBefore a b) (a ≡ b) (ComesBefore b a) → is_lt o ≡ true → ComesBefore a b
-less_before a b Less h is = h
-less_before a b Equal h is = cc
-less_before a b Greater h is = cc
+-- classes in their order, by their bits
+bits_by_place : (c : Class) → class_bits c + 64 ≡ 64 * place_of c
+bits_by_place Universal = refl
+bits_by_place Application = refl
+bits_by_place Context = refl
+bits_by_place Private = refl
+
+-- which of two tags comes first, where each is one number
+pub before_by_number : (a b : Tag) → b.number < 2 ^ 32 → class_bits a.class * 2 ^ 56 + a.number < class_bits b.class * 2 ^ 56 + b.number → ComesBefore a b
+before_by_number a b fit less = elim (ComesBefore-total a b) [
+  | inl before ↦ before
+  | inr other ↦ elim other [
+    | inl same ↦ absurd (omega (arith, less, ap (λ (t : Tag). class_bits t.class * 2 ^ 56 + t.number) same))
+    | inr after ↦ elim after [
+      | inl higher ↦ absurd (omega (arith, less, fit, higher, bits_by_place a.class, bits_by_place b.class))
+      | inr within ↦ absurd (omega (arith, less, ap class_bits within.0, within.1))
+    ]
+  ]
+]

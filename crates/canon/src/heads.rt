@@ -93,7 +93,7 @@ pub(crate) fn leading_octet(tag: Tag) -> u8
 }
 
 // Bits 8 and 7 of a leading octet, and zeros.
-fn class_octet(class: Class) -> u8
+pub(crate) fn class_octet(class: Class) -> u8
     ensures { result ≡ class_bits class }
 {
     match class {
