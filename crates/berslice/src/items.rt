@@ -2,7 +2,6 @@
 
 ghost use Rattle.std.specs.Prelude.{◌≡◌, ◌≤◌, None, IfSome, vec_len};
 ghost use Rattle.types.specs.FirstTags.{IsUsable};
-ghost use Rattle.types.specs.Leaf.{IsLeaf, tag_of};
 ghost use Rattle.types.specs.Shape.{Shape};
 ghost use Rattle.types.specs.View.{alternatives_view, ty_view};
 ghost use Rattle.encoding_parts.specs.Parts.{IsGoodType};
@@ -10,7 +9,8 @@ ghost use Rattle.encoding_parts.specs.Renewed.{new_items};
 ghost use Rattle.berslice.specs.Reading.{IsRead, IsItemRead, AreMoreItemsRead};
 
 use crate::heads::{ends_at, identifier_of, opened};
-use crate::leaf::{read_leaf, read_leaf_behind};
+use crate::leaf::read_leaf_behind;
+use crate::leaf_items::read_leaf_items;
 use crate::places::Places;
 use crate::reading::{read_alternative, read_nested, read_one};
 use encoding_parts::{Renewed, choose};
@@ -72,12 +72,14 @@ pub fn read_items(
     requires { IsGoodType (ty_view inner.now) }
     ensures { AreMoreItemsRead levels (ty_view inner.now) octets.now (new_items list.old) (new_items list.new) result }
 {
+    if let Some(tag) = inner.leaf_tag() {
+        return read_leaf_items(alloc, inner, tag, levels, octets, definite, list);
+    }
     let before = list.count;
-    let leaf = inner.leaf_tag();
     let mut places = Places::of(inner);
     let mut rest = octets;
     while !ends_at(rest, definite) {
-        match read_item(alloc, inner, leaf, levels, rest, before, &mut places, list) {
+        match read_item(alloc, inner, levels, rest, before, &mut places, list) {
             Some(used) => rest = &rest[used..],
             None => {
                 drop_begun(list);
@@ -89,7 +91,7 @@ pub fn read_items(
 }
 
 // Drops what has come of the item behind the new ones, which was begun and is read again, part by part, or refused.
-fn drop_begun(list: &mut Renewed)
+pub fn drop_begun(list: &mut Renewed)
     ensures { new_items list.new ≡ new_items list.old }
 {
     if list.count < list.items.len() {
@@ -97,22 +99,20 @@ fn drop_begun(list: &mut Renewed)
     }
 }
 
-// Puts the item at the front into the list, and returns how many octets it has. So many had come `before` these octets.
+// Puts the item at the front, of a type that has parts, into the list, and returns how many octets it has. So many had
+// come `before` these octets.
 #[cycle(reading)]
 #[inline(always)]
 fn read_item(
     alloc: Global,
     inner: &Ty,
-    leaf: Option<Tag>,
     levels: usize,
     octets: &[u8],
     before: usize,
     places: &mut Option<Places>,
     list: &mut Renewed,
 ) -> Option<usize>
-    requires good { IsGoodType (ty_view inner.now) }
-    requires leaf { IfSome leaf (λ _. IsLeaf (ty_view inner.now)) }
-    requires tag { IfSome leaf (λ tag. tag_of (ty_view inner.now) ≡ tag) }
+    requires { IsGoodType (ty_view inner.now) }
     ensures some { IfSome result (λ used. IsItemRead levels (ty_view inner.now) octets.now (new_items list.old) (new_items list.new) used) }
     ensures none { result ≡ None → new_items list.new ≡ new_items list.old }
 {
@@ -121,7 +121,7 @@ fn read_item(
     }
     let next = list.count;
     let item = &mut list.items[next];
-    let used = read_among(alloc, inner, leaf, levels, octets, places, item)?;
+    let used = read_among(alloc, inner, levels, octets, places, item)?;
     list.keep();
     Some(used)
 }
@@ -130,7 +130,7 @@ fn read_item(
 // since a list grows seldom.
 #[cycle(reading)]
 #[inline(never)]
-fn read_growing(
+pub fn read_growing(
     alloc: Global,
     inner: &Ty,
     levels: usize,
@@ -152,27 +152,21 @@ fn read_growing(
     }
 }
 
-// Reads the encoding at the front into the value, of a type of which others may have come: of a `leaf`, whose tag is
-// asked for once for all of them, or of a CHOICE with its `places`, or of any other.
+// Reads the encoding at the front into the value, of a type that has parts, of which others may have come: of a CHOICE
+// with its `places`, or of any other.
 #[cycle(reading)]
 #[inline(always)]
 fn read_among(
     alloc: Global,
     ty: &Ty,
-    leaf: Option<Tag>,
     levels: usize,
     octets: &[u8],
     places: &mut Option<Places>,
     value: &mut Value,
 ) -> Option<usize>
-    requires good { IsGoodType (ty_view ty.now) }
-    requires leaf { IfSome leaf (λ _. IsLeaf (ty_view ty.now)) }
-    requires tag { IfSome leaf (λ tag. tag_of (ty_view ty.now) ≡ tag) }
+    requires { IsGoodType (ty_view ty.now) }
     ensures { IfSome result (λ used. IsRead levels (ty_view ty.now) octets.now value.new used) }
 {
-    if let Some(tag) = leaf {
-        return read_leaf(alloc, ty, tag, levels, octets, value);
-    }
     if let Some(places) = places {
         if let Ty::Choice(alternatives) = ty {
             return read_choice(alloc, alternatives, places, levels, octets, value);

@@ -10,6 +10,7 @@ mod explicit;
 mod heads;
 mod items;
 mod leaf;
+mod leaf_items;
 mod members;
 mod places;
 mod reading;

@@ -107,11 +107,11 @@ items::read_items-loop-alloc-init t c = no_items_before c.args.levels (ty_view c
 
 pub items::read_items-loop-alloc-smaller : goal.items::read_items-loop-alloc-smaller
 items::read_items-loop-alloc-smaller t c =
-    fewer_left c.args.levels (ty_view c.args.inner.now) c.loop-alloc.rest.now (new_items c.loop-alloc.list) (new_items c.read_item.new.list) c.in-Some.used c.in-Some.ensures.some
+    fewer_left c.args.levels (ty_view c.args.inner.now) c.loop-alloc.rest.now (new_items c.loop-alloc.list) (new_items c.read_item.new.list) c.in-Some-read_item.used c.in-Some-read_item.ensures.some
 
 pub items::read_items-loop-alloc-preserved : goal.items::read_items-loop-alloc-preserved
 items::read_items-loop-alloc-preserved t c =
-    one_more_before c.args.levels (ty_view c.args.inner.now) c.args.octets.now c.loop-alloc.rest.now (new_items c.args.list.now) (new_items c.loop-alloc.list) (new_items c.read_item.new.list) c.in-Some.used c.loop-alloc.invariant c.in-Some.ensures.some
+    one_more_before c.args.levels (ty_view c.args.inner.now) c.args.octets.now c.loop-alloc.rest.now (new_items c.args.list.now) (new_items c.loop-alloc.list) (new_items c.read_item.new.list) c.in-Some-read_item.used c.loop-alloc.invariant c.in-Some-read_item.ensures.some
 
 pub items::read_items-returns-in-None : goal.items::read_items-returns-in-None
 items::read_items-returns-in-None t c =
@@ -124,6 +124,30 @@ items::read_items-returns-in-None t c =
 
 pub items::read_items-returns : goal.items::read_items-returns
 items::read_items-returns t c =
+    items_before c.args.levels (ty_view c.args.inner.now) c.args.octets.now c.loop-alloc.rest.now (new_items c.args.list.now) (new_items c.loop-alloc.list) _ c.loop-alloc.invariant refl
+
+pub leaf_items::read_leaf_items-loop-alloc-init : goal.leaf_items::read_leaf_items-loop-alloc-init
+leaf_items::read_leaf_items-loop-alloc-init t c = no_items_before c.args.levels (ty_view c.args.inner.now) c.args.octets.now (new_items c.args.list.now)
+
+pub leaf_items::read_leaf_items-loop-alloc-smaller : goal.leaf_items::read_leaf_items-loop-alloc-smaller
+leaf_items::read_leaf_items-loop-alloc-smaller t c =
+    fewer_left c.args.levels (ty_view c.args.inner.now) c.loop-alloc.rest.now (new_items c.loop-alloc.list) (new_items c.read_leaf_item.new.list) c.in-Some.used c.in-Some.ensures.some
+
+pub leaf_items::read_leaf_items-loop-alloc-preserved : goal.leaf_items::read_leaf_items-loop-alloc-preserved
+leaf_items::read_leaf_items-loop-alloc-preserved t c =
+    one_more_before c.args.levels (ty_view c.args.inner.now) c.args.octets.now c.loop-alloc.rest.now (new_items c.args.list.now) (new_items c.loop-alloc.list) (new_items c.read_leaf_item.new.list) c.in-Some.used c.loop-alloc.invariant c.in-Some.ensures.some
+
+pub leaf_items::read_leaf_items-returns-in-None : goal.leaf_items::read_leaf_items-returns-in-None
+leaf_items::read_leaf_items-returns-in-None t c =
+    let type = ty_view c.args.inner.now in
+    let octets = c.args.octets.now in
+    let rest = c.loop-alloc.rest.now in
+    let used = length octets - length rest in
+    let read = items_before c.args.levels type octets rest (new_items c.args.list.now) (new_items c.loop-alloc.list) used c.loop-alloc.invariant refl in
+    subst (λ l. AreMoreItemsRead c.args.levels type octets (new_items c.args.list.now) l used) (sym (c.drop_begun.ensures ∙ c.in-None.ensures.none refl)) read
+
+pub leaf_items::read_leaf_items-returns : goal.leaf_items::read_leaf_items-returns
+leaf_items::read_leaf_items-returns t c =
     items_before c.args.levels (ty_view c.args.inner.now) c.args.octets.now c.loop-alloc.rest.now (new_items c.args.list.now) (new_items c.loop-alloc.list) _ c.loop-alloc.invariant refl
 
 pub items::read_choice-read_leaf_behind-requires-clause-good : goal.items::read_choice-read_leaf_behind-requires-clause-good

@@ -18,6 +18,12 @@ invariant-items::read_items-loop-alloc l = AreItemsBefore l.levels (ty_view l.in
 abbrev pub decreases-items::read_items-loop-alloc : goal.decreases-items::read_items-loop-alloc
 decreases-items::read_items-loop-alloc l = length l.rest
 
+abbrev pub invariant-leaf_items::read_leaf_items-loop-alloc : goal.invariant-leaf_items::read_leaf_items-loop-alloc
+invariant-leaf_items::read_leaf_items-loop-alloc l = AreItemsBefore l.levels (ty_view l.inner) l.octets l.rest (new_items l.initial.list) (new_items l.list)
+
+abbrev pub decreases-leaf_items::read_leaf_items-loop-alloc : goal.decreases-leaf_items::read_leaf_items-loop-alloc
+decreases-leaf_items::read_leaf_items-loop-alloc l = length l.rest
+
 abbrev pub invariant-members::read_members-loop-alloc : goal.invariant-members::read_members-loop-alloc
 invariant-members::read_members-loop-alloc l =
     AreMembersRead l.levels (map field_view l.fields) l.octets (Parts.set (renewed_view l.set)) l.at
