@@ -1,7 +1,10 @@
 -- Lemmas on numbers in two's complement.
 use Rattle.std.proofs.Common.{◌≡◌, ℕ, ◌+◌, ◌*◌, ◌^◌, ◌<◌, ◌≤◌, ◌-◌, ◌/◌, ◌%◌, inl, inr, ◌⊎◌, List, [], ◌∷◌, ◌++◌, length, take, refl, sym, ◌∙◌, ap, arith, All, get_or, suc, Bool, true, false, length-append, append_assoc, drop, set, subst}
-use Rattle.std.specs.Prelude.{ℤ, pos, negsuc, ◌-ℤ◌, FitsSigned}
-use Rattle.std.specs.Int.{w128}
+use Rattle.std.specs.Prelude.{ℤ, pos, negsuc, ◌-ℤ◌, ◌+ℤ◌, ◌*ℤ◌, ◌<ℤ◌, ◌≤ℤ◌, FitsSigned}
+use mir.Syntax.{Width}
+use mir.Val.{to_z, bits, hbits}
+use Rattle.std.proofs.Math.Facts.{to_z-neg}
+use Rattle.std.specs.Int.{w16, w32, w128}
 use Rattle.std.proofs.lemmas.List.{take_more, drop-set, length-set}
 use Rattle.std.proofs.lemmas.List.Elements.{All-append, All-cons, All-nil}
 use Rattle.std.proofs.Math.Nat.{pow-le-pow_right, pow-suc, mul-le-mul_right}
@@ -343,11 +346,50 @@ IsInteger-from_spelling negative above rest start spelt h small =
     let more : drop at (set spelt at d) ≡ d ∷ drop start spelt = drop-set spelt at d (omega (arith, h.size, h.within, h.some)) ∙ ap (λ k. d ∷ drop k spelt) (sym next) in
     subst (IsInteger (number_at negative above)) (sym more) (h.joined (d ∷ []) (IsInteger-last negative rest small))
 
--- the number of four octets
-pub four_octets : (cs : List ℕ) → length cs ≡ 4 → integer_of cs ≡ pos (get_or cs 0 0 % 128 * 16777216 + ((get_or cs 1 0 * 256 + get_or cs 2 0) * 256 + get_or cs 3 0)) -ℤ pos (get_or cs 0 0 / 128 * (128 * 16777216))
-four_octets (a ∷ b ∷ c ∷ d ∷ []) four = omega (arith, ints)
-four_octets [] four = cc
-four_octets (a ∷ []) four = cc
-four_octets (a ∷ b ∷ []) four = cc
-four_octets (a ∷ b ∷ c ∷ []) four = cc
-four_octets (a ∷ b ∷ c ∷ d ∷ e ∷ es) four = cc
+-- bits with a first one are a number so far below
+to_z-above : (w : Width) (half n : ℕ) → half ≡ 2 ^ hbits w → 2 * half ≡ 2 ^ bits w → half ≤ n → n < 2 * half → to_z w n ≡ pos n -ℤ pos (2 * half)
+to_z-above w half n is twice above below =
+    let k = 2 * half - suc n in
+    let written : n ≡ 2 ^ bits w - suc k = omega (arith, twice) in
+    let negative : negsuc k ≡ pos n -ℤ pos (2 * half) = omega (arith, ints) in
+    ap (to_z w) written ∙ (to_z-neg w k (omega (arith, is)) ∙ negative)
+
+-- the number of two octets, of three, and of four
+pub two_octets : (cs : List ℕ) → length cs ≡ 2 → ((i : ℕ) → get_or cs i 0 < 256) → integer_of cs ≡ to_z w16 (get_or cs 0 0 * 256 + get_or cs 1 0)
+two_octets (a ∷ b ∷ []) two octets =
+    elim (cases_lt a 128) [
+      | inl low ↦ omega (arith, ints, low, octets 1)
+      | inr high ↦
+          let negative = to_z-above w16 32768 (a * 256 + b) refl refl (omega (arith, high)) (omega (arith, octets 0, octets 1)) in
+          omega (arith, ints, negative, high, octets 0)
+    ]
+two_octets [] two octets = cc
+two_octets (a ∷ []) two octets = cc
+two_octets (a ∷ b ∷ c ∷ cs) two octets = cc
+
+pub three_octets : (cs : List ℕ) → length cs ≡ 3 → ((i : ℕ) → get_or cs i 0 < 256) → integer_of cs ≡ to_z w16 (get_or cs 0 0 * 256 + get_or cs 1 0) *ℤ pos 256 +ℤ pos (get_or cs 2 0)
+three_octets (a ∷ b ∷ c ∷ []) three octets =
+    elim (cases_lt a 128) [
+      | inl low ↦ omega (arith, ints, low, octets 1)
+      | inr high ↦
+          let negative = to_z-above w16 32768 (a * 256 + b) refl refl (omega (arith, high)) (omega (arith, octets 0, octets 1)) in
+          omega (arith, ints, negative, high, octets 0)
+    ]
+three_octets [] three octets = cc
+three_octets (a ∷ []) three octets = cc
+three_octets (a ∷ b ∷ []) three octets = cc
+three_octets (a ∷ b ∷ c ∷ d ∷ ds) three octets = cc
+
+pub four_octets : (cs : List ℕ) → length cs ≡ 4 → ((i : ℕ) → get_or cs i 0 < 256) → integer_of cs ≡ to_z w32 (get_or cs 0 0 * 16777216 + get_or cs 1 0 * 65536 + get_or cs 2 0 * 256 + get_or cs 3 0)
+four_octets (a ∷ b ∷ c ∷ d ∷ []) four octets =
+    elim (cases_lt a 128) [
+      | inl low ↦ omega (arith, ints, low, octets 1, octets 2, octets 3)
+      | inr high ↦
+          let negative = to_z-above w32 2147483648 (a * 16777216 + b * 65536 + c * 256 + d) refl refl (omega (arith, high)) (omega (arith, octets 0, octets 1, octets 2, octets 3)) in
+          omega (arith, ints, negative, high, octets 0)
+    ]
+four_octets [] four octets = cc
+four_octets (a ∷ []) four octets = cc
+four_octets (a ∷ b ∷ []) four octets = cc
+four_octets (a ∷ b ∷ c ∷ []) four octets = cc
+four_octets (a ∷ b ∷ c ∷ d ∷ e ∷ es) four octets = cc

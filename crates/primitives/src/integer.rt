@@ -15,15 +15,24 @@ pub fn read_integer(contents: &[u8]) -> Option<i128>
     ensures value { IfSome result (λ number. IsInteger number contents.now) }
     ensures none { IfNone result ((number : ℤ) → FitsSigned w128 number → ¬ IsInteger number contents.now) }
 {
-    let Some((&first, _)) = contents.split_first() else {
-        return None;
-    };
+    // Two octets do not spell a number that one would (X.690 8.3.2).
+    if let [first, second] = contents {
+        let number = i16::from_be_bytes([*first, *second]);
+        return if -0x80 <= number && number < 0x80 {
+            None
+        } else {
+            Some(i128::from(number))
+        };
+    }
     if contents.len() > 16 || !is_shortest(contents) {
         return None;
     }
     if let Some(number) = few_octets(contents) {
         return Some(i128::from(number));
     }
+    let Some((&first, _)) = contents.split_first() else {
+        return None;
+    };
     if first < 0x80 {
         Some(long_number_above(contents) as i128)
     } else {
@@ -79,36 +88,17 @@ fn long_number_below(contents: &[u8]) -> u128
     number
 }
 
-// The number of one to four contents octets: most have no more. No branch tells its sign, since nobody guesses which
-// comes next.
+// The number of one, three or four contents octets. No branch tells its sign, since nobody guesses which comes next.
 #[inline(always)]
-fn few_octets(contents: &[u8]) -> Option<i64>
-    ensures { IfSome result (λ number. integer_of contents.now ≡ number) }
+fn few_octets(contents: &[u8]) -> Option<i32>
+    ensures { IfSome result (λ number. (1 ≤ length contents.now) × (integer_of contents.now ≡ number)) }
 {
     match contents {
-        [a] => Some(signed(*a, 1, 0)),
-        [a, b] => Some(signed(*a, 0x100, u32::from(*b))),
-        [a, b, c] => {
-            let others = u32::from(*b) * 256 + u32::from(*c);
-            Some(signed(*a, 0x1_0000, others))
-        }
-        [a, b, c, d] => {
-            let others = (u32::from(*b) * 256 + u32::from(*c)) * 256 + u32::from(*d);
-            Some(signed(*a, 0x100_0000, others))
-        }
+        [a] => Some(i32::from(a.cast_signed())),
+        [a, b, c] => Some(i32::from(i16::from_be_bytes([*a, *b])) * 256 + i32::from(*c)),
+        [a, b, c, d] => Some(i32::from_be_bytes([*a, *b, *c, *d])),
         _ => None,
     }
-}
-
-// The number of a first octet at this place, and of others that spell a number without a sign: the place values of the
-// bits that are set, less that of bit 8 of the first where it is (X.690 8.3.3).
-#[inline(always)]
-fn signed(first: u8, place: u32, others: u32) -> i64
-    ensures { result ≡ pos (first % 128 * place + others) -ℤ pos (first / 128 * (128 * place)) }
-{
-    let counted = u64::from(first % 128) * u64::from(place) + u64::from(others);
-    let less = u64::from(first / 128) * (128 * u64::from(place));
-    counted as i64 - less as i64
 }
 
 /// Appends the contents octets of `number`.
