@@ -241,9 +241,28 @@ member_read levels components octets old new at used h one =
       come = subst (Holds levels new) (sym (take-add at used octets)) (put_holds levels old new one.which one.type one.value (take at octets) part h.come one.due one.part one.put);
     }
 
--- what was read behind some octets
-pub member_behind : (levels : ℕ) (octets : List ℕ) (at used : ℕ) (old new : Parts) → IsMemberRead levels (take (length octets - at) (drop at octets)) old new used → IsMemberRead levels (drop at octets) old new used
-member_behind levels octets at used old new h = subst (λ o. IsMemberRead levels o old new used) (take_rest octets at) h
+-- the components that stand in front of those octets that are left
+pub record AreMembersBefore (levels : ℕ) (components : List ComponentView) (octets rest : List ℕ) (parts : Parts) : Type 0 where
+  pub at : ℕ
+  pub left : rest ≡ drop at octets
+  pub read : AreMembersRead levels components octets parts at
+
+pub no_members_before : (levels : ℕ) (fields : List Field) (octets : List ℕ) (come : List SetComponent) → come ≡ members_view fields (map (λ c. None) (map field_view fields)) → AreMembersBefore levels (map field_view fields) octets octets (Parts.set come)
+no_members_before levels fields octets come empty = record { at = 0; left = refl; read = no_members levels fields octets come empty }
+
+pub one_member_before : (levels : ℕ) (components : List ComponentView) (octets rest : List ℕ) (old new : Parts) (used : ℕ) → AreMembersBefore levels components octets rest old → IsMemberRead levels rest old new used
+    → AreMembersBefore levels components octets (take (length rest - used) (drop used rest)) new
+one_member_before levels components octets rest old new used h one = record {
+  at = h.at + used;
+  left = take_rest rest used ∙ (ap (drop used) h.left ∙ drop-drop used h.at octets);
+  read = member_read levels components octets old new h.at used h.read (subst (λ o. IsMemberRead levels o old new used) h.left one);
+}
+
+-- they have as many octets as are not left
+pub members_before : (levels : ℕ) (components : List ComponentView) (octets rest : List ℕ) (parts : Parts) (count : ℕ) → AreMembersBefore levels components octets rest parts → count ≡ length octets - length rest → AreMembersRead levels components octets parts count
+members_before levels components octets rest parts count h is =
+    let same : h.at ≡ count = omega (arith, is, ap length h.left, length-drop h.at octets, h.read.there) in
+    subst (AreMembersRead levels components octets parts) same h.read
 
 -- a part is not empty
 pub member_some : (levels : ℕ) (octets : List ℕ) (old new : Parts) (used : ℕ) → IsMemberRead levels octets old new used → 0 < used

@@ -1,17 +1,22 @@
 -- Lemmas on slots that hold old values.
-use Rattle.std.proofs.Common.{◌≡◌, ◌+◌, ◌-◌, ◌<◌, ◌≤◌, ℕ, zero, suc, List, [], ◌∷◌, Option, None, Some, length, get_or, set, map, refl, sym, ap, ◌∙◌, subst, subst₂, arith}
+use Rattle.std.specs.List.{AllByRecursion}
+use Rattle.std.proofs.Common.{◌≡◌, ◌+◌, ◌-◌, ◌<◌, ◌≤◌, ℕ, zero, suc, true, false, List, [], ◌∷◌, Option, None, Some, MatchOption, option_map, length, get_or, set, map, refl, sym, ap, ◌∙◌, subst, subst₂, arith}
+use Rattle.octets.specs.declared.tag.Tag.{Tag}
 use Rattle.types.specs.declared.value.Value.{Value}
 use Rattle.types.specs.declared.ty.Field.{Field}
-use Rattle.types.specs.View.{ComponentView, field_view, ty_view}
+use Rattle.types.specs.declared.ty.Presence.{Presence}
+use Rattle.types.specs.declared.ty.Presence.TheVariants as presence
+use Rattle.types.specs.View.{ComponentView, field_view, requirement_view, ty_view, value_view}
 use Rattle.encoding_parts.specs.HeldParts.{members_view, come_view}
-use Rattle.encoding_parts.specs.Parts.{IsVacant, Parts, SetComponent}
+use Rattle.encoding_parts.specs.Parts.{IsGoodComponent, IsGoodType, IsSlotOf, IsVacant, Parts, SetComponent}
 use Rattle.encoding_parts.proofs.SlotLemmas.{none_of}
-use Rattle.encoding_parts.proofs.SetComponentLemmas.{members_in_slots, vacant_below}
-use Rattle.types.specs.Shape.{Shape}
+use Rattle.encoding_parts.proofs.SetComponentLemmas.{IsSettledTo, members_in_fields, members_in_slots, settles_more, vacant_below}
+use Rattle.types.specs.Conforms.{MayBeAbsent}
+use Rattle.types.specs.Shape.{Shape, Val}
 use Rattle.berslice.specs.declared.renewed_set.RenewedSet.{RenewedSet}
-use Rattle.berslice.specs.RenewedSet.{without, slots_view, held_slots, renewed_view, IsRoomy, IsEmptied, IsNext}
-use Rattle.berslice.specs.Reading.{IsRead, IsMemberRead}
-use Rattle.berslice.proofs.ReadingLemmas.{field_type, member_come}
+use Rattle.berslice.specs.RenewedSet.{without, slots_view, held_slots, renewed_view, HasLeft, IsEmptied, IsFilled, IsNext, IsNextAt, IsRoomy}
+use Rattle.berslice.specs.Reading.{AreSetComponentsOf, IsRead, IsMemberRead}
+use Rattle.berslice.proofs.ReadingLemmas.{due_field, field_type, good_component, member_come}
 
 pub without_none : (first : ℕ) (slots : List (Option Value)) → without first 0 slots ≡ slots
 without_none first [] = refl
@@ -96,73 +101,157 @@ pub come_renewed : (s : RenewedSet) → s.first ≡ s.stop → come_view s.set_c
 come_renewed s none = ap (members_view s.set_components.fields.now) (sym (view_none s s.set_components.slots.items none))
 
 -- what is next once slots are emptied was so before
-pub next_emptied : (end : ℕ) (old mid new : RenewedSet) (which : ℕ) → IsEmptied end old mid → IsNext mid new which → IsNext old new which
-next_emptied end old mid new which done next =
+pub next_emptied : (end : ℕ) (old mid new : RenewedSet) (which : ℕ) (type : Shape) → HasLeft old new which → IsEmptied end old mid → IsNext mid new which type → IsNext old new which type
+next_emptied end old mid new which type left done next =
     record {
-      type = next.type;
-      vacant = subst (λ (l : List SetComponent). IsVacant l which next.type) (emptied_view end old mid done) next.vacant;
+      vacant = subst (λ (l : List SetComponent). IsVacant l which type) (emptied_view end old mid done) next.vacant;
       fields = next.fields ∙ done.fields;
       there = next.there;
       put = λ slot. next.put slot ∙ ap (λ (l : List (Option Value)). set l which slot) done.kept;
+      left = left;
     }
 
 -- one that is due where none of them is left
-pub next_anywhere : (s : RenewedSet) (which : ℕ) (type : Shape) → s.first ≡ s.stop → IsVacant (come_view s.set_components) which type → IsNext s s which
+pub next_anywhere : (s : RenewedSet) (which : ℕ) (type : Shape) → s.first ≡ s.stop → IsVacant (come_view s.set_components) which type → IsNext s s which type
 next_anywhere s which type none vacant =
     let slots = s.set_components.slots.items in
     let there = vacant_below (come_view s.set_components) which type vacant in
     let all = members_in_slots s.set_components.fields.now slots in
     record {
-      type = type;
       vacant = subst (λ (l : List SetComponent). IsVacant l which type) (come_renewed s none) vacant;
       fields = refl;
       there = omega (arith, there, all);
       put = λ slot. view_none s (set slots which slot) none ∙ ap (λ (l : List (Option Value)). set l which slot) (sym (view_none s slots none));
+      left = λ passed. (passed, λ place from to other. (from, to));
     }
+
+below_last : (place stop : ℕ) → place < stop → ¬ (place ≡ stop - 1) → place < stop - 1
+below_last place stop below other = omega (arith, below, other)
+
+behind_first : (place first : ℕ) → first ≤ place → ¬ (place ≡ first) → first + 1 ≤ place
+behind_first place first from other = omega (arith, from, other)
 
 -- the last of those that have not come
 pub next_last : (old : RenewedSet) (f : Field) → IsRoomy old → old.first < old.stop → f ≡ get_or old.set_components.fields.now (old.stop - 1) f
-    → IsNext old (record { set_components = old.set_components; first = old.first; stop = old.stop - 1 }) (old.stop - 1)
+    → IsNext old (record { set_components = old.set_components; first = old.first; stop = old.stop - 1; has_passed = old.has_passed }) (old.stop - 1) (ty_view f.ty)
 next_last old f roomy some at =
     let slots = old.set_components.slots.items in
     record {
-      type = ty_view f.ty;
       vacant = vacant_without old.set_components.fields.now slots old.first (old.stop - old.first) (old.stop - 1) f (omega (arith, roomy.fields, some)) (omega (arith, roomy.slots, some)) (omega (arith, some)) (omega (arith, some)) at;
       fields = refl;
       there = omega (arith, roomy.slots, some);
       put = λ slot. put_last old.first old.stop (old.stop - 1) slots slot some (omega (arith, some));
+      left = λ passed. (passed, λ place from to other. (from, below_last place old.stop to other));
     }
 
 -- the first of them
 pub next_first : (old : RenewedSet) (f : Field) → IsRoomy old → old.first < old.stop → f ≡ get_or old.set_components.fields.now old.first f
-    → IsNext old (record { set_components = old.set_components; first = old.first + 1; stop = old.stop }) old.first
+    → IsNext old (record { set_components = old.set_components; first = old.first + 1; stop = old.stop; has_passed = old.has_passed }) old.first (ty_view f.ty)
 next_first old f roomy some at =
     let slots = old.set_components.slots.items in
     record {
-      type = ty_view f.ty;
       vacant = vacant_without old.set_components.fields.now slots old.first (old.stop - old.first) old.first f (omega (arith, roomy.fields, some)) (omega (arith, roomy.slots, some)) (omega arith) (omega (arith, some)) at;
       fields = refl;
       there = omega (arith, roomy.slots, some);
       put = λ slot. put_first old.first old.stop (old.first + 1) slots slot some refl;
+      left = λ passed. (passed, λ place from to other. (behind_first place old.first from other, to));
     }
 
-field_at : (fields : List Field) (i : ℕ) → i < length fields → (f : Field) × (f ≡ get_or fields i f)
+pub field_at : (fields : List Field) (i : ℕ) → i < length fields → (f : Field) × (f ≡ get_or fields i f)
 field_at [] i below = absurd (omega (arith, below))
 field_at (f ∷ fields) zero below = (f, refl)
 field_at (f ∷ fields) (suc i) below = field_at fields i (omega (arith, below))
 
 -- the one before which slots are emptied
 pub next_ahead : (place : ℕ) (old mid : RenewedSet) → IsEmptied place old mid → place < mid.stop
-    → IsNext old (record { set_components = mid.set_components; first = place + 1; stop = mid.stop }) place
+    → IsNextAt old (record { set_components = mid.set_components; first = place + 1; stop = mid.stop; has_passed = true }) place
 next_ahead place old mid done some =
-    let at = field_at mid.set_components.fields.now mid.first (omega (arith, done.first, done.roomy.fields, some)) in
-    let next = next_first mid at.0 done.roomy (omega (arith, done.first, some)) at.1 in
-    next_emptied place old mid (record { set_components = mid.set_components; first = place + 1; stop = mid.stop }) place done
-    (subst (λ n. IsNext mid (record { set_components = mid.set_components; first = n + 1; stop = mid.stop }) n) done.first next)
+    let slots = mid.set_components.slots.items in (
+      subst (λ (l : List Field). place < length l) done.fields (omega (arith, done.roomy.fields, some)),
+      λ f at.
+          record {
+            vacant = subst (λ (l : List SetComponent). IsVacant l place (ty_view f.ty)) (emptied_view place old mid done)
+                (vacant_without mid.set_components.fields.now slots mid.first (mid.stop - mid.first) place f (omega (arith, done.roomy.fields, some)) (omega (arith, done.roomy.slots, some)) (omega (arith, done.first)) (omega (arith, done.first, some))
+                (subst (λ (l : List Field). f ≡ get_or l place f) (sym done.fields) at));
+            fields = done.fields;
+            there = omega (arith, done.roomy.slots, some);
+            put = λ slot. subst (λ n. without (place + 1) (mid.stop - (place + 1)) (set slots place slot) ≡ set (without n (mid.stop - n) slots) place slot) (sym done.first) (put_first place mid.stop (place + 1) slots slot some refl)
+                ∙ ap (λ (l : List (Option Value)). set l place slot) done.kept;
+            left = λ passed. absurd (cc passed);
+          },
+    )
 
 -- a component that is read into its slot
-pub renewed_come : (levels : ℕ) (octets : List ℕ) (old new : RenewedSet) (v : Value) (which used : ℕ) (next : IsNext old new which) → IsRead levels next.type octets v used
+pub renewed_come : (levels : ℕ) (octets : List ℕ) (old new : RenewedSet) (v : Value) (which used : ℕ) (type : Shape) → IsNext old new which type → IsRead levels type octets v used
     → IsMemberRead levels octets (Parts.set (renewed_view old)) (Parts.set (members_view new.set_components.fields.now (slots_view new (set new.set_components.slots.items which (Some v))))) used
-renewed_come levels octets old new v which used next h =
+renewed_come levels octets old new v which used type next h =
     subst₂ (λ (fs : List Field) (l : List (Option Value)). IsMemberRead levels octets (Parts.set (renewed_view old)) (Parts.set (members_view fs l)) used) (sym next.fields) (sym (next.put (Some v)))
-    (member_come levels old.set_components.fields.now octets (held_slots old) v which next.type used next.vacant h)
+    (member_come levels old.set_components.fields.now octets (held_slots old) v which type used next.vacant h)
+
+-- none has not come but those that had not, and not the one that is put
+vacant_put : (fields : List Field) (slots : List (Option Value)) (v : Value) (which other : ℕ) (type : Shape) → IsVacant (members_view fields (set slots which (Some v))) other type → (¬ (other ≡ which)) × IsVacant (members_view fields slots) other type
+vacant_put [] slots v which other type vacant = absurd vacant
+vacant_put (f ∷ fields) [] v which other type vacant = absurd vacant
+vacant_put (f ∷ fields) (s ∷ slots) v zero zero type vacant = absurd (cc vacant.0)
+vacant_put (f ∷ fields) (s ∷ slots) v zero (suc other) type vacant = ((λ same. absurd (omega (arith, same))), vacant)
+vacant_put (f ∷ fields) (s ∷ slots) v (suc which) zero type vacant = ((λ same. absurd (omega (arith, same))), vacant)
+vacant_put (f ∷ fields) (s ∷ slots) v (suc which) (suc other) type vacant =
+    let before = vacant_put fields slots v which other type vacant in
+    ((λ same. before.0 (omega (arith, same))), before.1)
+
+-- those that have not come are in the range once a component is put
+abbrev pub IsFilledWith : RenewedSet → ℕ → Value → Type 0
+IsFilledWith new which v = new.has_passed ≡ false → (other : ℕ) (its : Shape) → IsVacant (members_view new.set_components.fields.now (slots_view new (set new.set_components.slots.items which (Some v)))) other its → (new.first ≤ other) × (other < new.stop)
+
+pub filled_come : (old new : RenewedSet) (v : Value) (which : ℕ) (type : Shape) → IsFilled old → IsNext old new which type → IsFilledWith new which v
+filled_come old new v which type filled next passed other its vacant =
+    let before = subst₂ (λ (fs : List Field) (l : List (Option Value)). IsVacant (members_view fs l) other its) next.fields (next.put (Some v)) vacant in
+    let was = vacant_put old.set_components.fields.now (held_slots old) v which other its before in
+    let left = next.left passed in
+    let within = filled left.0 other its was.1 in
+    left.1 other within.0 within.1 was.0
+
+-- at first all are in it
+pub filled_first : (s : RenewedSet) → s.first ≡ 0 → s.stop ≡ length s.set_components.fields.now → IsFilled s
+filled_first s first stop passed which type vacant =
+    let there = vacant_below (renewed_view s) which type vacant in
+    let all = members_in_fields s.set_components.fields.now (held_slots s) in
+    (omega (arith, first), omega (arith, stop, there, all))
+
+-- where nothing is left of it, each has come
+pub none_left : (s : RenewedSet) → s.first ≡ s.stop → s.has_passed ≡ false → IsFilled s → (which : ℕ) (type : Shape) → ¬ IsVacant (come_view s.set_components) which type
+none_left s none passed filled which type vacant =
+    let within = filled passed which type (subst (λ (l : List SetComponent). IsVacant l which type) (come_renewed s none) vacant) in
+    absurd (omega (arith, none, within.0, within.1))
+
+pub none_missing : (ss : List SetComponent) → ((which : ℕ) (type : Shape) → ¬ IsVacant ss which type) → AllByRecursion (λ (s : SetComponent). s.come ≡ None → MayBeAbsent s.component.requirement) ss
+none_missing [] none = tt
+none_missing (s ∷ ss) none = ((λ vacant. absurd (none 0 s.component.type (vacant, refl))), none_missing ss (λ which type. none (suc which) type))
+
+-- a slot that is left as it is, of a component without a default
+slot_here : (slots : List (Option Value)) (i : ℕ) → i < length slots → (s : Option Value) × ((s ≡ get_or slots i s) × (set slots i s ≡ slots))
+slot_here [] i below = absurd (omega (arith, below))
+slot_here (s ∷ slots) zero below = (s, (refl, refl))
+slot_here (s ∷ slots) (suc i) below = let here = slot_here slots i (omega (arith, below)) in (here.0, (here.1.0, ap (λ (l : List (Option Value)). s ∷ l) here.1.1))
+
+kept_slot : (f : Field) (s : Option Value) → ((value : Val) → IsSlotOf (requirement_view f.presence) value (Some value)) → MatchOption s (s ≡ None) (λ (value : Value). IsSlotOf (requirement_view f.presence) (value_view value) (option_map value_view s))
+kept_slot f None kept = refl
+kept_slot f (Some value) kept = kept (value_view value)
+
+pub settles_kept : (fields : List Field) (old new : List (Option Value)) (i : ℕ) (f : Field) → i < length fields → i < length old → f ≡ get_or fields i f → ((value : Val) → IsSlotOf (requirement_view f.presence) value (Some value)) → IsSettledTo fields old new i → IsSettledTo fields old new (i + 1)
+settles_kept fields old new i f below below' is kept so_far =
+    let here = slot_here new i (omega (arith, below', so_far.many)) in
+    subst (λ (l : List (Option Value)). IsSettledTo fields old l (i + 1)) here.1.1
+    (settles_more fields old new i f here.0 here.0 below below' is here.1.0 (kept_slot f here.0 kept) so_far)
+
+pub without_default : (p : Presence) → ((other : Value) → p ≡ presence.Default other → ⊥) → (value : Val) → IsSlotOf (requirement_view p) value (Some value)
+without_default presence.Required none value = refl
+without_default presence.Optional none value = refl
+without_default (presence.Default other) none value = absurd (none other refl)
+
+-- the type of a component that has not come
+pub due_good : (tag : Tag) (fields : List Field) (set_components : List SetComponent) (which : ℕ) (type : Shape) → AllByRecursion IsGoodComponent (map field_view fields) → AreSetComponentsOf (map field_view fields) (Parts.set set_components) → IsVacant set_components which type → IsGoodType type
+due_good tag fields set_components which type good of vacant =
+    let place = due_field tag fields set_components which type of vacant in
+    let at = field_at fields which place.below in
+    subst IsGoodType (field_type at.0 ∙ place.types at.0 at.1) (good_component fields which at.0 place.below at.1 good).type

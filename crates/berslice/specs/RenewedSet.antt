@@ -1,9 +1,14 @@
 -- A SET whose components are read over the values of the one before.
-use Rattle.std.specs.Prelude.{◌≡◌, ◌≤◌, ◌-◌, ℕ, zero, suc, List, [], ◌∷◌, Option, None, length, set}
+use Rattle.std.specs.Prelude.{◌≡◌, ◌≤◌, ◌<◌, ◌-◌, ℕ, zero, suc, true, false, List, [], ◌∷◌, Option, None, length, get_or, set}
+use Rattle.octets.specs.declared.tag.Tag.{Tag}
+use Rattle.types.specs.Leaf.{IsLeaf, tag_of}
 use Rattle.types.specs.Shape.{Shape}
+use Rattle.types.specs.View.{ty_view}
+use Rattle.types.specs.declared.ty.Field.{Field}
 use Rattle.types.specs.declared.value.Value.{Value}
 use Rattle.encoding_parts.specs.HeldParts.{members_view}
 use Rattle.encoding_parts.specs.Parts.{SetComponent, IsVacant}
+use Rattle.berslice.specs.declared.renewed_set.Due.{Due}
 use Rattle.berslice.specs.declared.renewed_set.RenewedSet.{RenewedSet}
 
 -- what the slots say where so many of them, from this one on, hold old values
@@ -38,10 +43,26 @@ pub record IsEmptied (end : ℕ) (old new : RenewedSet) : Type 0 where
   pub fields : new.set_components.fields.now ≡ old.set_components.fields.now
   pub kept : held_slots new ≡ held_slots old
 
--- this component has not come, and has once its slot is set
-pub record IsNext (old new : RenewedSet) (which : ℕ) : Type 0 where
-  pub type : Shape
+-- unless some were passed over, those that have not come are in the range
+abbrev pub IsFilled : RenewedSet → Type 0
+IsFilled s = s.has_passed ≡ false → (which : ℕ) (type : Shape) → IsVacant (renewed_view s) which type → (s.first ≤ which) × (which < s.stop)
+
+-- the range lost no more than this component, unless some were passed over
+abbrev pub HasLeft : RenewedSet → RenewedSet → ℕ → Type 0
+HasLeft old new which = new.has_passed ≡ false → (old.has_passed ≡ false) × ((place : ℕ) → old.first ≤ place → place < old.stop → ¬ (place ≡ which) → (new.first ≤ place) × (place < new.stop))
+
+-- this component of this type has not come, and has once its slot is set
+pub record IsNext (old new : RenewedSet) (which : ℕ) (type : Shape) : Type 0 where
   pub vacant : IsVacant (renewed_view old) which type
   pub fields : new.set_components.fields.now ≡ old.set_components.fields.now
   pub there : suc which ≤ length new.set_components.slots.items
   pub put : (slot : Option Value) → slots_view new (set new.set_components.slots.items which slot) ≡ set (held_slots old) which slot
+  pub left : HasLeft old new which
+
+-- the component at this place has not come, and has once its slot is set
+abbrev pub IsNextAt : RenewedSet → RenewedSet → ℕ → Type 0
+IsNextAt old new place = (place < length old.set_components.fields.now) × ((f : Field) → f ≡ get_or old.set_components.fields.now place f → IsNext old new place (ty_view f.ty))
+
+-- a component that is marked as a leaf is one of the tag
+abbrev pub IsLeafOf : Tag → Due → Type 0
+IsLeafOf tag due = due.is_leaf ≡ true → IsLeaf (ty_view due.ty.now) × (tag_of (ty_view due.ty.now) ≡ tag)

@@ -7,10 +7,11 @@ ghost use Rattle.types.specs.Shape.{Shape};
 ghost use Rattle.types.specs.View.{field_view, components_view};
 ghost use Rattle.encoding_parts.specs.Parts.{IsGoodComponent, Parts};
 ghost use Rattle.berslice.specs.Reading.{AreContentsRead, AreSetComponentsOf, IsMemberRead};
-ghost use Rattle.berslice.specs.RenewedSet.{renewed_view, IsRoomy};
+ghost use Rattle.berslice.specs.RenewedSet.{renewed_view, IsFilled, IsRoomy};
 
 use crate::heads::{ends_at, identifier_of};
-use crate::reading::read_begun;
+use crate::leaf::read_leaf_behind;
+use crate::reading::read_nested;
 use crate::renewed_set::RenewedSet;
 use std::alloc::Global;
 use types::{Field, Value};
@@ -30,13 +31,14 @@ pub fn read_members(
     ensures { IfSome result (λ used. (tag : Tag) → AreContentsRead levels (Shape.set tag (components_view fields.now)) octets.now value.new used) }
 {
     let mut set = RenewedSet::over(alloc, fields, value)?;
-    let mut at = 0;
-    while !ends_at(&octets[at..], definite) {
-        at += read_member(alloc, fields, levels, &octets[at..], &mut set)?;
+    let mut rest = octets;
+    while !ends_at(rest, definite) {
+        let used = read_member(alloc, fields, levels, rest, &mut set)?;
+        rest = &rest[used..];
     }
     let read = set.into_value()?;
     *value = read;
-    Some(at)
+    Some(octets.len() - rest.len())
 }
 
 // Reads the encoding of the component at the front into its slot, over what the slot holds.
@@ -49,15 +51,19 @@ fn read_member(
     set: &mut RenewedSet<'_>,
 ) -> Option<usize>
     requires good { AllByRecursion IsGoodComponent (map field_view fields.now) }
+    requires filled { IsFilled set.old }
     requires fields { IsRoomy set.old × (set.old.set_components.fields.now ≡ fields.now) }
     requires set_components { AreSetComponentsOf (map field_view fields.now) (Parts.set (renewed_view set.old)) }
+    ensures filled { IfSome result (λ used. IsFilled set.new) }
     ensures fields { IfSome result (λ used. IsRoomy set.new × (set.new.set_components.fields.now ≡ fields.now)) }
     ensures read { IfSome result (λ used. IsMemberRead levels octets.now (Parts.set (renewed_view set.old)) (Parts.set (renewed_view set.new)) used) }
 {
     let identifier = identifier_of(octets)?;
-    let place = set.due(identifier.tag)?;
-    let field = &fields[place];
-    let slot = &mut set.set_components.slots[place];
+    let due = set.due(identifier.tag)?;
+    let slot = &mut set.set_components.slots[due.place];
     let value = slot.get_or_insert_with(|| Value::Null);
-    read_begun(alloc, &field.ty, identifier, levels, octets, value)
+    if due.is_leaf {
+        return read_leaf_behind(alloc, due.ty, identifier, levels, octets, value);
+    }
+    read_nested(alloc, &fields[due.place].ty, levels, octets, value)
 }

@@ -1,15 +1,17 @@
 //! Components of a SET that are read over the values of the one before.
 
-ghost use Rattle.std.specs.Prelude.{◌≡◌, ◌≤◌, None, map, IfSome, MatchOption};
-ghost use Rattle.types.specs.View.{field_view, value_view};
-ghost use Rattle.encoding_parts.specs.HeldParts.{members_view};
-ghost use Rattle.encoding_parts.specs.Parts.{IsValueOf, Parts};
-ghost use Rattle.berslice.specs.RenewedSet.{renewed_view, IsEmptied, IsNext, IsRoomy};
+ghost use Rattle.std.specs.Prelude.{◌≡◌, ◌<◌, ◌≤◌, ℕ, None, map, option_map, length, get_or, IsTrue, IfSome, MatchOption};
+ghost use Rattle.std.specs.List.{AllZip};
+ghost use Rattle.types.specs.Shape.{Shape};
+ghost use Rattle.types.specs.View.{field_view, ty_view, value_view};
+ghost use Rattle.encoding_parts.specs.HeldParts.{come_view, members_view};
+ghost use Rattle.encoding_parts.specs.Parts.{IsSettled, IsVacant, IsValueOf, Parts};
+ghost use Rattle.berslice.specs.RenewedSet.{renewed_view, IsEmptied, IsFilled, IsLeafOf, IsNext, IsNextAt, IsRoomy};
 
-use encoding_parts::{SetComponents, begins, take_slots};
+use encoding_parts::{SetComponents, begins, drop_default, take_slots};
 use octets::Tag;
 use std::alloc::Global;
-use types::{Field, Ty, Value};
+use types::{Field, Presence, Ty, Value};
 
 /// What has come of a SET, read over the SET that came before. There is a range of components of which none has come and
 /// whose slots hold old values: one that comes is read over the old value in its slot. Where the components come in
@@ -22,6 +24,19 @@ pub struct RenewedSet<'a> {
     pub first: usize,
     /// The place where those end.
     pub stop: usize,
+    /// Whether some were passed over: unless so, all outside the range have come.
+    pub has_passed: bool,
+}
+
+/// A component that is due.
+#[derive(Clone, Copy)]
+pub struct Due<'a> {
+    /// Its place.
+    pub place: usize,
+    /// Its type.
+    pub ty: &'a Ty,
+    /// Whether it is one without parts, of the tag that it begins with.
+    pub is_leaf: bool,
 }
 
 impl<'a> RenewedSet<'a> {
@@ -30,6 +45,7 @@ impl<'a> RenewedSet<'a> {
         ensures none { IfSome result (λ set. renewed_view set ≡ members_view fields.now (map (λ c. None) (map field_view fields.now))) }
         ensures fields { IfSome result (λ set. set.set_components.fields.now ≡ fields.now) }
         ensures roomy { IfSome result IsRoomy }
+        ensures filled { IfSome result IsFilled }
     {
         let Ok(slots) = take_slots(alloc, fields, value) else {
             return None;
@@ -44,38 +60,40 @@ impl<'a> RenewedSet<'a> {
             set_components,
             first: 0,
             stop: fields.len(),
+            has_passed: false,
         })
     }
 
-    // The place of the component that has not come and begins with the tag. It counts as come from now on, with what is put
-    // into its slot.
+    // The component that has not come and begins with the tag. It counts as come from now on, with what is put into its
+    // slot.
     #[inline(always)]
-    pub fn due(&mut self, tag: Tag) -> Option<usize>
+    pub fn due(&mut self, tag: Tag) -> Option<Due<'a>>
         requires { IsRoomy self.old }
         ensures roomy { IsRoomy self.new }
-        ensures next { IfSome result (IsNext self.old self.new) }
+        ensures next { IfSome result (λ due. IsNext self.old self.new due.place (ty_view due.ty.now)) }
+        ensures leaf { IfSome result (λ due. IsLeafOf tag due) }
     {
         if self.first < self.stop {
             let fields = self.set_components.fields;
             let first = self.first;
             let last = self.stop - 1;
-            if can_begin(&fields[last].ty, tag) {
+            if let Some(due) = Due::at(fields, last, tag) {
                 self.stop = last;
-                return Some(last);
+                return Some(due);
             }
-            if can_begin(&fields[first].ty, tag) {
+            if let Some(due) = Due::at(fields, first, tag) {
                 self.first = first + 1;
-                return Some(first);
+                return Some(due);
             }
             if let Some(place) = self.due_ahead(tag) {
-                return Some(place);
+                return Some(Due::of(place, &fields[place].ty, tag));
             }
         }
-        let Ok((place, _)) = self.set_components.due(tag) else {
+        let Ok((place, ty)) = self.set_components.due(tag) else {
             return None;
         };
         self.set_components.behind = place + 1;
-        Some(place)
+        Some(Due::of(place, ty, tag))
     }
 
     // The place of the component in the range that begins with the tag. The range begins behind it from now on. Nothing
@@ -83,10 +101,12 @@ impl<'a> RenewedSet<'a> {
     #[inline(never)]
     fn due_ahead(&mut self, tag: Tag) -> Option<usize>
         requires { IsRoomy self.old }
-        ensures { MatchOption result (IsEmptied self.old.stop self.old self.new) (λ place. IsRoomy self.new × IsNext self.old self.new place) }
+        ensures next { MatchOption result (IsEmptied self.old.stop self.old self.new) (λ place. IsRoomy self.new × IsNextAt self.old self.new place) }
+        ensures passed { IsTrue self.new.has_passed }
     {
         let place = self.ahead(tag);
         self.empty_up_to(place);
+        self.has_passed = true;
         if place >= self.stop {
             return None;
         }
@@ -121,15 +141,75 @@ impl<'a> RenewedSet<'a> {
 
     // The value of the SET, if each component has come that may not be absent.
     pub fn into_value(self) -> Option<Value>
-        requires { IsRoomy self }
+        requires roomy { IsRoomy self }
+        requires filled { IsFilled self }
         ensures { IfSome result (λ value. IsValueOf (Parts.set (renewed_view self.entry)) (value_view value)) }
     {
+        if self.first == self.stop && !self.has_passed {
+            return Some(full_value(self.set_components));
+        }
         let mut renewed = self;
         let stop = renewed.stop;
         renewed.empty_up_to(stop);
         match renewed.set_components.into_value() {
             Ok(value) => Some(value),
             Err(_) => None,
+        }
+    }
+}
+
+impl<'a> Due<'a> {
+    // The component at the place, if an encoding of it can begin with the tag. One without parts needs no call.
+    #[inline(always)]
+    fn at(fields: &'a [Field], place: usize, tag: Tag) -> Option<Due<'a>>
+        requires { place < length fields.now }
+        ensures same { IfSome result (λ due. (due.place ≡ place) × ((f : Field) → f ≡ get_or fields.now place f → due.ty.now ≡ f.ty)) }
+        ensures leaf { IfSome result (IsLeafOf tag) }
+    {
+        let ty = &fields[place].ty;
+        let is_leaf = match ty.leaf_tag() {
+            Some(own) if own == tag => true,
+            Some(_) => return None,
+            None if begins(ty, tag) => false,
+            None => return None,
+        };
+        Some(Due { place, ty, is_leaf })
+    }
+
+    // The component of this type at the place, which begins with the tag.
+    #[inline(always)]
+    fn of(place: usize, ty: &'a Ty, tag: Tag) -> Due<'a>
+        ensures same { (result.place ≡ place) × (result.ty.now ≡ ty.now) }
+        ensures leaf { IsLeafOf tag result }
+    {
+        let is_leaf = match ty.leaf_tag() {
+            Some(own) => own == tag,
+            None => false,
+        };
+        Due { place, ty, is_leaf }
+    }
+}
+
+// The value of a SET of which each component has come. One that came as its default leaves an empty slot.
+fn full_value(set_components: SetComponents<'_>) -> Value
+    requires { (which : ℕ) (type : Shape) → ¬ IsVacant (come_view set_components) which type }
+    ensures { IsValueOf (Parts.set (come_view set_components.entry)) (value_view result) }
+{
+    let mut slots = set_components.slots;
+    slots.truncate(set_components.fields.len());
+    drop_defaults(set_components.fields, &mut slots);
+    Value::Fields(slots)
+}
+
+// Empties the slots of components that have come as their defaults. A slot is looked at only where there is a default.
+fn drop_defaults(fields: &[Field], slots: &mut [Option<Value>])
+    requires { length slots.old ≤ length fields.now }
+    ensures { AllZip IsSettled (members_view fields.now slots.old) (map (option_map value_view) slots.new) }
+{
+    for place in 0..slots.len() {
+        let presence = &fields[place].presence;
+        if let Presence::Default(_) = presence {
+            drop_default(presence, &mut slots[place]);
         }
     }
 }

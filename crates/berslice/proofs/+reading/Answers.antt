@@ -6,6 +6,7 @@ use Rattle.types.specs.declared.ty.Ty as node
 use Rattle.types.specs.declared.value.Value as value
 use Rattle.types.specs.declared.ty.Alternative as alternative
 use Rattle.types.specs.declared.ty.Field as field
+use Rattle.types.specs.declared.ty.Field.{Field}
 use Rattle.types.specs.Form.{IsConstructed}
 use Rattle.types.specs.Shape.{Shape, Val}
 use Rattle.types.specs.View.{ty_view, field_view, components_view, alternatives_view, value_view}
@@ -15,9 +16,9 @@ use Rattle.encoding_parts.specs.HeldParts.{members_view}
 use Rattle.berslice.specs.Heads.{IsOpened}
 use Rattle.berslice.specs.Reading.{IsRead, AreContentsRead, IsComponentRead, AreComponentsRead, AreMoreItemsRead, IsMemberRead}
 use Rattle.berslice.specs.RenewedSet.{renewed_view, slots_view}
-use Rattle.berslice.proofs.RenewedSetLemmas.{renewed_come}
+use Rattle.berslice.proofs.RenewedSetLemmas.{due_good, filled_come, IsFilledWith, renewed_come}
 use Rattle.encoding_parts.specs.Renewed.{new_items}
-use Rattle.berslice.proofs.ReadingLemmas.{both_of, IfSome-map, explicit_contents, sequence_contents, constructed_read, sequence_of_read, set_of_read, no_items_before, one_more_before, items_before, fewer_left, all_items, no_components, component_read, all_components, component_stands, good_components, good_component, good_alternative, place_chosen, chosen_read, no_members, member_behind, member_read, member_some, field_type, due_field, set_contents, good_members}
+use Rattle.berslice.proofs.ReadingLemmas.{both_of, IfSome-map, explicit_contents, sequence_contents, constructed_read, sequence_of_read, set_of_read, no_items_before, one_more_before, items_before, fewer_left, all_items, no_components, component_read, all_components, component_stands, good_components, good_component, good_alternative, place_chosen, chosen_read, no_members_before, one_member_before, members_before, member_some, field_type, set_contents, good_members, due_field}
 use Rattle.berslice.proofs.+reading.Goals as goal
 use Rattle.berslice.proofs.+reading.Goals.{items::read_list-in-Some, items::read_list-in-None}
 
@@ -203,80 +204,111 @@ items::read_list-returns-clause-set t c = elim c.match-whole.branch [
   | items::read_list-in-None w ↦ search (rules, w.in-None.is)
 ]
 
-pub members::read_member-bounds-fields-place : goal.members::read_member-bounds-fields-place
-members::read_member-bounds-fields-place t c =
-    let next = c.in_ok-place.ensures.next in
-    let place = due_field c.in_ok-identifier.identifier.tag c.args.fields.now (renewed_view c.args.set.now) c.in_ok-place.place next.type c.requires.set_components next.vacant in
+pub members::read_member-index_mut-slot-requires : goal.members::read_member-index_mut-slot-requires
+members::read_member-index_mut-slot-requires t c = omega (arith, c.in_ok-due.ensures.next.there)
+
+pub members::read_member-read_leaf_behind-requires-clause-good : goal.members::read_member-read_leaf_behind-requires-clause-good
+members::read_member-read_leaf_behind-requires-clause-good t c =
+    due_good c.in_ok-identifier.identifier.tag c.args.fields.now (renewed_view c.args.set.now) c.in_ok-due.due.place (ty_view c.in_ok-due.due.ty.now) c.requires.good c.requires.set_components c.in_ok-due.ensures.next.vacant
+
+pub members::read_member-returns-then-due-clause-filled : goal.members::read_member-returns-then-due-clause-filled
+members::read_member-returns-then-due-clause-filled t c =
+    let due = c.in_ok-due.due in
+    let new = c.due.new.self in
+    let v = c.read_leaf_behind.new.value in
+    IfSome-map c.read_leaf_behind.result _ (λ used. IsFilledWith new due.place v)
+    (λ used h. filled_come c.args.set.now new v due.place (ty_view due.ty.now) c.requires.filled c.in_ok-due.ensures.next) c.read_leaf_behind.ensures
+
+pub members::read_member-returns-then-due-clause-read : goal.members::read_member-returns-then-due-clause-read
+members::read_member-returns-then-due-clause-read t c =
+    let own = c.args.set.now in
+    let due = c.in_ok-due.due in
+    let new = c.due.new.self in
+    let v = c.read_leaf_behind.new.value in
+    let come = members_view new.set_components.fields.now (slots_view new (set new.set_components.slots.items due.place (Some v))) in
+    IfSome-map c.read_leaf_behind.result _ (λ used. IsMemberRead c.args.levels c.args.octets.now (Parts.set (renewed_view own)) (Parts.set come) used)
+    (λ used h. renewed_come c.args.levels c.args.octets.now own new v due.place used (ty_view due.ty.now) c.in_ok-due.ensures.next h) c.read_leaf_behind.ensures
+
+pub members::read_member-bounds-fields-due : goal.members::read_member-bounds-fields-due
+members::read_member-bounds-fields-due t c =
+    let own = c.args.set.now in
+    let due = c.in_ok-due.due in
+    let next = c.in_ok-due.ensures.next in
+    let place = due_field c.in_ok-identifier.identifier.tag c.args.fields.now (renewed_view own) due.place (ty_view due.ty.now) c.requires.set_components next.vacant in
     place.below
 
-pub members::read_member-offset_bounds-fields-place : goal.members::read_member-offset_bounds-fields-place
-members::read_member-offset_bounds-fields-place t c =
-    let next = c.in_ok-place.ensures.next in
-    let place = due_field c.in_ok-identifier.identifier.tag c.args.fields.now (renewed_view c.args.set.now) c.in_ok-place.place next.type c.requires.set_components next.vacant in
+pub members::read_member-offset_bounds-fields-due : goal.members::read_member-offset_bounds-fields-due
+members::read_member-offset_bounds-fields-due t c =
+    let own = c.args.set.now in
+    let due = c.in_ok-due.due in
+    let next = c.in_ok-due.ensures.next in
+    let place = due_field c.in_ok-identifier.identifier.tag c.args.fields.now (renewed_view own) due.place (ty_view due.ty.now) c.requires.set_components next.vacant in
     let bound = place.below in
     search (rules, bound)
 
-pub members::read_member-index_mut-slot-requires : goal.members::read_member-index_mut-slot-requires
-members::read_member-index_mut-slot-requires t c = omega (arith, c.in_ok-place.ensures.next.there)
-
-pub members::read_member-read_begun-requires : goal.members::read_member-read_begun-requires
-members::read_member-read_begun-requires t c =
+pub members::read_member-read_nested-requires : goal.members::read_member-read_nested-requires
+members::read_member-read_nested-requires t c =
+    let own = c.args.set.now in
+    let due = c.in_ok-due.due in
+    let next = c.in_ok-due.ensures.next in
+    let place = due_field c.in_ok-identifier.identifier.tag c.args.fields.now (renewed_view own) due.place (ty_view due.ty.now) c.requires.set_components next.vacant in
     let fields = c.args.fields.now in
-    let f = c.index-fields-place.result in
-    let at = c.index-fields-place.is in
-    let next = c.in_ok-place.ensures.next in
-    let place = due_field c.in_ok-identifier.identifier.tag fields (renewed_view c.args.set.now) c.in_ok-place.place next.type c.requires.set_components next.vacant in
+    let f = c.index-fields-due.result in
+    let at = c.index-fields-due.is in
     let bound = place.below in
-    (search (rules, node.the_lemmas, field.the_lemmas, bound, at), (subst IsGoodType (field_type f) (good_component fields c.in_ok-place.place f bound at c.requires.good).type, c.in_ok-identifier.ensures))
+    (search (rules, node.the_lemmas, field.the_lemmas, bound, at), subst (λ (x : Field). IsGoodType (ty_view x.ty)) at (subst IsGoodType (field_type f) (good_component fields due.place f bound at c.requires.good).type))
+
+pub members::read_member-returns-clause-filled : goal.members::read_member-returns-clause-filled
+members::read_member-returns-clause-filled t c =
+    let due = c.in_ok-due.due in
+    let new = c.due.new.self in
+    let v = c.read_nested.new.value in
+    IfSome-map c.read_nested.result _ (λ used. IsFilledWith new due.place v)
+    (λ used h. filled_come c.args.set.now new v due.place (ty_view due.ty.now) c.requires.filled c.in_ok-due.ensures.next) c.read_nested.ensures
 
 pub members::read_member-returns-clause-read : goal.members::read_member-returns-clause-read
 members::read_member-returns-clause-read t c =
+    let own = c.args.set.now in
+    let due = c.in_ok-due.due in
+    let next = c.in_ok-due.ensures.next in
+    let place = due_field c.in_ok-identifier.identifier.tag c.args.fields.now (renewed_view own) due.place (ty_view due.ty.now) c.requires.set_components next.vacant in
     let levels = c.args.levels in
     let octets = c.args.octets.now in
-    let own = c.args.set.now in
-    let which = c.in_ok-place.place in
-    let f = c.index-fields-place.result in
-    let v = c.read_begun.new.value in
+    let f = c.index-fields-due.result in
+    let v = c.read_nested.new.value in
     let new = c.due.new.self in
-    let next = c.in_ok-place.ensures.next in
-    let place = due_field c.in_ok-identifier.identifier.tag c.args.fields.now (renewed_view own) which next.type c.requires.set_components next.vacant in
-    let come = members_view new.set_components.fields.now (slots_view new (set new.set_components.slots.items which (Some v))) in
-    IfSome-map c.read_begun.result _ (λ used. IsMemberRead levels octets (Parts.set (renewed_view own)) (Parts.set come) used)
-    (λ used h. renewed_come levels octets own new v which used next (subst (λ shape. IsRead levels shape octets v used) (place.types f c.index-fields-place.is) h)) c.read_begun.ensures
+    let come = members_view new.set_components.fields.now (slots_view new (set new.set_components.slots.items due.place (Some v))) in
+    IfSome-map c.read_nested.result _ (λ used. IsMemberRead levels octets (Parts.set (renewed_view own)) (Parts.set come) used)
+    (λ used h. renewed_come levels octets own new v due.place used (ty_view due.ty.now) next (subst (λ shape. IsRead levels shape octets v used) (ap (λ (x : Field). ty_view x.ty) (sym c.index-fields-due.is) ∙ place.types f c.index-fields-due.is) h)) c.read_nested.ensures
 
 pub members::read_members-loop-alloc-smaller : goal.members::read_members-loop-alloc-smaller
 members::read_members-loop-alloc-smaller t c =
-    let octets = c.args.octets.now in
-    let at = c.loop-alloc.at in
-    let old = Parts.set (renewed_view c.loop-alloc.set) in
-    let new = Parts.set (renewed_view c.read_member.new.set) in
-    let read = member_behind c.args.levels octets at c.in_ok-at.field-0 old new c.in_ok-at.ensures.read in
-    let some = member_some c.args.levels (drop at octets) old new c.in_ok-at.field-0 read in
-    let rest = length-drop at octets in
-    omega (arith, some, read.there, rest, c.loop-alloc.invariant.0.there)
+    let rest = c.loop-alloc.rest.now in
+    let used = c.in_ok-used.used in
+    let read = c.in_ok-used.ensures.read in
+    let some = member_some c.args.levels rest (Parts.set (renewed_view c.loop-alloc.set)) (Parts.set (renewed_view c.read_member.new.set)) used read in
+    omega (arith, some, read.there, ap length (take_rest rest used), length-drop used rest)
 
 pub members::read_members-loop-alloc-preserved : goal.members::read_members-loop-alloc-preserved
 members::read_members-loop-alloc-preserved t c =
-    let octets = c.args.octets.now in
-    let at = c.loop-alloc.at in
-    let old = Parts.set (renewed_view c.loop-alloc.set) in
-    let new = Parts.set (renewed_view c.read_member.new.set) in
-    let read = member_behind c.args.levels octets at c.in_ok-at.field-0 old new c.in_ok-at.ensures.read in
-    (member_read c.args.levels (map field_view c.args.fields.now) octets old new at c.in_ok-at.field-0 c.loop-alloc.invariant.0 read, c.in_ok-at.ensures.fields.0, c.in_ok-at.ensures.fields.1)
+    let so_far = c.loop-alloc.invariant in
+    let come = c.in_ok-used.ensures in
+    (one_member_before c.args.levels (map field_view c.args.fields.now) c.args.octets.now c.loop-alloc.rest.now (Parts.set (renewed_view c.loop-alloc.set)) (Parts.set (renewed_view c.read_member.new.set)) c.in_ok-used.used so_far.0 come.read, come.fields.0, come.filled, come.fields.1)
 
 pub members::read_members-loop-alloc-init : goal.members::read_members-loop-alloc-init
 members::read_members-loop-alloc-init t c =
     let made = c.in_ok-set.ensures in
-    (no_members c.args.levels c.args.fields.now c.args.octets.now _ made.none, made.roomy, made.fields)
+    (no_members_before c.args.levels c.args.fields.now c.args.octets.now _ made.none, made.roomy, made.filled, made.fields)
 
 pub members::read_members-returns : goal.members::read_members-returns
 members::read_members-returns t c = λ tag.
     let levels = c.args.levels in
-    let fields = c.args.fields.now in
+    let components = map field_view c.args.fields.now in
     let octets = c.args.octets.now in
-    let at = c.loop-alloc.at in
+    let rest = c.loop-alloc.rest.now in
     let parts = Parts.set (renewed_view c.loop-alloc.set) in
-    set_contents levels tag (map field_view fields) octets parts c.in_ok-read.read at c.loop-alloc.invariant.0 c.in_ok-read.ensures
+    let used = length octets - length rest in
+    set_contents levels tag components octets parts c.in_ok-read.read used (members_before levels components octets rest parts used c.loop-alloc.invariant.0 refl) c.in_ok-read.ensures
 
 pub reading::read_inside-read_components-requires : goal.reading::read_inside-read_components-requires
 reading::read_inside-read_components-requires t c =

@@ -1,9 +1,9 @@
-use Rattle.std.proofs.Common.{◌≡◌, length, map, take, ◌-◌}
+use Rattle.std.proofs.Common.{◌≡◌, length, map, take}
 use Rattle.types.specs.View.{ty_view, field_view}
-use Rattle.berslice.specs.RenewedSet.{renewed_view, IsRoomy}
+use Rattle.berslice.specs.RenewedSet.{renewed_view, IsFilled, IsRoomy}
 use Rattle.encoding_parts.specs.Parts.{Parts}
-use Rattle.berslice.specs.Reading.{AreComponentsRead, AreMembersRead}
-use Rattle.berslice.proofs.ReadingLemmas.{AreItemsBefore}
+use Rattle.berslice.specs.Reading.{AreComponentsRead}
+use Rattle.berslice.proofs.ReadingLemmas.{AreItemsBefore, AreMembersBefore}
 use Rattle.encoding_parts.specs.Renewed.{new_items}
 use Rattle.berslice.proofs.+reading.Given as goal
 
@@ -26,9 +26,10 @@ decreases-leaf_items::read_leaf_items-loop-alloc l = length l.rest
 
 abbrev pub invariant-members::read_members-loop-alloc : goal.invariant-members::read_members-loop-alloc
 invariant-members::read_members-loop-alloc l =
-    AreMembersRead l.levels (map field_view l.fields) l.octets (Parts.set (renewed_view l.set)) l.at
+    AreMembersBefore l.levels (map field_view l.fields) l.octets l.rest (Parts.set (renewed_view l.set))
     × IsRoomy l.set
+    × IsFilled l.set
     × (l.set.set_components.fields.now ≡ l.fields)
 
 abbrev pub decreases-members::read_members-loop-alloc : goal.decreases-members::read_members-loop-alloc
-decreases-members::read_members-loop-alloc l = length l.octets - l.at
+decreases-members::read_members-loop-alloc l = length l.rest

@@ -1,32 +1,42 @@
-use Rattle.std.proofs.Common.{refl, sym, ◌∙◌, subst, arith}
+use Rattle.std.proofs.Common.{refl, sym, ap, ◌∙◌, ◌+◌, ◌-◌, subst, subst₂, arith}
 use Rattle.types.specs.View.{ty_view}
 use Rattle.encoding_parts.specs.HeldParts.{come_view}
 use Rattle.encoding_parts.proofs.SetComponentLemmas.{members_in_slots, vacant_below}
-use Rattle.berslice.specs.RenewedSet.{IsEmptied}
-use Rattle.berslice.proofs.RenewedSetLemmas.{next_first, next_last, next_anywhere, next_emptied}
+use Rattle.berslice.specs.RenewedSet.{HasLeft, IsEmptied, IsNext}
+use Rattle.berslice.proofs.RenewedSetLemmas.{next_first, next_last, next_anywhere, next_emptied, field_at}
 use Rattle.berslice.proofs.renewed_set.RenewedSet.due.Goals as goal
-use Rattle.berslice.proofs.renewed_set.RenewedSet.due.Goals.{then-self+else-can_begin+else-can_begin-2+in_default, else-self}
+use Rattle.berslice.proofs.renewed_set.RenewedSet.due.Goals.{then-self+in_default+in_default-at+in_default-due_ahead, else-self}
 
 pub overflow_add-self-2 : goal.overflow_add-self-2
 overflow_add-self-2 c =
     let s = c.if-self.self.set_components in
-    omega (arith, vacant_below (come_view s) c.in-Ok.place (ty_view c.in-Ok.field-0-1.now) c.in-Ok.ensures.value.0, members_in_slots s.fields.now s.slots.items, s.slots.ok.0, s.slots.ok.1, s.slots.small)
+    omega (arith, vacant_below (come_view s) c.in-Ok.place (ty_view c.in-Ok.ty.now) c.in-Ok.ensures.value.0, members_in_slots s.fields.now s.slots.items, s.slots.ok.0, s.slots.ok.1, s.slots.small)
 
-pub returns-then-can_begin-clause-next : goal.returns-then-can_begin-clause-next
-returns-then-can_begin-clause-next c =
-    next_last c.args.self.now c.index-fields-last.result c.requires (omega (arith, c.if-self.true)) c.index-fields-last.is
+pub returns-in-Some-clause-next : goal.returns-in-Some-clause-next
+returns-in-Some-clause-next c =
+    let old = c.args.self.now in
+    let found = field_at old.set_components.fields.now (old.stop - 1) (omega (arith, c.if-self.true, c.requires.fields)) in
+    let next = next_last old found.0 c.requires (omega (arith, c.if-self.true)) found.1 in
+    let same = c.in-Some.ensures.same in
+    subst₂ (IsNext old (record { set_components = old.set_components; first = old.first; stop = old.stop - 1; has_passed = old.has_passed })) (sym same.0) (ap ty_view (sym (same.1 found.0 found.1))) next
 
-pub returns-then-can_begin-2-clause-next : goal.returns-then-can_begin-2-clause-next
-returns-then-can_begin-2-clause-next c =
-    next_first c.args.self.now c.index-fields-first.result c.requires (omega (arith, c.if-self.true)) c.index-fields-first.is
+pub returns-in-Some-at-clause-next : goal.returns-in-Some-at-clause-next
+returns-in-Some-at-clause-next c =
+    let old = c.args.self.now in
+    let found = field_at old.set_components.fields.now old.first (omega (arith, c.if-self.true, c.requires.fields)) in
+    let next = next_first old found.0 c.requires (omega (arith, c.if-self.true)) found.1 in
+    let same = c.in-Some-at.ensures.same in
+    subst₂ (IsNext old (record { set_components = old.set_components; first = old.first + 1; stop = old.stop; has_passed = old.has_passed })) (sym same.0) (ap ty_view (sym (same.1 found.0 found.1))) next
 
 pub returns-clause-next : goal.returns-clause-next
 returns-clause-next c =
     let old = c.args.self.now in
     let mid = c.if-self.self in
-    let done : IsEmptied old.stop old mid = elim c.if-self.branch [
-      | then-self+else-can_begin+else-can_begin-2+in_default w ↦ subst (IsEmptied old.stop old) (sym w.self-is) w.in_default.ensures
-      | else-self w ↦ subst (IsEmptied old.stop old) (sym w.self-is) (record { first = omega (arith, w.if-self.false, c.requires.range); stop = refl; roomy = c.requires; fields = refl; kept = refl })
+    let all : IsEmptied old.stop old mid × HasLeft old mid c.in-Ok.place = elim c.if-self.branch [
+      | then-self+in_default+in_default-at+in_default-due_ahead w ↦ subst (λ s. IsEmptied old.stop old s × HasLeft old s c.in-Ok.place) (sym w.self-is) (w.in_default-due_ahead.ensures.next, λ passed. absurd (cc (passed, w.in_default-due_ahead.ensures.passed)))
+      | else-self w ↦ subst (λ s. IsEmptied old.stop old s × HasLeft old s c.in-Ok.place) (sym w.self-is) (record { first = omega (arith, w.if-self.false, c.requires.range); stop = refl; roomy = c.requires; fields = refl; kept = refl }, λ passed. (passed, λ place from to other. (from, to)))
     ] in
-    let next = next_emptied old.stop old mid mid c.in-Ok.place done (next_anywhere mid c.in-Ok.place (ty_view c.in-Ok.field-0-1.now) (done.first ∙ sym done.stop) c.in-Ok.ensures.value.0) in
-    record { type = next.type; vacant = next.vacant; fields = next.fields; there = next.there; put = next.put }
+    let found = next_anywhere mid c.in-Ok.place (ty_view c.in-Ok.ty.now) (all.0.first ∙ sym all.0.stop) c.in-Ok.ensures.value.0 in
+    let next = next_emptied old.stop old mid mid c.in-Ok.place (ty_view c.in-Ok.ty.now) all.1 all.0 found in
+    let same = c.of-2.ensures.same in
+    subst₂ (IsNext old _) (sym same.0) (ap ty_view (sym same.1)) (record { vacant = next.vacant; fields = next.fields; there = next.there; put = next.put; left = next.left })

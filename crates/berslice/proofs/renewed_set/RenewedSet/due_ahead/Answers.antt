@@ -2,8 +2,8 @@ use Rattle.std.proofs.Common.{arith}
 use Rattle.berslice.proofs.RenewedSetLemmas.{next_ahead}
 use Rattle.berslice.proofs.renewed_set.RenewedSet.due_ahead.Goals as goal
 
-pub returns : goal.returns
-returns c =
+pub returns-clause-next : goal.returns-clause-next
+returns-clause-next c =
     let mid = c.empty_up_to.new.self in
     let done = c.empty_up_to.ensures in
     let some = c.if-place-self.false in (
