@@ -1,18 +1,16 @@
 -- Lemmas on slots that hold old values.
 use Rattle.std.specs.List.{AllByRecursion}
-use Rattle.std.proofs.Common.{◌≡◌, ◌+◌, ◌-◌, ◌<◌, ◌≤◌, ℕ, zero, suc, true, false, List, [], ◌∷◌, Option, None, Some, MatchOption, option_map, length, get_or, set, map, refl, sym, ap, ◌∙◌, subst, subst₂, arith}
+use Rattle.std.proofs.Common.{◌≡◌, ◌+◌, ◌-◌, ◌<◌, ◌≤◌, ℕ, zero, suc, true, false, List, [], ◌∷◌, Option, None, Some, length, get_or, set, map, refl, sym, ap, ◌∙◌, subst, subst₂, arith}
 use Rattle.octets.specs.declared.tag.Tag.{Tag}
 use Rattle.types.specs.declared.value.Value.{Value}
 use Rattle.types.specs.declared.ty.Field.{Field}
-use Rattle.types.specs.declared.ty.Presence.{Presence}
-use Rattle.types.specs.declared.ty.Presence.TheVariants as presence
-use Rattle.types.specs.View.{ComponentView, field_view, requirement_view, ty_view, value_view}
+use Rattle.types.specs.View.{ComponentView, field_view, ty_view}
 use Rattle.encoding_parts.specs.HeldParts.{members_view, come_view}
-use Rattle.encoding_parts.specs.Parts.{IsGoodComponent, IsGoodType, IsSlotOf, IsVacant, Parts, SetComponent}
+use Rattle.encoding_parts.specs.Parts.{IsGoodComponent, IsGoodType, IsVacant, Parts, SetComponent}
 use Rattle.encoding_parts.proofs.SlotLemmas.{none_of}
-use Rattle.encoding_parts.proofs.SetComponentLemmas.{IsSettledTo, members_in_fields, members_in_slots, settles_more, vacant_below}
+use Rattle.encoding_parts.proofs.SetComponentLemmas.{members_in_fields, members_in_slots, vacant_below}
 use Rattle.types.specs.Conforms.{MayBeAbsent}
-use Rattle.types.specs.Shape.{Shape, Val}
+use Rattle.types.specs.Shape.{Shape}
 use Rattle.berslice.specs.declared.renewed_set.RenewedSet.{RenewedSet}
 use Rattle.berslice.specs.RenewedSet.{without, slots_view, held_slots, renewed_view, HasLeft, IsEmptied, IsFilled, IsNext, IsNextAt, IsRoomy}
 use Rattle.berslice.specs.Reading.{AreSetComponentsOf, IsRead, IsMemberRead}
@@ -227,27 +225,6 @@ none_left s none passed filled which type vacant =
 pub none_missing : (ss : List SetComponent) → ((which : ℕ) (type : Shape) → ¬ IsVacant ss which type) → AllByRecursion (λ (s : SetComponent). s.come ≡ None → MayBeAbsent s.component.requirement) ss
 none_missing [] none = tt
 none_missing (s ∷ ss) none = ((λ vacant. absurd (none 0 s.component.type (vacant, refl))), none_missing ss (λ which type. none (suc which) type))
-
--- a slot that is left as it is, of a component without a default
-slot_here : (slots : List (Option Value)) (i : ℕ) → i < length slots → (s : Option Value) × ((s ≡ get_or slots i s) × (set slots i s ≡ slots))
-slot_here [] i below = absurd (omega (arith, below))
-slot_here (s ∷ slots) zero below = (s, (refl, refl))
-slot_here (s ∷ slots) (suc i) below = let here = slot_here slots i (omega (arith, below)) in (here.0, (here.1.0, ap (λ (l : List (Option Value)). s ∷ l) here.1.1))
-
-kept_slot : (f : Field) (s : Option Value) → ((value : Val) → IsSlotOf (requirement_view f.presence) value (Some value)) → MatchOption s (s ≡ None) (λ (value : Value). IsSlotOf (requirement_view f.presence) (value_view value) (option_map value_view s))
-kept_slot f None kept = refl
-kept_slot f (Some value) kept = kept (value_view value)
-
-pub settles_kept : (fields : List Field) (old new : List (Option Value)) (i : ℕ) (f : Field) → i < length fields → i < length old → f ≡ get_or fields i f → ((value : Val) → IsSlotOf (requirement_view f.presence) value (Some value)) → IsSettledTo fields old new i → IsSettledTo fields old new (i + 1)
-settles_kept fields old new i f below below' is kept so_far =
-    let here = slot_here new i (omega (arith, below', so_far.many)) in
-    subst (λ (l : List (Option Value)). IsSettledTo fields old l (i + 1)) here.1.1
-    (settles_more fields old new i f here.0 here.0 below below' is here.1.0 (kept_slot f here.0 kept) so_far)
-
-pub without_default : (p : Presence) → ((other : Value) → p ≡ presence.Default other → ⊥) → (value : Val) → IsSlotOf (requirement_view p) value (Some value)
-without_default presence.Required none value = refl
-without_default presence.Optional none value = refl
-without_default (presence.Default other) none value = absurd (none other refl)
 
 -- the type of a component that has not come
 pub due_good : (tag : Tag) (fields : List Field) (set_components : List SetComponent) (which : ℕ) (type : Shape) → AllByRecursion IsGoodComponent (map field_view fields) → AreSetComponentsOf (map field_view fields) (Parts.set set_components) → IsVacant set_components which type → IsGoodType type

@@ -1,17 +1,15 @@
 //! Components of a SET that are read over the values of the one before.
 
-ghost use Rattle.std.specs.Prelude.{◌≡◌, ◌<◌, ◌≤◌, ℕ, None, map, option_map, length, get_or, IsTrue, IfSome, MatchOption};
-ghost use Rattle.std.specs.List.{AllZip};
-ghost use Rattle.types.specs.Shape.{Shape};
+ghost use Rattle.std.specs.Prelude.{◌≡◌, ◌<◌, ◌≤◌, None, map, length, get_or, IsTrue, IfSome, MatchOption};
 ghost use Rattle.types.specs.View.{field_view, ty_view, value_view};
-ghost use Rattle.encoding_parts.specs.HeldParts.{come_view, members_view};
-ghost use Rattle.encoding_parts.specs.Parts.{IsSettled, IsVacant, IsValueOf, Parts};
+ghost use Rattle.encoding_parts.specs.HeldParts.{members_view};
+ghost use Rattle.encoding_parts.specs.Parts.{IsValueOf, Parts};
 ghost use Rattle.berslice.specs.RenewedSet.{renewed_view, IsEmptied, IsFilled, IsLeafOf, IsNext, IsNextAt, IsRoomy};
 
-use encoding_parts::{SetComponents, begins, drop_default, take_slots};
+use encoding_parts::{SetComponents, begins, take_slots};
 use octets::Tag;
 use std::alloc::Global;
-use types::{Field, Presence, Ty, Value};
+use types::{Field, Ty, Value};
 
 /// What has come of a SET, read over the SET that came before. There is a range of components of which none has come and
 /// whose slots hold old values: one that comes is read over the old value in its slot. Where the components come in
@@ -146,7 +144,7 @@ impl<'a> RenewedSet<'a> {
         ensures { IfSome result (λ value. IsValueOf (Parts.set (renewed_view self.entry)) (value_view value)) }
     {
         if self.first == self.stop && !self.has_passed {
-            return Some(full_value(self.set_components));
+            return Some(self.set_components.filled_value());
         }
         let mut renewed = self;
         let stop = renewed.stop;
@@ -187,30 +185,6 @@ impl<'a> Due<'a> {
             None => false,
         };
         Due { place, ty, is_leaf }
-    }
-}
-
-// The value of a SET of which each component has come. One that came as its default leaves an empty slot.
-fn full_value(set_components: SetComponents<'_>) -> Value
-    requires { (which : ℕ) (type : Shape) → ¬ IsVacant (come_view set_components) which type }
-    ensures { IsValueOf (Parts.set (come_view set_components.entry)) (value_view result) }
-{
-    let mut slots = set_components.slots;
-    slots.truncate(set_components.fields.len());
-    drop_defaults(set_components.fields, &mut slots);
-    Value::Fields(slots)
-}
-
-// Empties the slots of components that have come as their defaults. A slot is looked at only where there is a default.
-fn drop_defaults(fields: &[Field], slots: &mut [Option<Value>])
-    requires { length slots.old ≤ length fields.now }
-    ensures { AllZip IsSettled (members_view fields.now slots.old) (map (option_map value_view) slots.new) }
-{
-    for place in 0..slots.len() {
-        let presence = &fields[place].presence;
-        if let Presence::Default(_) = presence {
-            drop_default(presence, &mut slots[place]);
-        }
     }
 }
 

@@ -7,10 +7,12 @@ use Rattle.std.specs.Option.{is_some}
 use Rattle.octets.specs.declared.tag.Tag.{Tag}
 use Rattle.types.specs.Conforms.{MayBeAbsent}
 use Rattle.types.specs.FirstTags.{first_tags}
-use Rattle.types.specs.Shape.{Shape, Requirement}
+use Rattle.types.specs.Shape.{Shape, Requirement, Val}
 use Rattle.types.specs.View.{ComponentView, ty_view, value_view, field_view, requirement_view, components_view, components_of}
 use Rattle.types.specs.declared.value.Value.{Value}
 use Rattle.types.specs.declared.ty.Field.{Field}
+use Rattle.types.specs.declared.ty.Presence.{Presence}
+use Rattle.types.specs.declared.ty.Presence.TheVariants as presence
 use Rattle.types.proofs.ViewLemmas.{field_is}
 use Rattle.types.proofs.LimitLemmas.{field_type}
 use Rattle.encoding_parts.specs.HeldParts.{members_view}
@@ -248,6 +250,27 @@ settles_more fields old new i f s y below below' f_is s_is dropped so_far = reco
   rest = drop-set-lt (i + 1) new i y (omega arith) ∙ drop_more_same new old i so_far.rest;
   many = length-set new i y ∙ so_far.many;
 }
+
+-- a slot that is left as it is, of a component without a default
+slot_here : (slots : List (Option Value)) (i : ℕ) → i < length slots → (s : Option Value) × ((s ≡ get_or slots i s) × (set slots i s ≡ slots))
+slot_here [] i below = absurd (omega (arith, below))
+slot_here (s ∷ slots) zero below = (s, (refl, refl))
+slot_here (s ∷ slots) (suc i) below = let here = slot_here slots i (omega (arith, below)) in (here.0, (here.1.0, ap (λ (l : List (Option Value)). s ∷ l) here.1.1))
+
+kept_slot : (f : Field) (s : Option Value) → ((value : Val) → IsSlotOf (requirement_view f.presence) value (Some value)) → MatchOption s (s ≡ None) (λ (value : Value). IsSlotOf (requirement_view f.presence) (value_view value) (option_map value_view s))
+kept_slot f None kept = refl
+kept_slot f (Some value) kept = kept (value_view value)
+
+pub settles_kept : (fields : List Field) (old new : List (Option Value)) (i : ℕ) (f : Field) → i < length fields → i < length old → f ≡ get_or fields i f → ((value : Val) → IsSlotOf (requirement_view f.presence) value (Some value)) → IsSettledTo fields old new i → IsSettledTo fields old new (i + 1)
+settles_kept fields old new i f below below' is kept so_far =
+    let here = slot_here new i (omega (arith, below', so_far.many)) in
+    subst (λ (l : List (Option Value)). IsSettledTo fields old l (i + 1)) here.1.1
+    (settles_more fields old new i f here.0 here.0 below below' is here.1.0 (kept_slot f here.0 kept) so_far)
+
+pub without_default : (p : Presence) → ((other : Value) → p ≡ presence.Default other → ⊥) → (value : Val) → IsSlotOf (requirement_view p) value (Some value)
+without_default presence.Required none value = refl
+without_default presence.Optional none value = refl
+without_default (presence.Default other) none value = absurd (none other refl)
 
 pub settles_all : (fields : List Field) (old new : List (Option Value)) (i : ℕ) → length old ≤ i → IsSettledTo fields old new i → AreSettled fields old new
 settles_all fields old new i past so_far =

@@ -107,10 +107,19 @@ impl<'a> SetComponents<'a> {
         if !self.are_filled() {
             return Err(Refusal::Missing);
         }
+        Ok(self.filled_value())
+    }
+
+    /// The value of a SET of which each component has come that may not be absent. One that came as its default leaves
+    /// an empty slot. Takes no memory.
+    pub fn filled_value(self) -> Value
+        requires { AllByRecursion (λ s. s.come ≡ None → MayBeAbsent s.component.requirement) (come_view self) }
+        ensures { IsValueOf (Parts.set (come_view self.entry)) (value_view result) }
+    {
         let mut slots = self.slots;
         slots.truncate(self.fields.len());
         drop_defaults(self.fields, &mut slots);
-        Ok(Value::Fields(slots))
+        Value::Fields(slots)
     }
 }
 
@@ -217,12 +226,15 @@ pub fn drop_default(presence: &Presence, slot: &mut Option<Value>)
     }
 }
 
-// Empties the slots of components that have come as their defaults.
+// Empties the slots of components that have come as their defaults. A slot is looked at only where there is a default.
 fn drop_defaults(fields: &[Field], slots: &mut [Option<Value>])
     requires { length slots.old ≤ length fields.now }
     ensures { AllZip IsSettled (members_view fields.now slots.old) (map (option_map value_view) slots.new) }
 {
     for place in 0..slots.len() {
-        drop_default(&fields[place].presence, &mut slots[place]);
+        let presence = &fields[place].presence;
+        if let Presence::Default(_) = presence {
+            drop_default(presence, &mut slots[place]);
+        }
     }
 }

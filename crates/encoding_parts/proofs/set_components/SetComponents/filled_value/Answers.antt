@@ -9,13 +9,12 @@ use Rattle.types.proofs.ViewLemmas.{value-Fields}
 use Rattle.encoding_parts.specs.HeldParts.{members_view}
 use Rattle.encoding_parts.specs.Parts.{SetComponent, IsSettled}
 use Rattle.encoding_parts.proofs.SetComponentLemmas.{AreSettled, members_cut, settled_length}
-use Rattle.berslice.proofs.RenewedSetLemmas.{none_missing}
-use Rattle.berslice.proofs.renewed_set.full_value.Goals as goal
+use Rattle.encoding_parts.proofs.set_components.SetComponents.filled_value.Goals as goal
 
 pub returns : goal.returns
 returns c =
-    let fields = c.args.set_components.fields.now in
-    let slots = c.args.set_components.slots.items in
+    let fields = c.args.self.fields.now in
+    let slots = c.args.self.slots.items in
     let kept = c.truncate.new.self in
     let new = c.drop_defaults.new.slots in
     let lent : c.deref_mut.result.now ≡ kept.items = c.deref_mut.ensures.value in
@@ -25,7 +24,7 @@ returns c =
     let within : length kept.items ≤ length fields = omega (arith, ap length cut ∙ length-take (length fields) slots, min-le_left (length fields) (length slots)) in
     let many : length new ≡ length kept.items = settled_length fields kept.items new within settled in
     record {
-      filled = none_missing (members_view fields slots) c.requires;
+      filled = c.requires;
       slots = map (option_map value_view) new;
       each = subst (λ (l : List SetComponent). AllZip IsSettled l (map (option_map value_view) new)) same settled;
       value_is = value-Fields _ ∙ ap (λ (l : List (Option Value)). Val.fields (slots_of (map (option_map value_view) l))) (with_items_is kept new (many ∙ sym kept.ok.0));
