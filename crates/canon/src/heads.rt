@@ -1,8 +1,7 @@
 //! What stands around contents octets (X.690 9.1 and 10.1).
 
-ghost use Rattle.std.specs.Prelude.{true, ◌≡◌, ◌≤◌, ◌<◌, ◌+◌, ◌-◌, ◌∷◌, [], ◌++◌, ℕ, List, length, take, drop, reverse, IfOk, OnOk, OnErr};
+ghost use Rattle.std.specs.Prelude.{true, ◌≡◌, ◌≤◌, ◌<◌, ◌+◌, ◌-◌, ◌∷◌, [], ◌++◌, ℕ, List, length, take, drop, IfOk, OnOk, OnErr};
 ghost use Rattle.octets.specs.declared.canonical.Canonical.TheVariants.{Cer, Der};
-ghost use Rattle.octets.specs.declared.TheConstants.{MAX_TAG_NUMBER};
 ghost use Rattle.octets.specs.declared.tag.Tag.{Tag as TagOf};
 ghost use Rattle.octets.specs.Front.{Appends};
 ghost use Rattle.octets.specs.Identifier.{class_bits};

@@ -1,6 +1,6 @@
 //! Parts of one buffer, put in order.
 
-ghost use Rattle.std.specs.Prelude.{◌≡◌, ◌≤◌, ◌+◌, ◌-◌, ◌↔◌, ◌++◌, length, take, drop, map, not, All, IsTrue, IfOk, OnOk, OnErr, IsPermutation};
+ghost use Rattle.std.specs.Prelude.{◌≡◌, ◌≤◌, ◌+◌, ◌-◌, ◌↔◌, ◌++◌, length, take, drop, map, not, All, IsTrue, OnOk, OnErr, IsPermutation};
 ghost use Rattle.std.specs.List.{concat};
 ghost use Rattle.std.specs.Ordering.{nat_cmp, is_lt};
 ghost use Rattle.std.specs.Cmp.Lexicographic.{slice_cmp};

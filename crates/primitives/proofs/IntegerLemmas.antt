@@ -1,6 +1,6 @@
 -- Lemmas on numbers in two's complement.
 use Rattle.std.proofs.Common.{◌≡◌, ℕ, ◌+◌, ◌*◌, ◌^◌, ◌<◌, ◌≤◌, ◌-◌, ◌/◌, ◌%◌, inl, inr, ◌⊎◌, List, [], ◌∷◌, ◌++◌, length, take, refl, sym, ◌∙◌, ap, arith, All, get_or, suc, Bool, true, false, length-append, append_assoc, drop, set, subst}
-use Rattle.std.specs.Prelude.{ℤ, pos, negsuc, ◌-ℤ◌, ◌+ℤ◌, ◌*ℤ◌, ◌<ℤ◌, ◌≤ℤ◌, FitsSigned}
+use Rattle.std.specs.Prelude.{ℤ, pos, negsuc, ◌-ℤ◌, ◌+ℤ◌, ◌*ℤ◌, FitsSigned}
 use mir.Syntax.{Width}
 use mir.Val.{to_z, bits, hbits}
 use Rattle.std.proofs.Math.Facts.{to_z-neg}
@@ -354,19 +354,7 @@ to_z-above w half n is twice above below =
     let negative : negsuc k ≡ pos n -ℤ pos (2 * half) = omega (arith, ints) in
     ap (to_z w) written ∙ (to_z-neg w k (omega (arith, is)) ∙ negative)
 
--- the number of two octets, of three, and of four
-pub two_octets : (cs : List ℕ) → length cs ≡ 2 → ((i : ℕ) → get_or cs i 0 < 256) → integer_of cs ≡ to_z w16 (get_or cs 0 0 * 256 + get_or cs 1 0)
-two_octets (a ∷ b ∷ []) two octets =
-    elim (cases_lt a 128) [
-      | inl low ↦ omega (arith, ints, low, octets 1)
-      | inr high ↦
-          let negative = to_z-above w16 32768 (a * 256 + b) refl refl (omega (arith, high)) (omega (arith, octets 0, octets 1)) in
-          omega (arith, ints, negative, high, octets 0)
-    ]
-two_octets [] two octets = cc
-two_octets (a ∷ []) two octets = cc
-two_octets (a ∷ b ∷ c ∷ cs) two octets = cc
-
+-- the number of three octets, and of four
 pub three_octets : (cs : List ℕ) → length cs ≡ 3 → ((i : ℕ) → get_or cs i 0 < 256) → integer_of cs ≡ to_z w16 (get_or cs 0 0 * 256 + get_or cs 1 0) *ℤ pos 256 +ℤ pos (get_or cs 2 0)
 three_octets (a ∷ b ∷ c ∷ []) three octets =
     elim (cases_lt a 128) [

@@ -1,4 +1,4 @@
-use Rattle.std.proofs.Common.{◌⊎◌, inl, inr, ◌≤ℤ◌, ◌<ℤ◌, slice_index_or, ◌≡◌, ◌*◌, ◌^◌, ◌<◌, ◌≤◌, ◌∷◌, ℕ, length, arith, sym, subst, All, false, true}
+use Rattle.std.proofs.Common.{◌≡◌, ◌*◌, ◌^◌, ◌<◌, ◌≤◌, ◌∷◌, ℕ, length, arith, sym, subst, All, false, true}
 use Rattle.std.specs.Prelude.{pos, negsuc, ◌-ℤ◌}
 use mir.Val.{to_z, of_z}
 use Rattle.std.specs.Int.{w128}
@@ -6,7 +6,7 @@ use Rattle.std.proofs.lemmas.Int.{ints}
 use Rattle.std.proofs.lemmas.Bool.{iff_false}
 use Rattle.std.proofs.lemmas.List.Elements.{All-from_get_or}
 use Rattle.octets.specs.Digits.{number_of}
-use Rattle.primitives.specs.Integer.{IsInteger, integer_of, NineBitsDiffer}
+use Rattle.primitives.specs.Integer.{IsInteger, NineBitsDiffer}
 use Rattle.primitives.proofs.IntegerLemmas.{at_most_sixteen_octets, half_below, half_above, sixteen, IsInteger-from}
 use Rattle.primitives.proofs.integer.read_integer.Goals as goal
 use Rattle.primitives.proofs.integer.read_integer.Goals.{then-contents-gt16-via-then-contents-gt16, then-contents-gt16-via-else-contents-gt16+then-not-is_shortest}
