@@ -60,7 +60,7 @@ def table(seen):
     for crate, kind, seconds in seen.values():
         spent[crate][kind] += seconds
     print("| Crate | Proof | Proof of tests | Trying edits | Edits | Outside | Tests |\n|---|---|---|---|---|---|---|")
-    crates = [line.split(":")[0] for line in (TOP / "crates.txt").read_text().splitlines() if ":" in line]
+    crates = [line.split(":")[0].split()[0] for line in (TOP / "crates.txt").read_text().splitlines() if ":" in line]
     edits_of_all = outside_of_all = tests_of_all = 0
     for crate in crates:
         edits = len(list((TOP / "crates" / crate / "must-fail").glob("*.edit")))
