@@ -10,6 +10,7 @@ use crate::types::whole_type_at;
 use crate::values::value_at;
 use lexis::Word as Reserved;
 use published_tokens::{Kind, Symbol};
+use std::mem::drop;
 
 /// The assignment that stands in front.
 pub(crate) fn assignment_at(reader: &mut Reader) -> Result<Assignment, Stop> {
@@ -43,11 +44,11 @@ fn type_assignment_at(reader: &mut Reader) -> Result<Assignment, Stop> {
 
 // What is kept of an assignment: nothing of one with parameters.
 fn unless_parameterised(has_parameters: bool, body: Body) -> Body {
-    if has_parameters {
-        Body::LeftOut(LeftOut::Parameterised)
-    } else {
-        body
+    if !has_parameters {
+        return body;
     }
+    drop(body);
+    Body::LeftOut(LeftOut::Parameterised)
 }
 
 // Passes parameters, if they stand in front. Whether they did.
@@ -132,6 +133,7 @@ fn value_assignment_at(reader: &mut Reader) -> Result<Assignment, Stop> {
     let body = if reader.passes_symbol(Symbol::Assignment) {
         Body::Value(governor, value_at(reader)?)
     } else {
+        drop(governor);
         object_at(reader)?
     };
     Ok(Assignment {

@@ -8,6 +8,7 @@ use crate::reader::Reader;
 use crate::stop::Stop;
 use crate::tree::{Form, Item, Items};
 use published_tokens::{Kind, Symbol};
+use std::mem::drop;
 
 /// The items in braces, which stand in front.
 pub(crate) fn enumerated_at(reader: &mut Reader) -> Result<Form, Stop> {
@@ -21,7 +22,10 @@ pub(crate) fn enumerated_at(reader: &mut Reader) -> Result<Form, Stop> {
             match extension.stage() {
                 Stage::Root => root.push(item)?,
                 Stage::Additions => additions.push(item)?,
-                Stage::Tail => return Err(reader.refuse()),
+                Stage::Tail => {
+                    drop(item);
+                    return Err(reader.refuse());
+                }
             }
         }
         if extension.end(reader)? {

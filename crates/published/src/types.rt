@@ -12,6 +12,7 @@ use crate::words::word_type_at;
 use crate::{MAX_LEVELS, MAX_PARTS};
 use lexis::Word as Reserved;
 use published_tokens::{Kind, Place, Symbol};
+use std::mem::drop;
 use syntax::Group;
 
 /// The type that stands in front.
@@ -139,7 +140,10 @@ fn choice_at(reader: &mut Reader, levels: u32) -> Result<Form, Stop> {
             match extension.stage() {
                 Stage::Root => found.root.push(alternative)?,
                 Stage::Additions => found.additions.push(alternative)?,
-                Stage::Tail => return Err(reader.refuse()),
+                Stage::Tail => {
+                    drop(alternative);
+                    return Err(reader.refuse());
+                }
             }
         }
         if extension.end(reader)? {

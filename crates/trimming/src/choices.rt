@@ -1,9 +1,11 @@
 //! CHOICE (X.680 clause 29).
 
+use crate::leaving::Mark;
 use crate::lists::is_tagged;
 use crate::trimmer::{Draft, Trimmer};
 use published::{Alternative as Written, Alternatives, Place};
 use std::alloc::{AllocError, Global};
+use std::mem::drop;
 use syntax::{Alternative, Expr};
 use trim_rules::{Cause, Fault, MAX_PARTS, Section, first_number, identifier, is_automatic};
 
@@ -88,18 +90,34 @@ impl<'a> Trimmer<'a> {
                 name: identifier(alloc, &written.name.name)?,
                 body: draft.expr,
             })?;
-        } else if self.can_leave_out_since(mark) && self.is_told_apart(alloc, number, written)? {
-            chosen.is_cut = true;
-            let why = self.why_since(alloc, mark)?;
-            for _one in mark.faults..self.work.made.faults.len() {
-                if let Some(fault) = self.work.made.faults.pop() {
-                    chosen.lost.push(fault)?;
-                }
-            }
-            self.leave_out(alloc, written.body.place, mark, why.as_str())?;
+        } else {
+            drop(draft);
+            self.leave_alternative_out(alloc, number, written, mark, chosen)?;
         }
         self.work.path.pop();
         Ok(())
+    }
+
+    // Leaves an alternative out, where it may be.
+    fn leave_alternative_out(
+        &mut self,
+        alloc: Global,
+        number: Option<usize>,
+        written: &'a Written,
+        mark: Mark,
+        chosen: &mut Chosen<'a>,
+    ) -> Result<(), AllocError> {
+        if !self.can_leave_out_since(mark) || !self.is_told_apart(alloc, number, written)? {
+            return Ok(());
+        }
+        chosen.is_cut = true;
+        let why = self.why_since(alloc, mark)?;
+        for _one in mark.faults..self.work.made.faults.len() {
+            if let Some(fault) = self.work.made.faults.pop() {
+                chosen.lost.push(fault)?;
+            }
+        }
+        self.leave_out(alloc, written.body.place, mark, why.as_str())
     }
 
     // Whether no value that takes the alternative can be taken for another one: it is no untagged open type.

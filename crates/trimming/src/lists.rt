@@ -10,6 +10,7 @@ use published::{
     Component as Written, Components, Form, Place, Presence as WrittenPresence, Type, Word,
 };
 use std::alloc::{AllocError, Global};
+use std::mem::drop;
 use syntax::{Component, Expr, Group, Presence, TagClass, TagMode};
 use trim_rules::{
     Additions, Cause, MAX_PARTS, Section, Standing, first_number, identifier, is_automatic,
@@ -129,11 +130,26 @@ impl<'a> Trimmer<'a> {
                 body: draft.expr,
                 presence,
             })?;
-        } else if self.can_leave_out(alloc, slot, written, mark)? {
+        } else {
+            drop((draft, presence));
+            self.leave_component_out(alloc, slot, written, mark)?;
+        }
+        self.work.path.pop();
+        Ok(())
+    }
+
+    // Leaves a component out, where it may be.
+    fn leave_component_out(
+        &mut self,
+        alloc: Global,
+        slot: Slot,
+        written: &'a Written,
+        mark: Mark,
+    ) -> Result<(), AllocError> {
+        if self.can_leave_out(alloc, slot, written, mark)? {
             let why = self.why_since(alloc, mark)?;
             self.leave_out(alloc, written.body.place, mark, why.as_str())?;
         }
-        self.work.path.pop();
         Ok(())
     }
 

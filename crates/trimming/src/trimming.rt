@@ -57,14 +57,26 @@ pub fn trim<'a>(alloc: Global, modules: &'a [Module], request: &'a Request) -> R
     let sources = Sources::new(alloc, modules)?;
     let spot = asked(alloc, &sources, request)?;
     let mut trimmer = Trimmer::new(alloc, sources, request);
-    let root = made(alloc, &mut trimmer, request, spot)?;
+    trimmed_at(alloc, &mut trimmer, request, spot)
+}
+
+// The module that has the type that stands there, and what it reaches.
+fn trimmed_at<'a>(
+    alloc: Global,
+    trimmer: &mut Trimmer<'a>,
+    request: &'a Request,
+    spot: Spot,
+) -> Result<Trimmed, Stop>
+    ensures { IfOk result (λ trimmed. IsTrimmed (string_bytes trimmed.text) (string_bytes trimmed.name)) }
+{
+    let root = made(alloc, trimmer, request, spot)?;
     let kept = trimmer.kept(alloc, root)?;
     let messages = trimmer.left_out(alloc, kept.as_slice())?;
-    let text = text_of(alloc, &trimmer, spot, kept.as_slice())?;
-    let name = name_of(alloc, &trimmer, root)?;
+    let text = text_of(alloc, trimmer, spot, kept.as_slice())?;
+    let name = name_of(alloc, trimmer, root)?;
     checked(
         alloc,
-        &trimmer,
+        trimmer,
         spot,
         Trimmed {
             text,

@@ -50,15 +50,15 @@ impl<'a> Trimmer<'a> {
         if !self.work.pending.is_empty() {
             return Ok(false);
         }
-        let mut made = mem::replace(&mut self.work.made, Made::new(alloc));
-        made.expr = Some(draft.expr);
-        if let Some(node) = self.nodes.get_mut(place) {
-            node.state = State::Done;
-            node.root = root;
-            node.is_cut = draft.is_cut;
-            node.is_finite = self.work.is_finite;
-            node.made = made;
-        }
+        let Some(node) = self.nodes.get_mut(place) else {
+            return Ok(true);
+        };
+        node.state = State::Done;
+        node.root = root;
+        node.is_cut = draft.is_cut;
+        node.is_finite = self.work.is_finite;
+        node.made = mem::replace(&mut self.work.made, Made::new(alloc));
+        node.made.expr = Some(draft.expr);
         Ok(true)
     }
 

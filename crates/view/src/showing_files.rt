@@ -65,9 +65,20 @@ impl<D: FileSystem> Showing<'_, D> {
         self.print_name(path, out)?;
         let mut values = Values::new(self.alloc, self.reading.from, self.ty);
         let read = self.print_values(&mut input, &mut values, out);
+        self.print_end(path, &values, read, err)
+    }
+
+    // Prints why values are refused, if they are. Whether nothing is wrong with them.
+    fn print_end<E: Write>(
+        &self,
+        path: &str,
+        values: &Values<'_>,
+        read: Result<(), Fault>,
+        err: &mut E,
+    ) -> Result<(), Fault> {
         match read {
             Err(Fault::Refused(refusal)) => {
-                self.print_refused(path, &values, refusal, err)?;
+                self.print_refused(path, values, refusal, err)?;
                 Err(Fault::Refused(refusal))
             }
             Ok(()) if self.lacks_value(values.done()) => Err(Fault::NoValue),
