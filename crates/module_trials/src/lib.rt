@@ -1,5 +1,5 @@
 //! Tests of the crates that read the texts of modules, of each by itself, through what it offers: `lexis` (`scanned`),
-//! `syntax` (`parsed`) and `notation` (`resolved`).
+//! `syntax` (`parsed`) and `notation` (`resolved`). Their tables are texts (`rows`).
 //!
 //! They stand here and not in those crates, since the check of a crate's tests proves the crate once more.
 #![tactic(auto)]
@@ -8,5 +8,7 @@
 mod parsed;
 #[cfg(test)]
 mod resolved;
+#[cfg(test)]
+mod rows;
 #[cfg(test)]
 mod scanned;

@@ -1,10 +1,13 @@
 //! Tests of the types that names mean.
 
+use crate::rows::{Table, placed, spelled, three, two};
 use notation::{Fault, parse, resolve};
 use outline::outline;
 use std::alloc::{AllocError, Global};
+use std::test::Fail;
 use types::WellTyped;
 
+mod built_bits;
 mod defaults;
 mod examples;
 mod faults;
@@ -22,12 +25,7 @@ fn resolved(alloc: Global, text: &str, name: &str) -> Result<WellTyped, Fault> {
 fn told(alloc: Global, text: &str, name: &str) -> Result<String, AllocError> {
     match resolved(alloc, text, name) {
         Ok(ty) => outline(alloc, ty.as_type()),
-        Err(fault) => {
-            let number = fault.number;
-            let line = fault.line;
-            let column = fault.column;
-            format!(in alloc; "{number} at {line}:{column}")
-        }
+        Err(fault) => placed(alloc, fault),
     }
 }
 
@@ -35,4 +33,34 @@ fn told(alloc: Global, text: &str, name: &str) -> Result<String, AllocError> {
 fn told_of(alloc: Global, tagging: &str, assignments: &str) -> Result<String, AllocError> {
     let text = format!(in alloc; "M DEFINITIONS {tagging} ::= BEGIN\n{assignments} END")?;
     told(alloc, text.as_str(), "T")
+}
+
+/// What is told of T where it is a SEQUENCE with this type and default of one component, before other assignments.
+fn told_of_component(alloc: Global, part: &str, others: &str) -> Result<String, AllocError> {
+    let assignments = format!(in alloc; "T ::= SEQUENCE {{ x {part} }} {others}")?;
+    told_of(alloc, "", assignments.as_str())
+}
+
+/// Assignments | tag default | the type of T, or the number and the place of its fault.
+struct Assignments;
+
+impl Table for Assignments {
+    fn holds(&self, alloc: Global, row: &str) -> Result<bool, Fail> {
+        let (assignments, tagging, wanted) = three(row)?;
+        let assignments = spelled(alloc, assignments)?;
+        Ok(told_of(alloc, tagging, assignments.as_str())?.as_str() == wanted)
+    }
+}
+
+/// A name of the module | the type that it means.
+#[derive(Clone, Copy)]
+struct Names<'a> {
+    module: &'a str,
+}
+
+impl<'a> Table for Names<'a> {
+    fn holds(&self, alloc: Global, row: &str) -> Result<bool, Fail> {
+        let (name, wanted) = two(row)?;
+        Ok(told(alloc, self.module, name)?.as_str() == wanted)
+    }
 }

@@ -1,91 +1,91 @@
 //! The numbers and the places of faults.
 
 use super::{refused, with_type};
-use std::alloc::Global;
+use crate::rows::{Table, check, placed, spelled, text_and_last};
+use std::alloc::{AllocError, Global};
 use std::test::Fail;
+use syntax::parse;
+
+// The number and the place of the fault with which a text is refused, or `read`.
+fn told(alloc: Global, text: &str) -> Result<String, AllocError> {
+    match parse(alloc, text) {
+        Ok(_) => String::from_str(alloc, "read"),
+        Err(fault) => placed(alloc, fault),
+    }
+}
+
+// The text of a module | what is told of it.
+struct Modules;
+
+impl Table for Modules {
+    fn holds(&self, alloc: Global, row: &str) -> Result<bool, Fail> {
+        let (text, wanted) = text_and_last(row)?;
+        let text = spelled(alloc, text)?;
+        Ok(told(alloc, text.as_str())?.as_str() == wanted)
+    }
+}
+
+// text | number, line and column of its fault, or that it is read
+const MODULES: &str = " | 22 at 1:1
+ \\n | 22 at 2:1
+M | 22 at 1:2
+m DEFINITIONS ::= BEGIN END | 22 at 1:1
+BOOLEAN DEFINITIONS ::= BEGIN END | 23 at 1:1
+END DEFINITIONS ::= BEGIN END | 23 at 1:1
+M DEFINITIONS ::= BEGIN T ::= SET { END NULL } END | 23 at 1:37
+REAL DEFINITIONS ::= BEGIN END | 32 at 1:1
+::= DEFINITIONS | 22 at 1:1
+M ::= BEGIN END | 22 at 1:3
+M { 1 } DEFINITIONS ::= BEGIN END | 22 at 1:3
+M DEFINITIONS BEGIN END | 22 at 1:15
+M DEFINITIONS EXPLICIT ::= BEGIN END | 22 at 1:24
+M DEFINITIONS TAGS ::= BEGIN END | 22 at 1:15
+M DEFINITIONS ::= END | 22 at 1:19
+M DEFINITIONS ::= BEGIN | 22 at 1:24
+M DEFINITIONS ::= BEGIN\\n | 22 at 2:1
+M DEFINITIONS ::= BEGIN END | read
+M DEFINITIONS EXPLICIT TAGS ::= BEGIN END | read
+M DEFINITIONS IMPLICIT TAGS ::= BEGIN END | read
+M DEFINITIONS AUTOMATIC TAGS ::= BEGIN END | read
+M DEFINITIONS ::= BEGIN END -- x | read
+M DEFINITIONS ::= BEGIN END END | 22 at 1:29
+M DEFINITIONS ::= BEGIN END x | 22 at 1:29
+M DEFINITIONS ::= BEGIN END\\nBOOLEAN | 22 at 2:1
+M DEFINITIONS ::= BEGIN END REAL | 32 at 1:29
+M DEFINITIONS ::= BEGIN END . | 32 at 1:29
+M DEFINITIONS ::= BEGIN BOOLEAN ::= NULL END | 23 at 1:25
+M DEFINITIONS ::= BEGIN IMPORTS ; END | 32 at 1:25
+M DEFINITIONS ::= BEGIN t NULL ::= NULL END | 22 at 1:25
+M DEFINITIONS ::= BEGIN ::= END | 22 at 1:25
+M DEFINITIONS ::= BEGIN T NULL END | 22 at 1:27
+M DEFINITIONS ::= BEGIN T ::= END | 22 at 1:31
+M DEFINITIONS ::= BEGIN T ::= NULL | 22 at 1:35
+M DEFINITIONS ::= BEGIN T ::= U U ::= NULL END | read
+m x # | 21 at 1:5
+A\\n # | 21 at 2:2
+/* /* */ | 21 at 1:1";
 
 #[test]
-fn faults_of_modules(rt: HostRuntime) {
-    // (text, number, line, column; zeros where it is read)
-    let cases: [(&str, u32, u32, u32); 38] = [
-        ("", 22, 1, 1),
-        (" \n", 22, 2, 1),
-        ("M", 22, 1, 2),
-        ("m DEFINITIONS ::= BEGIN END", 22, 1, 1),
-        ("BOOLEAN DEFINITIONS ::= BEGIN END", 23, 1, 1),
-        ("END DEFINITIONS ::= BEGIN END", 23, 1, 1),
-        (
-            "M DEFINITIONS ::= BEGIN T ::= SET { END NULL } END",
-            23,
-            1,
-            37,
-        ),
-        ("REAL DEFINITIONS ::= BEGIN END", 32, 1, 1),
-        ("::= DEFINITIONS", 22, 1, 1),
-        ("M ::= BEGIN END", 22, 1, 3),
-        ("M { 1 } DEFINITIONS ::= BEGIN END", 22, 1, 3),
-        ("M DEFINITIONS BEGIN END", 22, 1, 15),
-        ("M DEFINITIONS EXPLICIT ::= BEGIN END", 22, 1, 24),
-        ("M DEFINITIONS TAGS ::= BEGIN END", 22, 1, 15),
-        ("M DEFINITIONS ::= END", 22, 1, 19),
-        ("M DEFINITIONS ::= BEGIN", 22, 1, 24),
-        ("M DEFINITIONS ::= BEGIN\n", 22, 2, 1),
-        ("M DEFINITIONS ::= BEGIN END", 0, 0, 0),
-        ("M DEFINITIONS EXPLICIT TAGS ::= BEGIN END", 0, 0, 0),
-        ("M DEFINITIONS IMPLICIT TAGS ::= BEGIN END", 0, 0, 0),
-        ("M DEFINITIONS AUTOMATIC TAGS ::= BEGIN END", 0, 0, 0),
-        ("M DEFINITIONS ::= BEGIN END -- x", 0, 0, 0),
-        ("M DEFINITIONS ::= BEGIN END END", 22, 1, 29),
-        ("M DEFINITIONS ::= BEGIN END x", 22, 1, 29),
-        ("M DEFINITIONS ::= BEGIN END\nBOOLEAN", 22, 2, 1),
-        ("M DEFINITIONS ::= BEGIN END REAL", 32, 1, 29),
-        ("M DEFINITIONS ::= BEGIN END .", 32, 1, 29),
-        ("M DEFINITIONS ::= BEGIN BOOLEAN ::= NULL END", 23, 1, 25),
-        ("M DEFINITIONS ::= BEGIN IMPORTS ; END", 32, 1, 25),
-        ("M DEFINITIONS ::= BEGIN t NULL ::= NULL END", 22, 1, 25),
-        ("M DEFINITIONS ::= BEGIN ::= END", 22, 1, 25),
-        ("M DEFINITIONS ::= BEGIN T NULL END", 22, 1, 27),
-        ("M DEFINITIONS ::= BEGIN T ::= END", 22, 1, 31),
-        ("M DEFINITIONS ::= BEGIN T ::= NULL", 22, 1, 35),
-        ("M DEFINITIONS ::= BEGIN T ::= U U ::= NULL END", 0, 0, 0),
-        ("m x #", 21, 1, 5),
-        ("A\n #", 21, 2, 2),
-        ("/* /* */", 21, 1, 1),
-    ];
-    for (text, number, line, column) in cases {
-        assert_eq!(rt;
-            refused(rt.alloc(), text),
-            (number, line, column),
-            "at {text:?}"
-        );
-    }
+fn faults_of_modules(rt: HostRuntime) -> Result<(), Fail> {
+    check(rt.alloc(), &Modules, MODULES)
 }
 
-// Fails at the first row that does not hold, and where there is none.
-fn check_types(alloc: Global, rows: &str) -> Result<(), Fail> {
-    if rows.is_empty() {
-        return Err("a table without rows".into());
-    }
-    for row in rows.lines() {
-        if !holds(alloc, row)? {
-            return Err(Fail::new(format_args!("not so: {row}")));
-        }
-    }
-    Ok(())
-}
+// A type | the number of its fault and the octet of the type at which it is refused, or zeros where it is read.
+struct Types;
 
-// Whether a row's type is refused with its number and at its octet, or read where they are zeros.
-fn holds(alloc: Global, row: &str) -> Result<bool, Fail> {
-    let (body, wanted) = row.rsplit_once(" | ").ok_or("no bar")?;
-    let (number, octet) = wanted.split_once(' ').ok_or("one number")?;
-    let (number, octet) = (number.parse::<u32>()?, octet.parse::<u32>()?);
-    let (line, column) = if number == 0 {
-        (0, 0)
-    } else {
-        (1, octet.saturating_add(30))
-    };
-    let text = with_type(alloc, body)?;
-    Ok(refused(alloc, &text) == (number, line, column))
+impl Table for Types {
+    fn holds(&self, alloc: Global, row: &str) -> Result<bool, Fail> {
+        let (body, wanted) = text_and_last(row)?;
+        let (number, octet) = wanted.split_once(' ').ok_or("one number")?;
+        let (number, octet) = (number.parse::<u32>()?, octet.parse::<u32>()?);
+        let (line, column) = if number == 0 {
+            (0, 0)
+        } else {
+            (1, octet.saturating_add(30))
+        };
+        let text = with_type(alloc, body)?;
+        Ok(refused(alloc, &text) == (number, line, column))
+    }
 }
 
 // type | number and octet of the type; zeros where it is read
@@ -169,7 +169,7 @@ CHOICE { a [0] NULL, ... } | 32 22";
 
 #[test]
 fn faults_of_types(rt: HostRuntime) -> Result<(), Fail> {
-    check_types(rt.alloc(), TYPES)
+    check(rt.alloc(), &Types, TYPES)
 }
 
 // type | number and octet of the type; zeros where it is read
@@ -220,5 +220,5 @@ SET OF BIT STRING { a(0) } | 0 0";
 
 #[test]
 fn faults_of_items_and_bits(rt: HostRuntime) -> Result<(), Fail> {
-    check_types(rt.alloc(), ITEMS_AND_BITS)
+    check(rt.alloc(), &Types, ITEMS_AND_BITS)
 }

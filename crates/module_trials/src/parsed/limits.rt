@@ -1,98 +1,124 @@
 //! Limits, each with its two neighbours, and hostile texts.
 
 use super::{refused, with_type};
+use crate::rows::{Table, check, four, quoted, three};
 use std::alloc::{AllocError, Global};
 use std::test::Fail;
 
 /// The prefix so many times, and then the rest.
-fn repeated(alloc: Global, prefix: &str, count: u32, rest: &str) -> Result<String, AllocError> {
-    let mut text = String::new(alloc);
-    for _ in 0..count {
-        text.push_str(prefix)?;
-    }
+fn repeated(alloc: Global, prefix: &str, count: usize, rest: &str) -> Result<String, AllocError> {
+    let mut text = prefix.repeat(alloc, count)?;
     text.push_str(rest)?;
     Ok(text)
 }
 
+// What holds a type, between `'` | how often | what it holds | the number of the fault.
+struct Levels;
+
+impl Table for Levels {
+    fn holds(&self, alloc: Global, row: &str) -> Result<bool, Fail> {
+        let (prefix, count, inner, number) = four(row)?;
+        let body = repeated(alloc, quoted(prefix)?, count.parse::<usize>()?, inner)?;
+        let text = with_type(alloc, &body)?;
+        Ok(refused(alloc, &text).0 == number.parse::<u32>()?)
+    }
+}
+
+const LEVELS: &str = "\
+'[0] '          | 64    | NULL                | 0
+'[0] '          | 65    | NULL                | 31
+'[0] '          | 64    | SEQUENCE { }        | 0
+'[0] '          | 64    | SEQUENCE { a NULL } | 31
+'[0] '          | 64    | CHOICE { a NULL }   | 31
+'[0] '          | 64    | ENUMERATED { a }    | 0
+'SET OF '       | 64    | NULL                | 0
+'SET OF '       | 65    | NULL                | 31
+'[0] '          | 65    |                     | 31
+'[0] '          | 20000 | NULL                | 31
+'SEQUENCE { a ' | 65    | NULL                | 31
+'CHOICE { a '   | 65    | NULL                | 31";
+
 #[test]
 fn types_nest_at_most_64_deep(rt: HostRuntime) -> Result<(), Fail> {
-    // (what holds a type, how often, what it holds, number)
-    let cases: [(&str, u32, &str, u32); 12] = [
-        ("[0] ", 64, "NULL", 0),
-        ("[0] ", 65, "NULL", 31),
-        ("[0] ", 64, "SEQUENCE { }", 0),
-        ("[0] ", 64, "SEQUENCE { a NULL }", 31),
-        ("[0] ", 64, "CHOICE { a NULL }", 31),
-        ("[0] ", 64, "ENUMERATED { a }", 0),
-        ("SET OF ", 64, "NULL", 0),
-        ("SET OF ", 65, "NULL", 31),
-        ("[0] ", 65, "", 31),
-        ("[0] ", 20_000, "NULL", 31),
-        ("SEQUENCE { a ", 65, "NULL", 31),
-        ("CHOICE { a ", 65, "NULL", 31),
-    ];
-    for (prefix, count, inner, number) in cases {
-        let body = repeated(rt.alloc(), prefix, count, inner)?;
-        let text = with_type(rt.alloc(), &body)?;
-        assert_eq!(rt;
-            refused(rt.alloc(), &text).0,
-            number,
-            "at {count} of {prefix:?} and {inner:?}"
-        );
-    }
     let text = with_type(rt.alloc(), &repeated(rt.alloc(), "[0] ", 65, "NULL")?)?;
     assert_eq!(rt; refused(rt.alloc(), &text), (31, 1, 31 + 4 * 65));
-    Ok(())
+    check(rt.alloc(), &Levels, LEVELS)
 }
+
+// What begins the list, and one part and `,`, both between `'` | the last part.
+struct Lists;
+
+impl Table for Lists {
+    fn holds(&self, alloc: Global, row: &str) -> Result<bool, Fail> {
+        let (first, part, last) = three(row)?;
+        let (first, part) = (quoted(first)?, quoted(part)?);
+        let fits = ended(alloc, &begun(alloc, first, part, 255)?, last)?;
+        Ok(fits == (0, 0, 0) && is_too_long(alloc, &begun(alloc, first, part, 256)?, last)?)
+    }
+}
+
+// The beginning of a list, and then so many parts.
+fn begun(alloc: Global, first: &str, part: &str, count: usize) -> Result<String, AllocError> {
+    let parts = part.repeat(alloc, count)?;
+    format!(in alloc; "{first}{parts}")
+}
+
+// How the list is refused that ends with this part.
+fn ended(alloc: Global, list: &str, last: &str) -> Result<(u32, u32, u32), AllocError> {
+    let text = with_type(alloc, &format!(in alloc; "{list}{last}")?)?;
+    Ok(refused(alloc, &text))
+}
+
+// Whether the list is refused at its last part, since it is one too many.
+fn is_too_long(alloc: Global, list: &str, last: &str) -> Result<bool, AllocError> {
+    let (number, line, column) = ended(alloc, list, last)?;
+    Ok((number, line) == (31, 1) && u64::from(column) == list.len() as u64 + 31)
+}
+
+const LISTS: &str = "\
+'SEQUENCE { '   | 'a NULL, ' | z NULL }
+'SET { '        | 'a NULL, ' | z NULL }
+'CHOICE { '     | 'a NULL, ' | z NULL }
+'ENUMERATED { ' | 'a, '      | z }
+'BIT STRING { ' | 'a(0), '   | z(1) }";
 
 #[test]
 fn lists_have_at_most_256_parts(rt: HostRuntime) -> Result<(), Fail> {
-    // (what begins the list, one part and `,`, the last part, its octets before the last part)
-    let cases: [(&str, &str, &str); 5] = [
-        ("SEQUENCE { ", "a NULL, ", "z NULL }"),
-        ("SET { ", "a NULL, ", "z NULL }"),
-        ("CHOICE { ", "a NULL, ", "z NULL }"),
-        ("ENUMERATED { ", "a, ", "z }"),
-        ("BIT STRING { ", "a(0), ", "z(1) }"),
-    ];
-    for (first, part, last) in cases {
-        let fits = repeated(rt.alloc(), part, 255, last)?;
-        let text = with_type(rt.alloc(), &format!(in rt.alloc(); "{first}{fits}")?)?;
-        assert_eq!(rt; refused(rt.alloc(), &text), (0, 0, 0), "256 in {first:?}");
-        let long = repeated(rt.alloc(), part, 256, last)?;
-        let text = with_type(rt.alloc(), &format!(in rt.alloc(); "{first}{long}")?)?;
-        let column = 31 + first.len() + 256 * part.len();
-        let (number, line, found) = refused(rt.alloc(), &text);
-        assert_eq!(rt; (number, line), (31, 1), "257 in {first:?}");
-        assert_eq!(rt; u64::from(found), column as u64, "257 in {first:?}");
-    }
-    Ok(())
+    check(rt.alloc(), &Lists, LISTS)
+}
+
+// How the empty module is refused with so many blanks in front of its 27 octets and behind them.
+fn spaced(alloc: Global, front: usize, behind: usize) -> Result<(u32, u32, u32), AllocError> {
+    let behind = " ".repeat(alloc, behind)?;
+    let module = format!(in alloc; "M DEFINITIONS ::= BEGIN END{behind}")?;
+    let text = repeated(alloc, " ", front, &module)?;
+    Ok(refused(alloc, &text))
 }
 
 #[test]
 fn spaces_behind_the_empty_module(rt: HostRuntime) -> Result<(), Fail> {
-    // (how many follow its 27 octets, number, line, column)
-    let cases = [(262_117, (0, 0, 0)), (262_118, (31, 1, 1))];
-    for (count, wanted) in cases {
-        let spaces = repeated(rt.alloc(), " ", count, "")?;
-        let text = repeated(rt.alloc(), "M DEFINITIONS ::= BEGIN END", 1, &spaces)?;
-        assert_eq!(rt; refused(rt.alloc(), &text), wanted, "at {count}");
-    }
+    assert_eq!(rt; spaced(rt.alloc(), 0, 262_117)?, (0, 0, 0));
+    assert_eq!(rt; spaced(rt.alloc(), 0, 262_118)?, (31, 1, 1));
     Ok(())
 }
 
 #[test]
-fn hostile_texts(rt: HostRuntime) -> Result<(), Fail> {
-    let module = "M DEFINITIONS ::= BEGIN END";
-    let mut text = repeated(rt.alloc(), " ", 262_144 - 27, "")?;
-    text.push_str(module)?;
-    assert_eq!(rt; refused(rt.alloc(), &text), (0, 0, 0));
-    text.push_str(" ")?;
-    assert_eq!(rt; refused(rt.alloc(), &text), (31, 1, 1));
-    let open = repeated(rt.alloc(), "/*", 65_536, "")?;
-    let closed = repeated(rt.alloc(), "*/", 65_536, "")?;
-    let text = format!(in rt.alloc(); "{open}{closed}")?;
+fn spaces_in_front_of_the_empty_module(rt: HostRuntime) -> Result<(), Fail> {
+    assert_eq!(rt; spaced(rt.alloc(), 262_144 - 27, 0)?, (0, 0, 0));
+    assert_eq!(rt; spaced(rt.alloc(), 262_144 - 27, 1)?, (31, 1, 1));
+    Ok(())
+}
+
+#[test]
+fn nested_comments(rt: HostRuntime) -> Result<(), Fail> {
+    let closed = "*/".repeat(rt.alloc(), 65_536)?;
+    let text = repeated(rt.alloc(), "/*", 65_536, &closed)?;
     assert_eq!(rt; refused(rt.alloc(), &text), (22, 1, 262_145));
+    Ok(())
+}
+
+#[test]
+fn many_assignments(rt: HostRuntime) -> Result<(), Fail> {
     let many = repeated(rt.alloc(), "T ::= NULL ", 20_000, "END")?;
     let text = format!(in rt.alloc(); "M DEFINITIONS ::= BEGIN {many}")?;
     assert_eq!(rt; refused(rt.alloc(), &text), (0, 0, 0));

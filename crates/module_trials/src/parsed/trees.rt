@@ -1,7 +1,20 @@
 //! What is read.
 
+use std::alloc::{AllocError, Global};
 use std::test::Fail;
-use syntax::{Tagging, parse};
+use syntax::{Assignment, Tagging, parse};
+
+// The names of the assignments and their places.
+fn outline(alloc: Global, assignments: &[Assignment]) -> Result<String, AllocError> {
+    let mut text = String::new(alloc);
+    for assignment in assignments {
+        let name = assignment.name.as_str();
+        let line = assignment.line;
+        let column = assignment.column;
+        write!(text, "{name} at {line}:{column};")?;
+    }
+    Ok(text)
+}
 
 #[test]
 fn places_of_assignments(rt: HostRuntime) -> Result<(), Fail> {
@@ -10,12 +23,8 @@ fn places_of_assignments(rt: HostRuntime) -> Result<(), Fail> {
         Ok(module) => {
             assert_eq!(rt; module.name.as_str(), "Mod");
             assert_eq!(rt; module.tagging, Tagging::Automatic);
-            let wanted = [("T", 2, 1), ("U", 2, 12), ("V", 5, 3)];
-            assert_eq!(rt; module.assignments.len(), wanted.len());
-            for (found, (name, line, column)) in module.assignments.iter().zip(&wanted) {
-                assert_eq!(rt; found.name.as_str(), *name);
-                assert_eq!(rt; (found.line, found.column), (*line, *column), "at {name}");
-            }
+            let found = outline(rt.alloc(), &module.assignments)?;
+            assert_eq!(rt; found.as_str(), "T at 2:1;U at 2:12;V at 5:3;");
         }
         Err(fault) => panic!(rt; "{fault:?}"),
     }

@@ -1,6 +1,7 @@
 //! Modules that are made to be hard.
 
 use super::told;
+use crate::rows::{Table, check, four, prints, quoted, two};
 use notation::{Module, parse, resolve};
 use std::alloc::{AllocError, Global};
 use std::test::Fail;
@@ -21,16 +22,30 @@ fn number(alloc: Global, module: &Module, name: &str) -> u32 {
     }
 }
 
+/// A name of the module | the number of the fault of `resolve`.
+#[derive(Clone, Copy)]
+struct FaultNumbers<'a> {
+    module: &'a str,
+}
+
+impl<'a> Table for FaultNumbers<'a> {
+    fn holds(&self, alloc: Global, row: &str) -> Result<bool, Fail> {
+        let (name, wanted) = two(row)?;
+        Ok(numbers(alloc, self.module, name) == (0, wanted.parse::<u32>()?))
+    }
+}
+
+const CYCLES: &str = "\
+A | 25
+B | 25
+C | 25
+T | 25
+U | 0";
+
 #[test]
 fn cycles(rt: HostRuntime) -> Result<(), Fail> {
-    let text = "M DEFINITIONS ::= BEGIN A ::= B B ::= C C ::= A T ::= SET OF A U ::= NULL END";
-    // (name, number of the fault)
-    let cases = [("A", 25), ("B", 25), ("C", 25), ("T", 25), ("U", 0)];
-    for (name, wanted) in cases {
-        let found = numbers(rt.alloc(), text, name);
-        assert_eq!(rt; found, (0, wanted), "at {name}");
-    }
-    Ok(())
+    let module = "M DEFINITIONS ::= BEGIN A ::= B B ::= C C ::= A T ::= SET OF A U ::= NULL END";
+    check(rt.alloc(), &FaultNumbers { module }, CYCLES)
 }
 
 /// A module in which each of forty names holds the one before it twice.
@@ -44,36 +59,43 @@ fn doublings(alloc: Global) -> Result<String, AllocError> {
     Ok(text)
 }
 
+const NODES: &str = "\
+T11 | 0
+T12 | 31
+T40 | 31
+X   | 0
+Y   | 31";
+
 #[test]
 fn nodes(rt: HostRuntime) -> Result<(), Fail> {
     let text = doublings(rt.alloc())?;
-    // (name, number of the fault)
-    let cases = [("T11", 0), ("T12", 31), ("T40", 31), ("X", 0), ("Y", 31)];
-    for (name, wanted) in cases {
-        let found = numbers(rt.alloc(), text.as_str(), name);
-        assert_eq!(rt; found, (0, wanted), "at {name}");
-    }
-    Ok(())
+    let module = text.as_str();
+    check(rt.alloc(), &FaultNumbers { module }, NODES)
 }
+
+// A tag, between `'` | how often it stands | a type | the numbers of the faults of `parse` and of `resolve`.
+struct Tags;
+
+impl Table for Tags {
+    fn holds(&self, alloc: Global, row: &str) -> Result<bool, Fail> {
+        let (tag, count, body, wanted) = four(row)?;
+        let tags = quoted(tag)?.repeat(alloc, count.parse::<usize>()?)?;
+        let text = format!(in alloc; "M DEFINITIONS ::= BEGIN T ::= {tags} {body} END")?;
+        prints(alloc, &numbers(alloc, text.as_str(), "T"), wanted)
+    }
+}
+
+const LEVELS: &str = "\
+'[0]'           | 60 | OCTET STRING | (0, 0)
+'[0]'           | 61 | OCTET STRING | (0, 31)
+'[0]'           | 64 | OCTET STRING | (0, 31)
+'[0]'           | 65 | OCTET STRING | (31, 0)
+'[0] IMPLICIT ' | 64 | NULL         | (0, 0)
+'[0] IMPLICIT ' | 65 | NULL         | (31, 0)";
 
 #[test]
 fn levels(rt: HostRuntime) -> Result<(), Fail> {
-    // (tag, how often it stands, type, number of the fault of `parse`, and of `resolve`)
-    let cases = [
-        ("[0]", 60, "OCTET STRING", (0, 0)),
-        ("[0]", 61, "OCTET STRING", (0, 31)),
-        ("[0]", 64, "OCTET STRING", (0, 31)),
-        ("[0]", 65, "OCTET STRING", (31, 0)),
-        ("[0] IMPLICIT ", 64, "NULL", (0, 0)),
-        ("[0] IMPLICIT ", 65, "NULL", (31, 0)),
-    ];
-    for (tag, count, body, wanted) in cases {
-        let tags = tag.repeat(rt.alloc(), count)?;
-        let text = format!(in rt.alloc(); "M DEFINITIONS ::= BEGIN T ::= {tags} {body} END")?;
-        let found = numbers(rt.alloc(), text.as_str(), "T");
-        assert_eq!(rt; found, wanted, "at {count} {tag}");
-    }
-    Ok(())
+    check(rt.alloc(), &Tags, LEVELS)
 }
 
 #[test]
@@ -85,39 +107,62 @@ fn implicit_tags(rt: HostRuntime) -> Result<(), Fail> {
     Ok(())
 }
 
-#[test]
-fn long_chains(rt: HostRuntime) -> Result<(), Fail> {
-    let alloc = rt.alloc();
-    let mut forwards = String::from_str(alloc, "M DEFINITIONS ::= BEGIN")?;
-    let mut backwards = String::from_str(alloc, "M DEFINITIONS ::= BEGIN A0 ::= NULL")?;
-    for held in 0u32..14_000 {
-        let name = held.saturating_add(1);
-        write!(forwards, " A{held}::=A{name}")?;
-        write!(backwards, " A{name}::=A{held}")?;
+/// A module in which each of 14,000 names means the one behind it.
+fn forwards(alloc: Global) -> Result<String, AllocError> {
+    let mut text = String::from_str(alloc, "M DEFINITIONS ::= BEGIN")?;
+    for name in 0u32..14_000 {
+        let meant = name.saturating_add(1);
+        write!(text, " A{name}::=A{meant}")?;
     }
-    forwards.push_str(" A14000 ::= NULL END")?;
-    backwards.push_str(" END")?;
-    let found = told(alloc, forwards.as_str(), "A0")?;
-    assert_eq!(rt; found.as_str(), "[U5]NULL");
-    let found = told(alloc, backwards.as_str(), "A14000")?;
+    text.push_str(" A14000 ::= NULL END")?;
+    Ok(text)
+}
+
+/// A module in which each of 14,000 names means the one before it.
+fn backwards(alloc: Global) -> Result<String, AllocError> {
+    let mut text = String::from_str(alloc, "M DEFINITIONS ::= BEGIN A0 ::= NULL")?;
+    for meant in 0u32..14_000 {
+        let name = meant.saturating_add(1);
+        write!(text, " A{name}::=A{meant}")?;
+    }
+    text.push_str(" END")?;
+    Ok(text)
+}
+
+#[test]
+fn long_chains_forwards(rt: HostRuntime) -> Result<(), Fail> {
+    let text = forwards(rt.alloc())?;
+    let found = told(rt.alloc(), text.as_str(), "A0")?;
     assert_eq!(rt; found.as_str(), "[U5]NULL");
     Ok(())
 }
 
 #[test]
-fn nested_choices(rt: HostRuntime) -> Result<(), Fail> {
-    let alloc = rt.alloc();
+fn long_chains_backwards(rt: HostRuntime) -> Result<(), Fail> {
+    let text = backwards(rt.alloc())?;
+    let found = told(rt.alloc(), text.as_str(), "A14000")?;
+    assert_eq!(rt; found.as_str(), "[U5]NULL");
+    Ok(())
+}
+
+/// A module in which each of 4,096 names is a CHOICE of the one before it.
+fn choices(alloc: Global) -> Result<String, AllocError> {
     let mut text = String::from_str(alloc, "M DEFINITIONS ::= BEGIN A0 ::= NULL")?;
     for held in 0u32..4_096 {
         let name = held.saturating_add(1);
         write!(text, " A{name} ::= CHOICE {{ a A{held} }}")?;
     }
     text.push_str(" END")?;
-    // (name, number of the fault)
-    let cases = [("A500", 0), ("A4096", 31)];
-    for (name, wanted) in cases {
-        let found = numbers(alloc, text.as_str(), name);
-        assert_eq!(rt; found, (0, wanted), "at {name}");
-    }
-    Ok(())
+    Ok(text)
+}
+
+const NESTED_CHOICES: &str = "\
+A500  | 0
+A4096 | 31";
+
+#[test]
+fn nested_choices(rt: HostRuntime) -> Result<(), Fail> {
+    let text = choices(rt.alloc())?;
+    let module = text.as_str();
+    check(rt.alloc(), &FaultNumbers { module }, NESTED_CHOICES)
 }
