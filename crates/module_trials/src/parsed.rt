@@ -1,5 +1,6 @@
 //! Tests of the parser.
 
+use crate::rows::{between, placed};
 use std::alloc::{AllocError, Global};
 use syntax::parse;
 
@@ -8,15 +9,25 @@ mod limits;
 mod trees;
 mod words;
 
-/// The number, line and column with which a text is refused, or zeros.
-fn refused(alloc: Global, text: &str) -> (u32, u32, u32) {
+/// The number, line and column of the fault with which a text is refused, or that it is read.
+fn told(alloc: Global, text: &str) -> Result<String, AllocError> {
     match parse(alloc, text) {
-        Ok(_) => (0, 0, 0),
-        Err(fault) => (fault.number, fault.line, fault.column),
+        Ok(_) => String::from_str(alloc, "read"),
+        Err(fault) => placed(alloc, fault),
     }
 }
 
-/// A module with one assignment, whose type begins in column 31.
-fn with_type(alloc: Global, body: &str) -> Result<String, AllocError> {
-    format!(in alloc; "M DEFINITIONS ::= BEGIN T ::= {body} END")
+/// What is told of a module with one assignment, whose type begins in column 31.
+fn told_of_type(alloc: Global, body: &str) -> Result<String, AllocError> {
+    let text = between(alloc, "M DEFINITIONS ::= BEGIN T ::= ", body, " END")?;
+    told(alloc, text.as_str())
+}
+
+/// The number of the fault with which such a module is refused, or 0.
+fn number_of_type(alloc: Global, body: &str) -> Result<u32, AllocError> {
+    let text = between(alloc, "M DEFINITIONS ::= BEGIN T ::= ", body, " END")?;
+    match parse(alloc, text.as_str()) {
+        Ok(_) => Ok(0),
+        Err(fault) => Ok(fault.number),
+    }
 }

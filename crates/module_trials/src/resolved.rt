@@ -1,6 +1,6 @@
 //! Tests of the types that names mean.
 
-use crate::rows::{Table, placed, spelled, three, two};
+use crate::rows::{Table, between, placed, spelled, three, two};
 use notation::{Fault, parse, resolve};
 use outline::outline;
 use std::alloc::{AllocError, Global};
@@ -31,14 +31,10 @@ fn told(alloc: Global, text: &str, name: &str) -> Result<String, AllocError> {
 
 /// What is told of T in a module of these assignments, of which the first begins in column 1 of line 2.
 fn told_of(alloc: Global, tagging: &str, assignments: &str) -> Result<String, AllocError> {
-    let text = format!(in alloc; "M DEFINITIONS {tagging} ::= BEGIN\n{assignments} END")?;
+    let mut text = between(alloc, "M DEFINITIONS ", tagging, " ::= BEGIN\n")?;
+    text.push_str(assignments)?;
+    text.push_str(" END")?;
     told(alloc, text.as_str(), "T")
-}
-
-/// What is told of T where it is a SEQUENCE with this type and default of one component, before other assignments.
-fn told_of_component(alloc: Global, part: &str, others: &str) -> Result<String, AllocError> {
-    let assignments = format!(in alloc; "T ::= SEQUENCE {{ x {part} }} {others}")?;
-    told_of(alloc, "", assignments.as_str())
 }
 
 /// Assignments | tag default | the type of T, or the number and the place of its fault.
@@ -49,6 +45,43 @@ impl Table for Assignments {
         let (assignments, tagging, wanted) = three(row)?;
         let assignments = spelled(alloc, assignments)?;
         Ok(told_of(alloc, tagging, assignments.as_str())?.as_str() == wanted)
+    }
+}
+
+/// Assignments with a part that the rows have.
+#[derive(Clone, Copy)]
+struct Around<'a> {
+    front: &'a str,
+    behind: &'a str,
+}
+
+impl<'a> Around<'a> {
+    /// What is told of T where they have this part.
+    fn told(self, alloc: Global, part: &str) -> Result<String, AllocError> {
+        let assignments = between(alloc, self.front, part, self.behind)?;
+        told_of(alloc, "", assignments.as_str())
+    }
+}
+
+/// The part | the type of T, or the number and the place of its fault.
+#[derive(Clone, Copy)]
+struct Whole<'a>(Around<'a>);
+
+impl<'a> Table for Whole<'a> {
+    fn holds(&self, alloc: Global, row: &str) -> Result<bool, Fail> {
+        let (part, wanted) = two(row)?;
+        Ok(self.0.told(alloc, part)?.as_str() == wanted)
+    }
+}
+
+/// The part | what the type of T has in it.
+#[derive(Clone, Copy)]
+struct Within<'a>(Around<'a>);
+
+impl<'a> Table for Within<'a> {
+    fn holds(&self, alloc: Global, row: &str) -> Result<bool, Fail> {
+        let (part, wanted) = two(row)?;
+        Ok(self.0.told(alloc, part)?.as_str().contains(wanted))
     }
 }
 

@@ -1,7 +1,7 @@
-//! How the tables are read: a line is a row, with bars between its columns.
+//! How the tables are read: a line is a row, with ` | ` between its columns.
 //!
-//! A text that is scanned or parsed stands there as it is, blanks and bars in it too, before the last ` | `; `\n` in it
-//! is a line feed. What is compared with the text that `Debug` prints of a result stands there as Rust spells it.
+//! A text that is scanned or parsed stands there as it is, blanks and bars in it too; `\n` in it is a line feed. What is
+//! compared with the text that `Debug` prints of a result stands there as Rust spells it.
 
 use lexis::Fault;
 use std::alloc::{AllocError, Global};
@@ -17,11 +17,11 @@ pub trait Table {
 /// Fails at the first row that does not hold, and where there is none.
 pub fn check<T: Table>(alloc: Global, table: &T, rows: &str) -> Result<(), Fail> {
     if rows.is_empty() {
-        return Err("a table without rows".into());
+        return Err(Fail::new("a table without rows"));
     }
     for row in rows.lines() {
         if !table.holds(alloc, row)? {
-            return Err(Fail::new(format_args!("not so: {row}")));
+            return Err(Fail::new(row));
         }
     }
     Ok(())
@@ -29,7 +29,40 @@ pub fn check<T: Table>(alloc: Global, table: &T, rows: &str) -> Result<(), Fail>
 
 /// The text that a row begins with, as it is, and the last column.
 pub fn text_and_last(row: &str) -> Result<(&str, &str), Fail> {
-    Ok(row.rsplit_once(" | ").ok_or("no bar")?)
+    around(row, " | ")
+}
+
+/// What stands on both sides of the last mark of a row.
+pub fn around<'a>(row: &'a str, mark: &str) -> Result<(&'a str, &'a str), Fail> {
+    match row.rsplit_once(mark) {
+        Some(sides) => Ok(sides),
+        None => Err(Fail::new(row)),
+    }
+}
+
+/// The columns of a row of two.
+pub fn two(row: &str) -> Result<(&str, &str), Fail> {
+    let (first, second) = text_and_last(row)?;
+    Ok((first.trim(), second.trim()))
+}
+
+/// The columns of a row of three.
+pub fn three(row: &str) -> Result<(&str, &str, &str), Fail> {
+    let (others, third) = text_and_last(row)?;
+    let (first, second) = two(others)?;
+    Ok((first, second, third.trim()))
+}
+
+/// The columns of a row of four.
+pub fn four(row: &str) -> Result<(&str, &str, &str, &str), Fail> {
+    let (others, fourth) = text_and_last(row)?;
+    let (first, second, third) = three(others)?;
+    Ok((first, second, third, fourth.trim()))
+}
+
+/// What a column has between `'`, the blanks at its ends too.
+pub fn quoted(column: &str) -> &str {
+    column.trim_matches('\'')
 }
 
 /// The text that a column spells, in which `\n` is a line feed.
@@ -37,34 +70,45 @@ pub fn spelled(alloc: Global, column: &str) -> Result<String, AllocError> {
     column.replace(alloc, "\\n", "\n")
 }
 
-/// The columns of a row of two.
-pub fn two(row: &str) -> Result<(&str, &str), Fail> {
-    let (first, second) = row.split_once('|').ok_or("too few columns")?;
-    Ok((first.trim(), second.trim()))
+/// What stands in front, the text so many times, and what stands behind.
+pub fn repeated(
+    alloc: Global,
+    front: &str,
+    text: &str,
+    count: usize,
+    behind: &str,
+) -> Result<String, AllocError> {
+    let mut all = String::from_str(alloc, front)?;
+    for _ in 0..count {
+        all.push_str(text)?;
+    }
+    all.push_str(behind)?;
+    Ok(all)
 }
 
-/// The columns of a row of three.
-pub fn three(row: &str) -> Result<(&str, &str, &str), Fail> {
-    let (first, others) = two(row)?;
-    let (second, third) = two(others)?;
-    Ok((first, second, third))
+/// The text with what stands on both sides of it.
+pub fn between(alloc: Global, front: &str, text: &str, behind: &str) -> Result<String, AllocError> {
+    let mut all = String::from_str(alloc, front)?;
+    all.push_str(text)?;
+    all.push_str(behind)?;
+    Ok(all)
 }
 
-/// The columns of a row of four.
-pub fn four(row: &str) -> Result<(&str, &str, &str, &str), Fail> {
-    let (first, others) = two(row)?;
-    let (second, third, fourth) = three(others)?;
-    Ok((first, second, third, fourth))
+/// The text that four columns spell: what stands in front, what is repeated, how often, and what stands behind.
+pub fn built(alloc: Global, columns: &str) -> Result<String, Fail> {
+    let (front, part, count, behind) = four(columns)?;
+    let count = count.parse::<usize>()?;
+    Ok(repeated(alloc, quoted(front), quoted(part), count, quoted(behind))?)
 }
 
-/// What a column has between `'`, the blanks at its ends too.
-pub fn quoted(column: &str) -> Result<&str, Fail> {
-    let text = column.strip_prefix('\'').ok_or("no beginning")?;
-    Ok(text.strip_suffix('\'').ok_or("no end")?)
+/// The beginnings and the ends of 65,536 comments, each in the one before.
+pub fn nested_comments(alloc: Global) -> Result<String, AllocError> {
+    let ends = repeated(alloc, "", "*/", 65_536, "")?;
+    repeated(alloc, "", "/*", 65_536, ends.as_str())
 }
 
 /// Whether `Debug` prints what was found as this text.
-pub fn prints<T: Debug>(alloc: Global, found: &T, text: &str) -> Result<bool, Fail> {
+pub fn prints<T: Debug>(alloc: Global, found: &T, text: &str) -> Result<bool, AllocError> {
     let printed = format!(in alloc; "{found:?}")?;
     Ok(printed.as_str() == text)
 }

@@ -1,18 +1,10 @@
 //! The numbers and the places of faults.
 
-use super::{refused, with_type};
-use crate::rows::{Table, check, placed, spelled, text_and_last};
+use super::{told, told_of_type};
+use crate::rows::{Table, around, check, placed, spelled, text_and_last};
+use lexis::Fault;
 use std::alloc::{AllocError, Global};
 use std::test::Fail;
-use syntax::parse;
-
-// The number and the place of the fault with which a text is refused, or `read`.
-fn told(alloc: Global, text: &str) -> Result<String, AllocError> {
-    match parse(alloc, text) {
-        Ok(_) => String::from_str(alloc, "read"),
-        Err(fault) => placed(alloc, fault),
-    }
-}
 
 // The text of a module | what is told of it.
 struct Modules;
@@ -76,16 +68,23 @@ struct Types;
 impl Table for Types {
     fn holds(&self, alloc: Global, row: &str) -> Result<bool, Fail> {
         let (body, wanted) = text_and_last(row)?;
-        let (number, octet) = wanted.split_once(' ').ok_or("one number")?;
-        let (number, octet) = (number.parse::<u32>()?, octet.parse::<u32>()?);
-        let (line, column) = if number == 0 {
-            (0, 0)
-        } else {
-            (1, octet.saturating_add(30))
-        };
-        let text = with_type(alloc, body)?;
-        Ok(refused(alloc, &text) == (number, line, column))
+        let (number, octet) = around(wanted, " ")?;
+        let wanted = told_at(alloc, number.parse::<u32>()?, octet.parse::<u32>()?)?;
+        Ok(told_of_type(alloc, body)?.as_str() == wanted.as_str())
     }
+}
+
+// What is told of a fault with this number at this octet of the type, or of no fault.
+fn told_at(alloc: Global, number: u32, octet: u32) -> Result<String, AllocError> {
+    if number == 0 {
+        return String::from_str(alloc, "read");
+    }
+    let fault = Fault {
+        number,
+        line: 1,
+        column: octet.saturating_add(30),
+    };
+    placed(alloc, fault)
 }
 
 // type | number and octet of the type; zeros where it is read

@@ -1,16 +1,9 @@
 //! Limits, each with its two neighbours, and hostile texts.
 
-use super::{refused, with_type};
-use crate::rows::{Table, check, four, quoted, three};
+use super::{number_of_type, told};
+use crate::rows::{Table, built, check, four, nested_comments, quoted, repeated, text_and_last};
 use std::alloc::{AllocError, Global};
 use std::test::Fail;
-
-/// The prefix so many times, and then the rest.
-fn repeated(alloc: Global, prefix: &str, count: usize, rest: &str) -> Result<String, AllocError> {
-    let mut text = prefix.repeat(alloc, count)?;
-    text.push_str(rest)?;
-    Ok(text)
-}
 
 // What holds a type, between `'` | how often | what it holds | the number of the fault.
 struct Levels;
@@ -18,9 +11,8 @@ struct Levels;
 impl Table for Levels {
     fn holds(&self, alloc: Global, row: &str) -> Result<bool, Fail> {
         let (prefix, count, inner, number) = four(row)?;
-        let body = repeated(alloc, quoted(prefix)?, count.parse::<usize>()?, inner)?;
-        let text = with_type(alloc, &body)?;
-        Ok(refused(alloc, &text).0 == number.parse::<u32>()?)
+        let body = repeated(alloc, "", quoted(prefix), count.parse::<usize>()?, inner)?;
+        Ok(number_of_type(alloc, body.as_str())? == number.parse::<u32>()?)
     }
 }
 
@@ -40,87 +32,59 @@ const LEVELS: &str = "\
 
 #[test]
 fn types_nest_at_most_64_deep(rt: HostRuntime) -> Result<(), Fail> {
-    let text = with_type(rt.alloc(), &repeated(rt.alloc(), "[0] ", 65, "NULL")?)?;
-    assert_eq!(rt; refused(rt.alloc(), &text), (31, 1, 31 + 4 * 65));
     check(rt.alloc(), &Levels, LEVELS)
 }
 
-// What begins the list, and one part and `,`, both between `'` | the last part.
-struct Lists;
+// A text that is built | what is told of it.
+struct Built;
 
-impl Table for Lists {
+impl Table for Built {
     fn holds(&self, alloc: Global, row: &str) -> Result<bool, Fail> {
-        let (first, part, last) = three(row)?;
-        let (first, part) = (quoted(first)?, quoted(part)?);
-        let fits = ended(alloc, &begun(alloc, first, part, 255)?, last)?;
-        Ok(fits == (0, 0, 0) && is_too_long(alloc, &begun(alloc, first, part, 256)?, last)?)
+        let (columns, wanted) = text_and_last(row)?;
+        let text = built(alloc, columns)?;
+        Ok(told(alloc, text.as_str())?.as_str() == wanted)
     }
 }
 
-// The beginning of a list, and then so many parts.
-fn begun(alloc: Global, first: &str, part: &str, count: usize) -> Result<String, AllocError> {
-    let parts = part.repeat(alloc, count)?;
-    format!(in alloc; "{first}{parts}")
-}
-
-// How the list is refused that ends with this part.
-fn ended(alloc: Global, list: &str, last: &str) -> Result<(u32, u32, u32), AllocError> {
-    let text = with_type(alloc, &format!(in alloc; "{list}{last}")?)?;
-    Ok(refused(alloc, &text))
-}
-
-// Whether the list is refused at its last part, since it is one too many.
-fn is_too_long(alloc: Global, list: &str, last: &str) -> Result<bool, AllocError> {
-    let (number, line, column) = ended(alloc, list, last)?;
-    Ok((number, line) == (31, 1) && u64::from(column) == list.len() as u64 + 31)
-}
-
+// what stands in front, and what is repeated, between `'` | how often | what stands behind | what is told of that
 const LISTS: &str = "\
-'SEQUENCE { '   | 'a NULL, ' | z NULL }
-'SET { '        | 'a NULL, ' | z NULL }
-'CHOICE { '     | 'a NULL, ' | z NULL }
-'ENUMERATED { ' | 'a, '      | z }
-'BIT STRING { ' | 'a(0), '   | z(1) }";
+'M DEFINITIONS ::= BEGIN T ::= SEQUENCE { '   | 'a NULL, ' | 255 | z NULL } END | read
+'M DEFINITIONS ::= BEGIN T ::= SEQUENCE { '   | 'a NULL, ' | 256 | z NULL } END | 31 at 1:2090
+'M DEFINITIONS ::= BEGIN T ::= SET { '        | 'a NULL, ' | 255 | z NULL } END | read
+'M DEFINITIONS ::= BEGIN T ::= SET { '        | 'a NULL, ' | 256 | z NULL } END | 31 at 1:2085
+'M DEFINITIONS ::= BEGIN T ::= CHOICE { '     | 'a NULL, ' | 255 | z NULL } END | read
+'M DEFINITIONS ::= BEGIN T ::= CHOICE { '     | 'a NULL, ' | 256 | z NULL } END | 31 at 1:2088
+'M DEFINITIONS ::= BEGIN T ::= ENUMERATED { ' | 'a, '      | 255 | z } END      | read
+'M DEFINITIONS ::= BEGIN T ::= ENUMERATED { ' | 'a, '      | 256 | z } END      | 31 at 1:812
+'M DEFINITIONS ::= BEGIN T ::= BIT STRING { ' | 'a(0), '   | 255 | z(1) } END   | read
+'M DEFINITIONS ::= BEGIN T ::= BIT STRING { ' | 'a(0), '   | 256 | z(1) } END   | 31 at 1:1580";
 
 #[test]
 fn lists_have_at_most_256_parts(rt: HostRuntime) -> Result<(), Fail> {
-    check(rt.alloc(), &Lists, LISTS)
+    check(rt.alloc(), &Built, LISTS)
 }
 
-// How the empty module is refused with so many blanks in front of its 27 octets and behind them.
-fn spaced(alloc: Global, front: usize, behind: usize) -> Result<(u32, u32, u32), AllocError> {
-    let behind = " ".repeat(alloc, behind)?;
-    let module = format!(in alloc; "M DEFINITIONS ::= BEGIN END{behind}")?;
-    let text = repeated(alloc, " ", front, &module)?;
-    Ok(refused(alloc, &text))
+// what stands in front, and what is repeated, between `'` | how often | what stands behind | what is told of that
+const LONG: &str = "\
+'M DEFINITIONS ::= BEGIN T ::= ' | '[0] '        | 65     | NULL END                       | 31 at 1:291
+'M DEFINITIONS ::= BEGIN END'    | ' '           | 262117 | ''                             | read
+'M DEFINITIONS ::= BEGIN END'    | ' '           | 262118 | ''                             | 31 at 1:1
+''                               | ' '           | 262117 | 'M DEFINITIONS ::= BEGIN END'  | read
+''                               | ' '           | 262117 | 'M DEFINITIONS ::= BEGIN END ' | 31 at 1:1
+'M DEFINITIONS ::= BEGIN '       | 'T ::= NULL ' | 20000  | END                            | read";
+
+#[test]
+fn hostile_texts(rt: HostRuntime) -> Result<(), Fail> {
+    check(rt.alloc(), &Built, LONG)
+}
+
+fn told_of_comments(alloc: Global) -> Result<String, AllocError> {
+    let text = nested_comments(alloc)?;
+    told(alloc, text.as_str())
 }
 
 #[test]
-fn spaces_behind_the_empty_module(rt: HostRuntime) -> Result<(), Fail> {
-    assert_eq!(rt; spaced(rt.alloc(), 0, 262_117)?, (0, 0, 0));
-    assert_eq!(rt; spaced(rt.alloc(), 0, 262_118)?, (31, 1, 1));
-    Ok(())
-}
-
-#[test]
-fn spaces_in_front_of_the_empty_module(rt: HostRuntime) -> Result<(), Fail> {
-    assert_eq!(rt; spaced(rt.alloc(), 262_144 - 27, 0)?, (0, 0, 0));
-    assert_eq!(rt; spaced(rt.alloc(), 262_144 - 27, 1)?, (31, 1, 1));
-    Ok(())
-}
-
-#[test]
-fn nested_comments(rt: HostRuntime) -> Result<(), Fail> {
-    let closed = "*/".repeat(rt.alloc(), 65_536)?;
-    let text = repeated(rt.alloc(), "/*", 65_536, &closed)?;
-    assert_eq!(rt; refused(rt.alloc(), &text), (22, 1, 262_145));
-    Ok(())
-}
-
-#[test]
-fn many_assignments(rt: HostRuntime) -> Result<(), Fail> {
-    let many = repeated(rt.alloc(), "T ::= NULL ", 20_000, "END")?;
-    let text = format!(in rt.alloc(); "M DEFINITIONS ::= BEGIN {many}")?;
-    assert_eq!(rt; refused(rt.alloc(), &text), (0, 0, 0));
+fn comments_and_no_module(rt: HostRuntime) -> Result<(), Fail> {
+    assert_eq!(rt; told_of_comments(rt.alloc())?.as_str(), "22 at 1:262145");
     Ok(())
 }

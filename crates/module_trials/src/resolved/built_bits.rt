@@ -1,6 +1,6 @@
 //! Modules that are made in code, with named bits that no text has.
 
-use crate::rows::{Table, check, two};
+use crate::rows::{Table, around, check, two};
 use notation::{Assignment, Expr, Module, NamedBit, Tagging, resolve};
 use std::alloc::{AllocError, Global};
 use std::test::Fail;
@@ -14,7 +14,7 @@ fn named(alloc: Global, name: &str, number: u32) -> Result<NamedBit, Fail> {
 
 // The named bit that a word spells, as `a(0)`.
 fn bit_of(alloc: Global, word: &str) -> Result<NamedBit, Fail> {
-    let (name, number) = word.split_once('(').ok_or("no number")?;
+    let (name, number) = around(word, "(")?;
     named(alloc, name, number.trim_end_matches(')').parse::<u32>()?)
 }
 

@@ -1,23 +1,14 @@
 //! Values behind DEFAULT.
 
-use super::told_of_component;
-use crate::rows::{Table, check, two};
-use std::alloc::Global;
+use super::{Around, Whole, Within};
+use crate::rows::check;
 use std::test::Fail;
 
-/// What stands behind T.
-const OTHERS: &str = "E ::= ENUMERATED { a(1), c(0) }";
-
-// Type and default of a component | what the type of T has in it.
-struct Components;
-
-impl Table for Components {
-    fn holds(&self, alloc: Global, row: &str) -> Result<bool, Fail> {
-        let (part, wanted) = two(row)?;
-        let found = told_of_component(alloc, part, OTHERS)?;
-        Ok(found.as_str().contains(wanted))
-    }
-}
+/// A component of T, and the ENUMERATED of some defaults.
+const COMPONENT: Around<'static> = Around {
+    front: "T ::= SEQUENCE { x ",
+    behind: " } E ::= ENUMERATED { a(1), c(0) }",
+};
 
 // type and default of a component | the same with its tag, or a fault
 const DEFAULTS: &str = "\
@@ -35,21 +26,10 @@ VisibleString DEFAULT \"\"    | [U26]Visible DEFAULT Text([])";
 
 #[test]
 fn defaults(rt: HostRuntime) -> Result<(), Fail> {
-    check(rt.alloc(), &Components, DEFAULTS)
+    check(rt.alloc(), &Within(COMPONENT), DEFAULTS)
 }
 
-// Default of a BIT STRING | its octets and how many bits of the last are unused.
-struct Bits;
-
-impl Table for Bits {
-    fn holds(&self, alloc: Global, row: &str) -> Result<bool, Fail> {
-        let (written, wanted) = two(row)?;
-        let part = format!(in alloc; "BIT STRING DEFAULT {written}")?;
-        let found = told_of_component(alloc, part.as_str(), "")?;
-        Ok(found.as_str().contains(wanted))
-    }
-}
-
+// default of a BIT STRING | its octets and how many bits of the last are unused
 const DEFAULT_BITS: &str = "\
 ''B          | octets: [], unused: 0
 '1'B         | octets: [128], unused: 7
@@ -62,19 +42,14 @@ const DEFAULT_BITS: &str = "\
 
 #[test]
 fn default_bits(rt: HostRuntime) -> Result<(), Fail> {
-    check(rt.alloc(), &Bits, DEFAULT_BITS)
+    let around = Around {
+        front: "T ::= SEQUENCE { x BIT STRING DEFAULT ",
+        behind: " }",
+    };
+    check(rt.alloc(), &Within(around), DEFAULT_BITS)
 }
 
-// Type and default that it does not take | the fault of T.
-struct Refused;
-
-impl Table for Refused {
-    fn holds(&self, alloc: Global, row: &str) -> Result<bool, Fail> {
-        let (part, wanted) = two(row)?;
-        Ok(told_of_component(alloc, part, OTHERS)?.as_str() == wanted)
-    }
-}
-
+// type and default that it does not take | the fault of T
 const BAD_DEFAULTS: &str = "\
 BOOLEAN DEFAULT 3                                       | 30 at 2:1
 INTEGER DEFAULT TRUE                                    | 30 at 2:1
@@ -98,5 +73,5 @@ SET OF BOOLEAN DEFAULT TRUE                             | 30 at 2:1";
 
 #[test]
 fn bad_defaults(rt: HostRuntime) -> Result<(), Fail> {
-    check(rt.alloc(), &Refused, BAD_DEFAULTS)
+    check(rt.alloc(), &Whole(COMPONENT), BAD_DEFAULTS)
 }

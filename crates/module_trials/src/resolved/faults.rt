@@ -1,8 +1,7 @@
 //! The numbers and places of faults.
 
-use super::{Assignments, told, told_of};
-use crate::rows::{Table, check, two};
-use std::alloc::Global;
+use super::{Around, Assignments, Names, Whole};
+use crate::rows::{check, repeated};
 use std::test::Fail;
 
 // assignments | tag default | the fault of T, or its type
@@ -31,20 +30,7 @@ fn faults(rt: HostRuntime) -> Result<(), Fail> {
     check(rt.alloc(), &Assignments, FAULTS)
 }
 
-// Assignments with several faults | the fault of T.
-struct Several;
-
-impl Table for Several {
-    fn holds(&self, alloc: Global, row: &str) -> Result<bool, Fail> {
-        let (front, wanted) = two(row)?;
-        let assignments = format!(in alloc;
-            "{front} V ::= SEQUENCE {{ a NULL, a W }} W ::= SEQUENCE {{ i [0] IMPLICIT CHOICE {{ a NULL }} }}"
-        )?;
-        Ok(told_of(alloc, "", assignments.as_str())?.as_str() == wanted)
-    }
-}
-
-// the first fault is left out from each to the next
+// assignments with several faults, the first of which is left out from each to the next | the fault of T
 const SEVERAL: &str = "\
 T ::= SEQUENCE { u U, t T, v V }            | 24 at 2:1
 U ::= NULL T ::= SEQUENCE { u U, t T, v V } | 25 at 2:12
@@ -52,23 +38,14 @@ T ::= V                                     | 26 at 2:1";
 
 #[test]
 fn which_of_several(rt: HostRuntime) -> Result<(), Fail> {
-    check(rt.alloc(), &Several, SEVERAL)
+    let around = Around {
+        front: "",
+        behind: " V ::= SEQUENCE { a NULL, a W } W ::= SEQUENCE { i [0] IMPLICIT CHOICE { a NULL } }",
+    };
+    check(rt.alloc(), &Whole(around), SEVERAL)
 }
 
-// Parts of T, of which each has the faults of those behind it too | the fault of T.
-struct Parts;
-
-impl Table for Parts {
-    fn holds(&self, alloc: Global, row: &str) -> Result<bool, Fail> {
-        let (parts, wanted) = two(row)?;
-        let deep = "[0]".repeat(alloc, 61)?;
-        let assignments = format!(in alloc;
-            "T ::= SEQUENCE {{ {parts} }} I ::= [0] IMPLICIT CHOICE {{ a NULL }} L ::= {deep} NULL N ::= ENUMERATED {{ a(1), b(1) }} D ::= SEQUENCE {{ a NULL DEFAULT 0 }} S ::= SET {{ a NULL, b NULL }}"
-        )?;
-        Ok(told_of(alloc, "", assignments.as_str())?.as_str() == wanted)
-    }
-}
-
+// parts of T, of which each has the faults of those behind it too | the fault of T
 const PARTS: &str = "\
 a I, b L, c N, d D, e S | 29 at 2:1
 b L, c N, d D, e S      | 31 at 2:1
@@ -78,12 +55,26 @@ e S                     | 28 at 2:1";
 
 #[test]
 fn later_of_several(rt: HostRuntime) -> Result<(), Fail> {
-    check(rt.alloc(), &Parts, PARTS)
+    let behind = repeated(
+        rt.alloc(),
+        " } I ::= [0] IMPLICIT CHOICE { a NULL } L ::= ",
+        "[0]",
+        61,
+        " NULL N ::= ENUMERATED { a(1), b(1) } D ::= SEQUENCE { a NULL DEFAULT 0 } S ::= SET { a NULL, b NULL }",
+    )?;
+    let around = Around {
+        front: "T ::= SEQUENCE { ",
+        behind: behind.as_str(),
+    };
+    check(rt.alloc(), &Whole(around), PARTS)
 }
+
+// name | the fault of the empty module
+const OF_NO_MODULE: &str = "\
+T | 24 at 1:1";
 
 #[test]
 fn names_of_the_empty_module(rt: HostRuntime) -> Result<(), Fail> {
-    let found = told(rt.alloc(), "M DEFINITIONS ::= BEGIN END", "T")?;
-    assert_eq!(rt; found.as_str(), "24 at 1:1");
-    Ok(())
+    let module = "M DEFINITIONS ::= BEGIN END";
+    check(rt.alloc(), &Names { module }, OF_NO_MODULE)
 }

@@ -1,7 +1,7 @@
 //! Modules that are made to be hard.
 
-use super::told;
-use crate::rows::{Table, check, four, prints, quoted, two};
+use super::{Names, told};
+use crate::rows::{Table, between, check, four, prints, quoted, repeated, two};
 use notation::{Module, parse, resolve};
 use std::alloc::{AllocError, Global};
 use std::test::Fail;
@@ -79,10 +79,16 @@ struct Tags;
 impl Table for Tags {
     fn holds(&self, alloc: Global, row: &str) -> Result<bool, Fail> {
         let (tag, count, body, wanted) = four(row)?;
-        let tags = quoted(tag)?.repeat(alloc, count.parse::<usize>()?)?;
-        let text = format!(in alloc; "M DEFINITIONS ::= BEGIN T ::= {tags} {body} END")?;
-        prints(alloc, &numbers(alloc, text.as_str(), "T"), wanted)
+        let tags = repeated(alloc, "", quoted(tag), count.parse::<usize>()?, " ")?;
+        Ok(prints(alloc, &numbers_of(alloc, tags.as_str(), body)?, wanted)?)
     }
+}
+
+// The numbers for a type with these tags.
+fn numbers_of(alloc: Global, tags: &str, body: &str) -> Result<(u32, u32), AllocError> {
+    let tagged = between(alloc, tags, body, " END")?;
+    let text = between(alloc, "M DEFINITIONS ::= BEGIN T ::= ", tagged.as_str(), "")?;
+    Ok(numbers(alloc, text.as_str(), "T"))
 }
 
 const LEVELS: &str = "\
@@ -98,12 +104,15 @@ fn levels(rt: HostRuntime) -> Result<(), Fail> {
     check(rt.alloc(), &Tags, LEVELS)
 }
 
+fn told_of_tags(alloc: Global) -> Result<String, AllocError> {
+    let front = "M DEFINITIONS ::= BEGIN T ::= ";
+    let text = repeated(alloc, front, "[0] IMPLICIT ", 64, " NULL END")?;
+    told(alloc, text.as_str(), "T")
+}
+
 #[test]
 fn implicit_tags(rt: HostRuntime) -> Result<(), Fail> {
-    let tags = "[0] IMPLICIT ".repeat(rt.alloc(), 64)?;
-    let text = format!(in rt.alloc(); "M DEFINITIONS ::= BEGIN T ::= {tags} NULL END")?;
-    let found = told(rt.alloc(), text.as_str(), "T")?;
-    assert_eq!(rt; found.as_str(), "[0]NULL");
+    assert_eq!(rt; told_of_tags(rt.alloc())?.as_str(), "[0]NULL");
     Ok(())
 }
 
@@ -129,20 +138,26 @@ fn backwards(alloc: Global) -> Result<String, AllocError> {
     Ok(text)
 }
 
+// name | type
+const FIRST: &str = "\
+A0 | [U5]NULL";
+
 #[test]
 fn long_chains_forwards(rt: HostRuntime) -> Result<(), Fail> {
     let text = forwards(rt.alloc())?;
-    let found = told(rt.alloc(), text.as_str(), "A0")?;
-    assert_eq!(rt; found.as_str(), "[U5]NULL");
-    Ok(())
+    let module = text.as_str();
+    check(rt.alloc(), &Names { module }, FIRST)
 }
+
+// name | type
+const LAST: &str = "\
+A14000 | [U5]NULL";
 
 #[test]
 fn long_chains_backwards(rt: HostRuntime) -> Result<(), Fail> {
     let text = backwards(rt.alloc())?;
-    let found = told(rt.alloc(), text.as_str(), "A14000")?;
-    assert_eq!(rt; found.as_str(), "[U5]NULL");
-    Ok(())
+    let module = text.as_str();
+    check(rt.alloc(), &Names { module }, LAST)
 }
 
 /// A module in which each of 4,096 names is a CHOICE of the one before it.

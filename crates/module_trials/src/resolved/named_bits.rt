@@ -1,8 +1,7 @@
 //! BIT STRING with named bits.
 
-use super::{Assignments, told_of, told_of_component};
-use crate::rows::{Table, check, two};
-use std::alloc::Global;
+use super::{Around, Assignments, Whole, Within};
+use crate::rows::{check, repeated};
 use std::test::Fail;
 
 // assignments | tag default | the type of T
@@ -20,20 +19,13 @@ fn types_with_named_bits(rt: HostRuntime) -> Result<(), Fail> {
     check(rt.alloc(), &Assignments, TYPES)
 }
 
-/// What stands behind T in the modules of defaults.
-const OTHERS: &str = "B ::= BIT STRING { a(0), b(7) } C ::= [5] D D ::= B P ::= BIT STRING";
+/// A component of T, and the types of some components.
+const COMPONENT: Around<'static> = Around {
+    front: "T ::= SEQUENCE { x ",
+    behind: " } B ::= BIT STRING { a(0), b(7) } C ::= [5] D D ::= B P ::= BIT STRING",
+};
 
-// Type and default of a component | the octets of the default and how many bits of the last are unused.
-struct Components;
-
-impl Table for Components {
-    fn holds(&self, alloc: Global, row: &str) -> Result<bool, Fail> {
-        let (part, wanted) = two(row)?;
-        let found = told_of_component(alloc, part, OTHERS)?;
-        Ok(found.as_str().contains(wanted))
-    }
-}
-
+// type and default of a component | the octets of the default and how many bits of the last are unused
 const DEFAULTS: &str = "\
 BIT STRING { a(0) } DEFAULT '100'B | octets: [128], unused: 7
 B DEFAULT '1010'B                  | octets: [160], unused: 5
@@ -56,19 +48,10 @@ P DEFAULT '00'H                    | octets: [0], unused: 0
 
 #[test]
 fn defaults_without_bits_0_at_the_end(rt: HostRuntime) -> Result<(), Fail> {
-    check(rt.alloc(), &Components, DEFAULTS)
+    check(rt.alloc(), &Within(COMPONENT), DEFAULTS)
 }
 
-// Type and default that it does not take | the fault of T.
-struct Refused;
-
-impl Table for Refused {
-    fn holds(&self, alloc: Global, row: &str) -> Result<bool, Fail> {
-        let (part, wanted) = two(row)?;
-        Ok(told_of_component(alloc, part, OTHERS)?.as_str() == wanted)
-    }
-}
-
+// type and default that it does not take | the fault of T
 const BAD_DEFAULTS: &str = "\
 B DEFAULT a                   | 30 at 2:1
 BIT STRING { a(0) } DEFAULT a | 30 at 2:1
@@ -81,7 +64,7 @@ B DEFAULT { }                 | 22 at 2:30";
 
 #[test]
 fn defaults_that_are_not_taken(rt: HostRuntime) -> Result<(), Fail> {
-    check(rt.alloc(), &Refused, BAD_DEFAULTS)
+    check(rt.alloc(), &Whole(COMPONENT), BAD_DEFAULTS)
 }
 
 // assignments | tag default | the fault of T, or its type
@@ -100,20 +83,7 @@ fn faults(rt: HostRuntime) -> Result<(), Fail> {
     check(rt.alloc(), &Assignments, FAULTS)
 }
 
-// Parts of T, of which each has the faults of those behind it too | the fault of T.
-struct Parts;
-
-impl Table for Parts {
-    fn holds(&self, alloc: Global, row: &str) -> Result<bool, Fail> {
-        let (parts, wanted) = two(row)?;
-        let deep = "[0]".repeat(alloc, 61)?;
-        let assignments = format!(in alloc;
-            "T ::= SEQUENCE {{ {parts} }} R ::= BIT STRING {{ a(0), a(1) }} L ::= {deep} NULL N ::= BIT STRING {{ a(1), b(1) }} D ::= SEQUENCE {{ a BIT STRING {{ a(0) }} DEFAULT a }}"
-        )?;
-        Ok(told_of(alloc, "", assignments.as_str())?.as_str() == wanted)
-    }
-}
-
+// parts of T, of which each has the faults of those behind it too | the fault of T
 const PARTS: &str = "\
 r R, l L, n N, d D | 26 at 2:1
 l L, n N, d D      | 31 at 2:1
@@ -122,5 +92,16 @@ d D                | 30 at 2:1";
 
 #[test]
 fn which_of_several_faults(rt: HostRuntime) -> Result<(), Fail> {
-    check(rt.alloc(), &Parts, PARTS)
+    let behind = repeated(
+        rt.alloc(),
+        " } R ::= BIT STRING { a(0), a(1) } L ::= ",
+        "[0]",
+        61,
+        " NULL N ::= BIT STRING { a(1), b(1) } D ::= SEQUENCE { a BIT STRING { a(0) } DEFAULT a }",
+    )?;
+    let around = Around {
+        front: "T ::= SEQUENCE { ",
+        behind: behind.as_str(),
+    };
+    check(rt.alloc(), &Whole(around), PARTS)
 }

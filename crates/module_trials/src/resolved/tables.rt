@@ -1,8 +1,7 @@
 //! Tags and numbers of the types of small modules.
 
-use super::{Assignments, told_of};
-use crate::rows::{Table, check, two};
-use std::alloc::Global;
+use super::{Around, Assignments, Whole};
+use crate::rows::check;
 use std::test::Fail;
 
 // assignments | tag default | the type of T
@@ -42,17 +41,7 @@ fn automatic_tags(rt: HostRuntime) -> Result<(), Fail> {
     check(rt.alloc(), &Assignments, AUTOMATIC_TAGS)
 }
 
-// A type | the same with its tag.
-struct Types;
-
-impl Table for Types {
-    fn holds(&self, alloc: Global, row: &str) -> Result<bool, Fail> {
-        let (body, wanted) = two(row)?;
-        let assignments = format!(in alloc; "T ::= {body}")?;
-        Ok(told_of(alloc, "", assignments.as_str())?.as_str() == wanted)
-    }
-}
-
+// type | the same with its tag
 const UNIVERSAL_TAGS: &str = "\
 BOOLEAN             | [U1]BOOLEAN
 INTEGER             | [U2]INTEGER
@@ -74,29 +63,26 @@ BMPString           | [U30]Bmp";
 
 #[test]
 fn universal_tags(rt: HostRuntime) -> Result<(), Fail> {
-    check(rt.alloc(), &Types, UNIVERSAL_TAGS)
+    let around = Around {
+        front: "T ::= ",
+        behind: "",
+    };
+    check(rt.alloc(), &Whole(around), UNIVERSAL_TAGS)
 }
 
-// Items | the same with their numbers.
-struct Items;
-
-impl Table for Items {
-    fn holds(&self, alloc: Global, row: &str) -> Result<bool, Fail> {
-        let (items, wanted) = two(row)?;
-        let assignments = format!(in alloc; "T ::= ENUMERATED {{ {items} }}")?;
-        let wanted = format!(in alloc; "[U10]ENUMERATED {wanted}")?;
-        Ok(told_of(alloc, "", assignments.as_str())?.as_str() == wanted.as_str())
-    }
-}
-
+// items | the type that has them, with their numbers
 const ITEM_NUMBERS: &str = "\
-a, b, c             | a(0) b(1) c(2)
-a(1), b, c(0), d    | a(1) b(2) c(0) d(3)
-a, b(0), c, d(2), e | a(1) b(0) c(3) d(2) e(4)
-a(-1), b            | a(-1) b(0)
-a(7), b, c(1)       | a(7) b(0) c(1)";
+a, b, c             | [U10]ENUMERATED a(0) b(1) c(2)
+a(1), b, c(0), d    | [U10]ENUMERATED a(1) b(2) c(0) d(3)
+a, b(0), c, d(2), e | [U10]ENUMERATED a(1) b(0) c(3) d(2) e(4)
+a(-1), b            | [U10]ENUMERATED a(-1) b(0)
+a(7), b, c(1)       | [U10]ENUMERATED a(7) b(0) c(1)";
 
 #[test]
 fn item_numbers(rt: HostRuntime) -> Result<(), Fail> {
-    check(rt.alloc(), &Items, ITEM_NUMBERS)
+    let around = Around {
+        front: "T ::= ENUMERATED { ",
+        behind: " }",
+    };
+    check(rt.alloc(), &Whole(around), ITEM_NUMBERS)
 }

@@ -3,7 +3,7 @@
 use super::Texts;
 use crate::rows::{Table, check, placed, spelled, text_and_last};
 use lexis::fault_at;
-use std::alloc::Global;
+use std::alloc::{AllocError, Global};
 use std::test::Fail;
 
 // text | number, line and column of its fault
@@ -105,10 +105,13 @@ impl Table for Offsets {
     fn holds(&self, alloc: Global, row: &str) -> Result<bool, Fail> {
         let (columns, wanted) = text_and_last(row)?;
         let (text, offset) = text_and_last(columns)?;
-        let text = spelled(alloc, text)?;
-        let fault = fault_at(22, text.as_str(), offset.parse::<usize>()?);
-        Ok(placed(alloc, fault)?.as_str() == wanted)
+        Ok(told_at(alloc, text, offset.parse::<usize>()?)?.as_str() == wanted)
     }
+}
+
+fn told_at(alloc: Global, text: &str, offset: usize) -> Result<String, AllocError> {
+    let text = spelled(alloc, text)?;
+    placed(alloc, fault_at(22, text.as_str(), offset))
 }
 
 // text | offset | number that is given, line and column

@@ -1,7 +1,7 @@
 //! Where tokens begin and end, and what stands between them.
 
 use super::{Texts, told};
-use crate::rows::{Table, check, three};
+use crate::rows::{Table, built, check, nested_comments, text_and_last};
 use lexis::tokens;
 use std::alloc::{AllocError, Global};
 use std::test::Fail;
@@ -54,56 +54,59 @@ fn spans(rt: HostRuntime) -> Result<(), Fail> {
 }
 
 // Whether the octet stands apart what is written on both sides of it.
-fn parts(alloc: Global, octet: u8) -> Result<bool, Fail> {
-    let octet = char::from(octet);
-    let text = format!(in alloc; "a{octet}b")?;
+fn parts(alloc: Global, octet: u8) -> Result<bool, AllocError> {
+    let mut text = String::from_str(alloc, "a")?;
+    text.push(char::from(octet))?;
+    text.push_str("b")?;
     match tokens(alloc, text.as_str()) {
         Ok(found) => Ok(found.len() == 2),
         Err(_) => Ok(false),
     }
 }
 
+// Whether the octet does so exactly where it is white space.
+fn parts_as_it_should(alloc: Global, octet: u8) -> Result<bool, AllocError> {
+    Ok(parts(alloc, octet)? == matches!(octet, 9..=13 | 32))
+}
+
 #[test]
 fn white_space(rt: HostRuntime) -> Result<(), Fail> {
     for octet in 0u8..=127 {
-        let is_white = matches!(octet, 9..=13 | 32);
-        assert_eq!(rt; parts(rt.alloc(), octet)?, is_white, "octet {octet}");
+        assert!(rt; parts_as_it_should(rt.alloc(), octet)?, "octet {octet}");
     }
     Ok(())
 }
 
-// How many blanks | what stands behind them | what is told of that.
-struct Blanks;
+// A text that is built | what is told of it.
+struct Built;
 
-impl Table for Blanks {
+impl Table for Built {
     fn holds(&self, alloc: Global, row: &str) -> Result<bool, Fail> {
-        let (count, behind, wanted) = three(row)?;
-        let mut text = " ".repeat(alloc, count.parse::<usize>()?)?;
-        text.push_str(behind)?;
+        let (columns, wanted) = text_and_last(row)?;
+        let text = built(alloc, columns)?;
         Ok(told(alloc, text.as_str())?.as_str() == wanted)
     }
 }
 
-const BLANKS: &str = "\
-262144 |   | []
-262145 |   | 31 at 1:1
-262145 | # | 31 at 1:1";
+// what stands in front, and what is repeated, between `'` | how often | what stands behind | what is told of that
+const LONG: &str = "\
+'' | ' '  | 262144 | '' | []
+'' | ' '  | 262145 | '' | 31 at 1:1
+'' | ' '  | 262145 | #  | 31 at 1:1
+'' | '/*' | 65536  | '' | 21 at 1:1";
 
 #[test]
-fn the_longest_text(rt: HostRuntime) -> Result<(), Fail> {
-    check(rt.alloc(), &Blanks, BLANKS)
+fn long_texts(rt: HostRuntime) -> Result<(), Fail> {
+    check(rt.alloc(), &Built, LONG)
 }
 
-// What is told of 65,536 beginnings of comments and so many ends.
-fn told_of_comments(alloc: Global, ends: usize) -> Result<String, AllocError> {
-    let mut text = "/*".repeat(alloc, 65_536)?;
-    text.push_str(&"*/".repeat(alloc, ends)?)?;
+fn told_of_comments(alloc: Global) -> Result<String, AllocError> {
+    let text = nested_comments(alloc)?;
     told(alloc, text.as_str())
 }
 
 #[test]
-fn nested_comments(rt: HostRuntime) -> Result<(), Fail> {
-    assert_eq!(rt; told_of_comments(rt.alloc(), 0)?.as_str(), "21 at 1:1");
-    assert_eq!(rt; told_of_comments(rt.alloc(), 65_536)?.as_str(), "[]");
+fn comments_in_comments(rt: HostRuntime) -> Result<(), Fail> {
+    assert_eq!(rt; told_of_comments(rt.alloc())?.as_str(), "[]");
     Ok(())
 }

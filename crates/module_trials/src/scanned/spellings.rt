@@ -2,8 +2,8 @@
 
 use super::told;
 use crate::rows::{Table, check, prints, text_and_last};
-use lexis::{lexeme_of, symbol_of, tokens};
-use std::alloc::Global;
+use lexis::{Kind, lexeme_of, symbol_of, tokens};
+use std::alloc::{AllocError, Global};
 use std::test::Fail;
 
 // A text | the kind of its one token.
@@ -12,56 +12,59 @@ struct FirstKinds;
 impl Table for FirstKinds {
     fn holds(&self, alloc: Global, row: &str) -> Result<bool, Fail> {
         let (text, wanted) = text_and_last(row)?;
-        match tokens(alloc, text) {
-            Ok(found) => match found.first() {
-                Some(token) => prints(alloc, &token.kind, wanted),
-                None => Ok(false),
-            },
-            Err(_) => Ok(false),
-        }
+        Ok(prints(alloc, &first_kind(alloc, text), wanted)?)
+    }
+}
+
+// The kind of the first token of a text that has one.
+fn first_kind(alloc: Global, text: &str) -> Option<Kind> {
+    match tokens(alloc, text) {
+        Ok(found) => Some(found.first()?.kind),
+        Err(_) => None,
     }
 }
 
 const KINDS: &str = "\
-BOOLEAN | Reserved
-RELATIVE-OID-IRI | Reserved
-T61String | Reserved
-BOOLEANS | TypeName
-Boolean | TypeName
-RELATIVE-OIDs | TypeName
-H | TypeName
-A-1 | TypeName
-boolean | Identifier
-x-Y9-z | Identifier
-0 | Number(0)
-10 | Number(10)
-170141183460469231731687303715884105728 | Number(170141183460469231731687303715884105728)
-''B | Binary
-'01'B | Binary
-''H | Hex
-'01'H | Hex
-'0123456789ABCDEF'H | Hex
-\"\" | Chars
-\"'0'B -- /* 00\" | Chars
-| | Symbol";
+BOOLEAN | Some(Reserved)
+RELATIVE-OID-IRI | Some(Reserved)
+T61String | Some(Reserved)
+BOOLEANS | Some(TypeName)
+Boolean | Some(TypeName)
+RELATIVE-OIDs | Some(TypeName)
+H | Some(TypeName)
+A-1 | Some(TypeName)
+boolean | Some(Identifier)
+x-Y9-z | Some(Identifier)
+0 | Some(Number(0))
+10 | Some(Number(10))
+170141183460469231731687303715884105728 | Some(Number(170141183460469231731687303715884105728))
+''B | Some(Binary)
+'01'B | Some(Binary)
+''H | Some(Hex)
+'01'H | Some(Hex)
+'0123456789ABCDEF'H | Some(Hex)
+\"\" | Some(Chars)
+\"'0'B -- /* 00\" | Some(Chars)
+| | Some(Symbol)";
 
 #[test]
 fn kinds(rt: HostRuntime) -> Result<(), Fail> {
     check(rt.alloc(), &FirstKinds, KINDS)
 }
 
-// A spelling, of one token | its symbol, and whether that stands in the profile.
+// A spelling | its symbol, and whether that stands in the profile | where it begins and ends.
 struct Spellings;
 
 impl Table for Spellings {
     fn holds(&self, alloc: Global, row: &str) -> Result<bool, Fail> {
-        let (spelling, wanted) = text_and_last(row)?;
-        Ok(is_symbol(alloc, spelling, wanted)? && is_one_token(alloc, spelling)?)
+        let (columns, span) = text_and_last(row)?;
+        let (spelling, wanted) = text_and_last(columns)?;
+        Ok(is_symbol(alloc, spelling, wanted)? && told(alloc, spelling)?.as_str() == span)
     }
 }
 
 // Whether `Debug` prints the symbol that is spelled so, and whether it stands in the profile, as this text.
-fn is_symbol(alloc: Global, spelling: &str, wanted: &str) -> Result<bool, Fail> {
+fn is_symbol(alloc: Global, spelling: &str, wanted: &str) -> Result<bool, AllocError> {
     match symbol_of(spelling.as_bytes()) {
         Some(symbol) if symbol.text() == spelling => {
             prints(alloc, &(symbol, symbol.is_of_profile()), wanted)
@@ -70,35 +73,32 @@ fn is_symbol(alloc: Global, spelling: &str, wanted: &str) -> Result<bool, Fail> 
     }
 }
 
-// Whether the text is one token.
-fn is_one_token(alloc: Global, text: &str) -> Result<bool, Fail> {
-    let length = text.len();
-    let wanted = format!(in alloc; "[(0, {length})]")?;
-    Ok(told(alloc, text)? == wanted)
-}
-
 const SYMBOLS: &str = "\
-::= | (Assignment, true)
-{ | (OpenBrace, true)
-} | (CloseBrace, true)
-[ | (OpenBracket, true)
-] | (CloseBracket, true)
-( | (OpenParenthesis, true)
-) | (CloseParenthesis, true)
-, | (Comma, true)
-- | (Hyphen, true)
-... | (Ellipsis, false)
-.. | (Range, false)
-. | (FullStop, false)
-: | (Colon, false)
-; | (Semicolon, false)
-| | (VerticalBar, false)";
+::= | (Assignment, true) | [(0, 3)]
+{ | (OpenBrace, true) | [(0, 1)]
+} | (CloseBrace, true) | [(0, 1)]
+[ | (OpenBracket, true) | [(0, 1)]
+] | (CloseBracket, true) | [(0, 1)]
+( | (OpenParenthesis, true) | [(0, 1)]
+) | (CloseParenthesis, true) | [(0, 1)]
+, | (Comma, true) | [(0, 1)]
+- | (Hyphen, true) | [(0, 1)]
+... | (Ellipsis, false) | [(0, 3)]
+.. | (Range, false) | [(0, 2)]
+. | (FullStop, false) | [(0, 1)]
+: | (Colon, false) | [(0, 1)]
+; | (Semicolon, false) | [(0, 1)]
+| | (VerticalBar, false) | [(0, 1)]";
 
 #[test]
 fn symbols(rt: HostRuntime) -> Result<(), Fail> {
-    assert_eq!(rt; symbol_of(b"="), None);
-    assert_eq!(rt; symbol_of(b""), None);
     check(rt.alloc(), &Spellings, SYMBOLS)
+}
+
+#[test]
+fn no_symbols(rt: HostRuntime) {
+    assert!(rt; symbol_of(b"=").is_none());
+    assert!(rt; symbol_of(b"").is_none());
 }
 
 // A text | what its first token stands for.
@@ -107,13 +107,17 @@ struct FirstLexemes;
 impl Table for FirstLexemes {
     fn holds(&self, alloc: Global, row: &str) -> Result<bool, Fail> {
         let (text, wanted) = text_and_last(row)?;
-        match tokens(alloc, text) {
-            Ok(found) => match found.first() {
-                Some(token) => prints(alloc, &lexeme_of(text, *token), wanted),
-                None => Ok(false),
-            },
-            Err(_) => Ok(false),
-        }
+        Ok(is_first(alloc, text, wanted)?)
+    }
+}
+
+fn is_first(alloc: Global, text: &str, wanted: &str) -> Result<bool, AllocError> {
+    match tokens(alloc, text) {
+        Ok(found) => match found.first() {
+            Some(token) => prints(alloc, &lexeme_of(text, *token), wanted),
+            None => Ok(false),
+        },
+        Err(_) => Ok(false),
     }
 }
 
