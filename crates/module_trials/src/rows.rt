@@ -21,7 +21,7 @@ pub fn check<T: Table>(alloc: Global, table: &T, rows: &str) -> Result<(), Fail>
     }
     for row in rows.lines() {
         if !table.holds(alloc, row)? {
-            return Err(Fail::new(row));
+            return Err(Fail::new(format_args!("not so: {row}")));
         }
     }
     Ok(())
@@ -36,28 +36,33 @@ pub fn text_and_last(row: &str) -> Result<(&str, &str), Fail> {
 pub fn around<'a>(row: &'a str, mark: &str) -> Result<(&'a str, &'a str), Fail> {
     match row.rsplit_once(mark) {
         Some(sides) => Ok(sides),
-        None => Err(Fail::new(row)),
+        None => Err(Fail::new(format_args!("no {mark}: {row}"))),
     }
+}
+
+// A column without the blanks at its ends.
+fn bare(column: &str) -> &str {
+    column.trim_matches(' ')
 }
 
 /// The columns of a row of two.
 pub fn two(row: &str) -> Result<(&str, &str), Fail> {
     let (first, second) = text_and_last(row)?;
-    Ok((first.trim(), second.trim()))
+    Ok((bare(first), bare(second)))
 }
 
 /// The columns of a row of three.
 pub fn three(row: &str) -> Result<(&str, &str, &str), Fail> {
     let (others, third) = text_and_last(row)?;
     let (first, second) = two(others)?;
-    Ok((first, second, third.trim()))
+    Ok((first, second, bare(third)))
 }
 
 /// The columns of a row of four.
 pub fn four(row: &str) -> Result<(&str, &str, &str, &str), Fail> {
     let (others, fourth) = text_and_last(row)?;
     let (first, second, third) = three(others)?;
-    Ok((first, second, third, fourth.trim()))
+    Ok((first, second, third, bare(fourth)))
 }
 
 /// What a column has between `'`, the blanks at its ends too.

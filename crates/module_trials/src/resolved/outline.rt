@@ -68,29 +68,32 @@ fn put_name(text: &mut String, tag: &Tag, name: &str) -> Result<(), AllocError> 
 
 fn put_tag(text: &mut String, tag: &Tag) -> Result<(), AllocError> {
     let class = match tag.class {
-        Class::Universal => "U",
-        Class::Application => "A",
-        Class::Context => "",
-        Class::Private => "P",
+        Class::Universal => "[U",
+        Class::Application => "[A",
+        Class::Context => "[",
+        Class::Private => "[P",
     };
     let number = tag.number;
-    write!(text, "[{class}{number}]")
+    text.push_str(class)?;
+    write!(text, "{number}]")
 }
 
 fn put_items(text: &mut String, items: &[Item]) -> Result<(), AllocError> {
     for item in items {
-        let name = item.name.as_str();
         let number = item.number;
-        write!(text, " {name}({number})")?;
+        text.push_str(" ")?;
+        text.push_str(item.name.as_str())?;
+        write!(text, "({number})")?;
     }
     Ok(())
 }
 
 fn put_named_bits(text: &mut String, bits: &[NamedBit]) -> Result<(), AllocError> {
     for bit in bits {
-        let name = bit.name.as_str();
         let number = bit.number;
-        write!(text, " {name}({number})")?;
+        text.push_str(" ")?;
+        text.push_str(bit.name.as_str())?;
+        write!(text, "({number})")?;
     }
     Ok(())
 }

@@ -34,7 +34,7 @@ fn count_of_reserved(alloc: Global, text: &str) -> usize {
 
 fn are_reserved(tokens: &[Token]) -> bool {
     for token in tokens {
-        if token.kind != Kind::Reserved {
+        if !matches!(token.kind, Kind::Reserved) {
             return false;
         }
     }
