@@ -1,6 +1,6 @@
 //! Tests of the parser.
 
-use crate::rows::{between, placed};
+use crate::rows::{Tells, between, placed};
 use std::alloc::{AllocError, Global};
 use syntax::parse;
 
@@ -14,6 +14,15 @@ fn told(alloc: Global, text: &str) -> Result<String, AllocError> {
     match parse(alloc, text) {
         Ok(_) => String::from_str(alloc, "read"),
         Err(fault) => placed(alloc, fault),
+    }
+}
+
+/// What the parser tells.
+struct Parsed;
+
+impl Tells for Parsed {
+    fn told(&self, alloc: Global, text: &str) -> Result<String, AllocError> {
+        told(alloc, text)
     }
 }
 

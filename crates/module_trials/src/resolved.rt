@@ -1,6 +1,6 @@
 //! Tests of the types that names mean.
 
-use crate::rows::{Table, between, placed, spelled, three, two};
+use crate::rows::{Table, between, check, placed, repeated, spelled, three, two};
 use notation::{Fault, parse, resolve};
 use outline::outline;
 use std::alloc::{AllocError, Global};
@@ -96,4 +96,14 @@ impl<'a> Table for Names<'a> {
         let (name, wanted) = two(row)?;
         Ok(told(alloc, self.module, name)?.as_str() == wanted)
     }
+}
+
+// Checks what is told of a SEQUENCE T by its parts, beside assignments around that of a type with 61 tags.
+fn check_parts(alloc: Global, front: &str, behind: &str, rows: &str) -> Result<(), Fail> {
+    let behind = repeated(alloc, front, "[0]", 61, behind)?;
+    let around = Around {
+        front: "T ::= SEQUENCE { ",
+        behind: behind.as_str(),
+    };
+    check(alloc, &Whole(around), rows)
 }

@@ -99,17 +99,39 @@ pub fn between(alloc: Global, front: &str, text: &str, behind: &str) -> Result<S
     Ok(all)
 }
 
-/// The text that four columns spell: what stands in front, what is repeated, how often, and what stands behind.
-pub fn built(alloc: Global, columns: &str) -> Result<String, Fail> {
+// The text that four columns spell: what stands in front, what is repeated, how often, and what stands behind.
+fn built(alloc: Global, columns: &str) -> Result<String, Fail> {
     let (front, part, count, behind) = four(columns)?;
     let count = count.parse::<usize>()?;
     Ok(repeated(alloc, quoted(front), quoted(part), count, quoted(behind))?)
 }
 
-/// The beginnings and the ends of 65,536 comments, each in the one before.
-pub fn nested_comments(alloc: Global) -> Result<String, AllocError> {
+/// What tells something of texts.
+pub trait Tells {
+    /// What is told of a text.
+    fn told(&self, alloc: Global, text: &str) -> Result<String, AllocError>;
+}
+
+/// The four columns of a text that is built | what is told of it.
+pub struct Built<T>(pub T);
+
+impl<T: Tells> Table for Built<T> {
+    fn holds(&self, alloc: Global, row: &str) -> Result<bool, Fail> {
+        let (columns, wanted) = text_and_last(row)?;
+        let text = built(alloc, columns)?;
+        Ok(self.0.told(alloc, text.as_str())?.as_str() == wanted)
+    }
+}
+
+/// Whether this is told of 65,536 comments, each in the one before.
+pub fn is_told_of_comments<T: Tells>(
+    alloc: Global,
+    teller: &T,
+    wanted: &str,
+) -> Result<bool, AllocError> {
     let ends = repeated(alloc, "", "*/", 65_536, "")?;
-    repeated(alloc, "", "/*", 65_536, ends.as_str())
+    let text = repeated(alloc, "", "/*", 65_536, ends.as_str())?;
+    Ok(teller.told(alloc, text.as_str())?.as_str() == wanted)
 }
 
 /// Whether `Debug` prints what was found as this text.

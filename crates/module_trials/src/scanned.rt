@@ -1,6 +1,6 @@
 //! Tests of the scanner.
 
-use crate::rows::{Table, placed, spelled, text_and_last};
+use crate::rows::{Table, Tells, placed, spelled, text_and_last};
 use lexis::{Token, tokens};
 use std::alloc::{AllocError, Global};
 use std::test::Fail;
@@ -15,6 +15,15 @@ fn told(alloc: Global, text: &str) -> Result<String, AllocError> {
     match tokens(alloc, text) {
         Ok(found) => spans_of(alloc, &found),
         Err(fault) => placed(alloc, fault),
+    }
+}
+
+/// What the scanner tells.
+struct Scanned;
+
+impl Tells for Scanned {
+    fn told(&self, alloc: Global, text: &str) -> Result<String, AllocError> {
+        told(alloc, text)
     }
 }
 

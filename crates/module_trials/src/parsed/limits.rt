@@ -1,8 +1,8 @@
 //! Limits, each with its two neighbours, and hostile texts.
 
-use super::{number_of_type, told};
-use crate::rows::{Table, built, check, four, nested_comments, quoted, repeated, text_and_last};
-use std::alloc::{AllocError, Global};
+use super::{Parsed, number_of_type};
+use crate::rows::{Built, Table, check, four, is_told_of_comments, quoted, repeated};
+use std::alloc::Global;
 use std::test::Fail;
 
 // What holds a type, between `'` | how often | what it holds | the number of the fault.
@@ -35,17 +35,6 @@ fn types_nest_at_most_64_deep(rt: HostRuntime) -> Result<(), Fail> {
     check(rt.alloc(), &Levels, LEVELS)
 }
 
-// A text that is built | what is told of it.
-struct Built;
-
-impl Table for Built {
-    fn holds(&self, alloc: Global, row: &str) -> Result<bool, Fail> {
-        let (columns, wanted) = text_and_last(row)?;
-        let text = built(alloc, columns)?;
-        Ok(told(alloc, text.as_str())?.as_str() == wanted)
-    }
-}
-
 // what stands in front, and what is repeated, between `'` | how often | what stands behind | what is told of that
 const LISTS: &str = "\
 'M DEFINITIONS ::= BEGIN T ::= SEQUENCE { '   | 'a NULL, ' | 255 | z NULL } END | read
@@ -61,7 +50,7 @@ const LISTS: &str = "\
 
 #[test]
 fn lists_have_at_most_256_parts(rt: HostRuntime) -> Result<(), Fail> {
-    check(rt.alloc(), &Built, LISTS)
+    check(rt.alloc(), &Built(Parsed), LISTS)
 }
 
 // what stands in front, and what is repeated, between `'` | how often | what stands behind | what is told of that
@@ -75,16 +64,11 @@ const LONG: &str = "\
 
 #[test]
 fn hostile_texts(rt: HostRuntime) -> Result<(), Fail> {
-    check(rt.alloc(), &Built, LONG)
-}
-
-fn told_of_comments(alloc: Global) -> Result<String, AllocError> {
-    let text = nested_comments(alloc)?;
-    told(alloc, text.as_str())
+    check(rt.alloc(), &Built(Parsed), LONG)
 }
 
 #[test]
 fn comments_and_no_module(rt: HostRuntime) -> Result<(), Fail> {
-    assert_eq!(rt; told_of_comments(rt.alloc())?.as_str(), "22 at 1:262145");
+    assert!(rt; is_told_of_comments(rt.alloc(), &Parsed, "22 at 1:262145")?);
     Ok(())
 }

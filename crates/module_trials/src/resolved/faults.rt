@@ -1,7 +1,7 @@
 //! The numbers and places of faults.
 
-use super::{Around, Assignments, Names, Whole};
-use crate::rows::{check, repeated};
+use super::{Around, Assignments, Names, Whole, check_parts};
+use crate::rows::check;
 use std::test::Fail;
 
 // assignments | tag default | the fault of T, or its type
@@ -55,18 +55,12 @@ e S                     | 28 at 2:1";
 
 #[test]
 fn later_of_several(rt: HostRuntime) -> Result<(), Fail> {
-    let behind = repeated(
+    check_parts(
         rt.alloc(),
         " } I ::= [0] IMPLICIT CHOICE { a NULL } L ::= ",
-        "[0]",
-        61,
         " NULL N ::= ENUMERATED { a(1), b(1) } D ::= SEQUENCE { a NULL DEFAULT 0 } S ::= SET { a NULL, b NULL }",
-    )?;
-    let around = Around {
-        front: "T ::= SEQUENCE { ",
-        behind: behind.as_str(),
-    };
-    check(rt.alloc(), &Whole(around), PARTS)
+        PARTS,
+    )
 }
 
 // name | the fault of the empty module

@@ -1,7 +1,7 @@
 //! BIT STRING with named bits.
 
-use super::{Around, Assignments, Whole, Within};
-use crate::rows::{check, repeated};
+use super::{Around, Assignments, Whole, Within, check_parts};
+use crate::rows::check;
 use std::test::Fail;
 
 // assignments | tag default | the type of T
@@ -92,16 +92,10 @@ d D                | 30 at 2:1";
 
 #[test]
 fn which_of_several_faults(rt: HostRuntime) -> Result<(), Fail> {
-    let behind = repeated(
+    check_parts(
         rt.alloc(),
         " } R ::= BIT STRING { a(0), a(1) } L ::= ",
-        "[0]",
-        61,
         " NULL N ::= BIT STRING { a(1), b(1) } D ::= SEQUENCE { a BIT STRING { a(0) } DEFAULT a }",
-    )?;
-    let around = Around {
-        front: "T ::= SEQUENCE { ",
-        behind: behind.as_str(),
-    };
-    check(rt.alloc(), &Whole(around), PARTS)
+        PARTS,
+    )
 }

@@ -1,7 +1,7 @@
 //! Where tokens begin and end, and what stands between them.
 
-use super::{Texts, told};
-use crate::rows::{Table, built, check, nested_comments, text_and_last};
+use super::{Scanned, Texts};
+use crate::rows::{Built, check, is_told_of_comments};
 use lexis::tokens;
 use std::alloc::{AllocError, Global};
 use std::test::Fail;
@@ -77,17 +77,6 @@ fn white_space(rt: HostRuntime) -> Result<(), Fail> {
     Ok(())
 }
 
-// A text that is built | what is told of it.
-struct Built;
-
-impl Table for Built {
-    fn holds(&self, alloc: Global, row: &str) -> Result<bool, Fail> {
-        let (columns, wanted) = text_and_last(row)?;
-        let text = built(alloc, columns)?;
-        Ok(told(alloc, text.as_str())?.as_str() == wanted)
-    }
-}
-
 // what stands in front, and what is repeated, between `'` | how often | what stands behind | what is told of that
 const LONG: &str = "\
 '' | ' '  | 262144 | '' | []
@@ -97,16 +86,11 @@ const LONG: &str = "\
 
 #[test]
 fn long_texts(rt: HostRuntime) -> Result<(), Fail> {
-    check(rt.alloc(), &Built, LONG)
-}
-
-fn told_of_comments(alloc: Global) -> Result<String, AllocError> {
-    let text = nested_comments(alloc)?;
-    told(alloc, text.as_str())
+    check(rt.alloc(), &Built(Scanned), LONG)
 }
 
 #[test]
 fn comments_in_comments(rt: HostRuntime) -> Result<(), Fail> {
-    assert_eq!(rt; told_of_comments(rt.alloc())?.as_str(), "[]");
+    assert!(rt; is_told_of_comments(rt.alloc(), &Scanned, "[]")?);
     Ok(())
 }
