@@ -53,6 +53,13 @@ c N, d D, e S           | 27 at 2:1
 d D, e S                | 30 at 2:1
 e S                     | 28 at 2:1";
 
+// the same, with named bits
+const PARTS_WITH_BITS: &str = "\
+r R, l L, n N, d D | 26 at 2:1
+l L, n N, d D      | 31 at 2:1
+n N, d D           | 27 at 2:1
+d D                | 30 at 2:1";
+
 #[test]
 fn later_of_several(rt: HostRuntime) -> Result<(), Fail> {
     check_parts(
@@ -60,6 +67,12 @@ fn later_of_several(rt: HostRuntime) -> Result<(), Fail> {
         " } I ::= [0] IMPLICIT CHOICE { a NULL } L ::= ",
         " NULL N ::= ENUMERATED { a(1), b(1) } D ::= SEQUENCE { a NULL DEFAULT 0 } S ::= SET { a NULL, b NULL }",
         PARTS,
+    )?;
+    check_parts(
+        rt.alloc(),
+        " } R ::= BIT STRING { a(0), a(1) } L ::= ",
+        " NULL N ::= BIT STRING { a(1), b(1) } D ::= SEQUENCE { a BIT STRING { a(0) } DEFAULT a }",
+        PARTS_WITH_BITS,
     )
 }
 

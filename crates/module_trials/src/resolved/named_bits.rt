@@ -1,6 +1,6 @@
 //! BIT STRING with named bits.
 
-use super::{Around, Assignments, Whole, Within, check_parts};
+use super::{Around, Assignments, Whole, Within};
 use crate::rows::check;
 use std::test::Fail;
 
@@ -81,21 +81,4 @@ T ::= CHOICE { a BIT STRING { a(0) }, b BIT STRING { a(0) } } |  | 28 at 2:1";
 #[test]
 fn faults(rt: HostRuntime) -> Result<(), Fail> {
     check(rt.alloc(), &Assignments, FAULTS)
-}
-
-// parts of T, of which each has the faults of those behind it too | the fault of T
-const PARTS: &str = "\
-r R, l L, n N, d D | 26 at 2:1
-l L, n N, d D      | 31 at 2:1
-n N, d D           | 27 at 2:1
-d D                | 30 at 2:1";
-
-#[test]
-fn which_of_several_faults(rt: HostRuntime) -> Result<(), Fail> {
-    check_parts(
-        rt.alloc(),
-        " } R ::= BIT STRING { a(0), a(1) } L ::= ",
-        " NULL N ::= BIT STRING { a(1), b(1) } D ::= SEQUENCE { a BIT STRING { a(0) } DEFAULT a }",
-        PARTS,
-    )
 }
