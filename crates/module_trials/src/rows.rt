@@ -100,7 +100,7 @@ pub fn between(alloc: Global, front: &str, text: &str, behind: &str) -> Result<S
 }
 
 // The text that four columns spell: what stands in front, what is repeated, how often, and what stands behind.
-fn built(alloc: Global, columns: &str) -> Result<String, Fail> {
+fn text_of(alloc: Global, columns: &str) -> Result<String, Fail> {
     let (front, part, count, behind) = four(columns)?;
     let count = count.parse::<usize>()?;
     Ok(repeated(alloc, quoted(front), quoted(part), count, quoted(behind))?)
@@ -118,7 +118,7 @@ pub struct Built<T>(pub T);
 impl<T: Tells> Table for Built<T> {
     fn holds(&self, alloc: Global, row: &str) -> Result<bool, Fail> {
         let (columns, wanted) = text_and_last(row)?;
-        let text = built(alloc, columns)?;
+        let text = text_of(alloc, columns)?;
         Ok(self.0.told(alloc, text.as_str())?.as_str() == wanted)
     }
 }
