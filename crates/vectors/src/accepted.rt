@@ -11,24 +11,31 @@ use std::test::Fail;
 
 /// Checks what octets become under DER and CER, and that these octets are taken and no fewer.
 pub fn check_accepted(alloc: Global, row: &Row) -> Result<(), Fail> {
-    let octets = row.octets.as_slice();
-    let read = read_by(alloc, Rule::Ber, row.ty, octets);
-    check_pieces(alloc, row, octets, &read)?;
-    match read {
-        Ok((value, used)) => {
-            expect(used == octets.len(), "not all octets taken", row)?;
-            check_written(alloc, row, Canonical::Der, &row.der, &value)?;
-            check_written(alloc, row, Canonical::Cer, &row.cer, &value)?;
-            streamed::check_listed_twice(alloc, row, &value)?;
-        }
-        Err(refusal) => refused(refusal, "no value", row)?,
-    }
+    check_read(alloc, row)?;
     if row.is_long() {
         return Ok(());
     }
     check_crossed(alloc, row)?;
-    check_fronts(alloc, row, octets)?;
+    check_fronts(alloc, row, row.octets.as_slice())?;
     check_ends(alloc, row)
+}
+
+// Checks what is read, in pieces as well.
+fn check_read(alloc: Global, row: &Row) -> Result<(), Fail> {
+    let octets = row.octets.as_slice();
+    let read = read_by(alloc, Rule::Ber, row.ty, octets);
+    check_pieces(alloc, row, octets, &read)?;
+    match read {
+        Ok((value, used)) => check_value(alloc, row, &value, used),
+        Err(refusal) => refused(refusal, "no value", row),
+    }
+}
+
+fn check_value(alloc: Global, row: &Row, value: &Value, used: usize) -> Result<(), Fail> {
+    expect(used == row.octets.len(), "not all octets taken", row)?;
+    check_written(alloc, row, Canonical::Der, &row.der, value)?;
+    check_written(alloc, row, Canonical::Cer, &row.cer, value)?;
+    streamed::check_listed_twice(alloc, row, value)
 }
 
 // Checks what a value becomes under a rule.
@@ -90,16 +97,28 @@ fn rule_of(to: Canonical) -> Rule {
 
 // Checks that the octets become what is written, which becomes itself.
 fn check_conversion(alloc: Global, row: &Row, to: Canonical, written: &[u8]) -> Result<(), Fail> {
-    let octets = convert_by(alloc, (Rule::Ber, to), row.ty, row.octets.as_slice())?;
-    expect(octets.as_slice() == written, "converted from BER", row)?;
+    let octets = row.octets.as_slice();
+    let found = becomes(alloc, row, (Rule::Ber, to), octets, written)?;
+    expect(found, "converted from BER", row)?;
     if row.is_long() {
         return Ok(());
     }
-    for from in [Rule::Ber, rule_of(to)] {
-        let again = convert_by(alloc, (from, to), row.ty, written)?;
-        expect(again.as_slice() == written, "converted to itself", row)?;
-    }
-    Ok(())
+    let found = becomes(alloc, row, (Rule::Ber, to), written, written)?;
+    expect(found, "converted to itself from BER", row)?;
+    let found = becomes(alloc, row, (rule_of(to), to), written, written)?;
+    expect(found, "converted to itself", row)
+}
+
+// Whether octets become these others.
+fn becomes(
+    alloc: Global,
+    row: &Row,
+    rules: (Rule, Canonical),
+    octets: &[u8],
+    others: &[u8],
+) -> Result<bool, Fail> {
+    let found = convert_by(alloc, rules, row.ty, octets)?;
+    Ok(found.as_slice() == others)
 }
 
 // Checks that the strict reader of a rule takes what is written, and neither its fronts nor other octets.
@@ -158,10 +177,14 @@ fn check_crossed(alloc: Global, row: &Row) -> Result<(), Fail> {
     let octets = row.octets.as_slice();
     let der = convert_by(alloc, (Rule::Ber, Canonical::Der), row.ty, octets)?;
     let cer = convert_by(alloc, (Rule::Ber, Canonical::Cer), row.ty, octets)?;
-    let der_of_cer = convert_by(alloc, (Rule::Cer, Canonical::Der), row.ty, cer.as_slice())?;
-    expect(der_of_cer.as_slice() == der.as_slice(), "CER to DER", row)?;
-    let cer_of_der = convert_by(alloc, (Rule::Der, Canonical::Cer), row.ty, der.as_slice())?;
-    expect(cer_of_der.as_slice() == cer.as_slice(), "DER to CER", row)
+    check_across(alloc, row, der.as_slice(), cer.as_slice())
+}
+
+fn check_across(alloc: Global, row: &Row, der: &[u8], cer: &[u8]) -> Result<(), Fail> {
+    let found = becomes(alloc, row, (Rule::Cer, Canonical::Der), cer, der)?;
+    expect(found, "CER to DER", row)?;
+    let found = becomes(alloc, row, (Rule::Der, Canonical::Cer), der, cer)?;
+    expect(found, "DER to CER", row)
 }
 
 // Checks that no octet of an encoding can be done without.
@@ -197,11 +220,15 @@ fn check_ends(alloc: Global, row: &Row) -> Result<(), Fail> {
 }
 
 fn check_end(alloc: Global, row: &Row, more: &[u8]) -> Result<(), Fail> {
-    match read_by(alloc, Rule::Ber, row.ty, more) {
-        Ok((_, used)) => expect(used == row.octets.len(), "before an octet", row)?,
-        Err(refusal) => refused(refusal, "before an octet", row)?,
-    }
+    check_before(alloc, row, more)?;
     let answer = convert_by(alloc, (Rule::Ber, Canonical::Der), row.ty, more);
     expect_number(number_of(answer), 2, "with an octet left over", row)?;
     check_end_fed(alloc, row, more)
+}
+
+fn check_before(alloc: Global, row: &Row, more: &[u8]) -> Result<(), Fail> {
+    match read_by(alloc, Rule::Ber, row.ty, more) {
+        Ok((_, used)) => expect(used == row.octets.len(), "before an octet", row),
+        Err(refusal) => refused(refusal, "before an octet", row),
+    }
 }

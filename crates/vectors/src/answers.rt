@@ -15,8 +15,8 @@ use std::io::Read;
 use std::test::Fail;
 use strict::{read_cer, read_der};
 
-// What a reader of a front answers: a value and how many octets it has.
-type ReadFront = Result<(Value, usize), Refusal>;
+/// What a reader of a front answers: a value and how many octets it has.
+pub type ReadFront = Result<(Value, usize), Refusal>;
 
 /// What the reader of a rule answers.
 pub fn read_by(alloc: Global, rule: Rule, ty: &WellTyped, octets: &[u8]) -> ReadFront {
@@ -153,50 +153,59 @@ pub fn number_of<T: Drop>(answer: Result<T, Refusal>) -> Option<u8> {
     }
 }
 
-/// What a reader of pieces answers to two pieces: none where no value is begun.
-pub fn fed_in_two(
-    alloc: Global,
-    ty: &WellTyped,
-    (first, second): (&[u8], &[u8]),
-) -> Result<Option<(Value, usize)>, Refusal> {
+/// What a reader of pieces answers to all of them: none where no value is begun.
+pub type Fed = Result<Option<(Value, usize)>, Refusal>;
+
+/// What it answers to two pieces.
+pub fn fed_in_two(alloc: Global, ty: &WellTyped, pieces: (&[u8], &[u8])) -> Fed {
     let mut reader = Reader::new(alloc, ty);
-    if let Some(done) = feed(&mut reader, first, 0)? {
-        return Ok(Some(done));
-    }
-    if let Some(done) = feed(&mut reader, second, first.len())? {
-        return Ok(Some(done));
-    }
-    reader.finish()?;
-    Ok(None)
+    let fed = feed_two(&mut reader, pieces);
+    ended(fed, reader.finish())
 }
 
 /// What it answers to octets that come in pieces of this size.
-pub fn fed_by(
-    alloc: Global,
-    ty: &WellTyped,
-    octets: &[u8],
-    size: usize,
-) -> Result<Option<(Value, usize)>, Refusal>
+pub fn fed_by(alloc: Global, ty: &WellTyped, octets: &[u8], size: usize) -> Fed
     requires { 1 ≤ size }
 {
     let mut reader = Reader::new(alloc, ty);
+    let fed = feed_by(&mut reader, octets, size);
+    ended(fed, reader.finish())
+}
+
+// What is answered where the pieces end: without a value, whether none is begun.
+fn ended(fed: Fed, finished: Result<(), Refusal>) -> Fed {
+    match fed {
+        Ok(None) => {
+            finished?;
+            Ok(None)
+        }
+        Ok(Some(done)) => Ok(Some(done)),
+        Err(refusal) => Err(refusal),
+    }
+}
+
+fn feed_two(reader: &mut Reader, (first, second): (&[u8], &[u8])) -> Fed {
+    match feed(reader, first, 0)? {
+        Some(done) => Ok(Some(done)),
+        None => feed(reader, second, first.len()),
+    }
+}
+
+fn feed_by(reader: &mut Reader, octets: &[u8], size: usize) -> Fed
+    requires { 1 ≤ size }
+{
     let mut taken = 0usize;
     for piece in octets.chunks(size) {
-        if let Some(done) = feed(&mut reader, piece, taken)? {
+        if let Some(done) = feed(reader, piece, taken)? {
             return Ok(Some(done));
         }
         taken = taken.saturating_add(piece.len());
     }
-    reader.finish()?;
     Ok(None)
 }
 
 // What it answers to one more piece: a value and how many octets it has with those that were taken before.
-fn feed(
-    reader: &mut Reader,
-    piece: &[u8],
-    taken: usize,
-) -> Result<Option<(Value, usize)>, Refusal> {
+fn feed(reader: &mut Reader, piece: &[u8], taken: usize) -> Fed {
     match reader.feed(piece)? {
         Step::More => Ok(None),
         Step::Done { value, used } => Ok(Some((value, taken.saturating_add(used)))),

@@ -1,48 +1,61 @@
 //! Which arcs are values of OBJECT IDENTIFIER and RELATIVE-OID (X.690 8.19 and 8.20).
 
-use crate::types_by_name::type_of;
-use convert::{Value, conforms};
+use crate::tables::{Table, check, is_yes, three};
+use convert::{Ty, Value, WellTyped, conforms};
 use std::alloc::Global;
 use std::test::Fail;
 
-// Whether arcs are a value of an OBJECT IDENTIFIER, and whether of a RELATIVE-OID.
-fn conform(alloc: Global, arcs: &[u128]) -> Result<(bool, bool), Fail> {
-    let value = Value::Oid(Vec::from_slice(alloc, arcs)?);
-    let absolute = conforms(type_of(alloc, "OBJECT IDENTIFIER")?.as_type(), &value);
-    let value = Value::RelativeOid(Vec::from_slice(alloc, arcs)?);
-    let relative = conforms(type_of(alloc, "RELATIVE-OID")?.as_type(), &value);
-    Ok((absolute, relative))
+// arcs, with points between them | whether of an OBJECT IDENTIFIER | whether of a RELATIVE-OID
+const ARCS: &str = "\
+1.39    | yes | yes
+1.40    | no  | yes
+0.0     | yes | yes
+2.40    | yes | yes
+2.999.3 | yes | yes
+3.0     | no  | yes
+2       | no  | yes
+        | no  | no
+# the most that 128 bits hold, and 80 less
+2.340282366920938463463374607431768211375 | yes | yes
+2.340282366920938463463374607431768211376 | no  | yes
+1.2.340282366920938463463374607431768211455 | yes | yes
+340282366920938463463374607431768211455 | no  | yes
+# the most arcs
+1 x128  | yes | yes
+1 x129  | yes | no
+1 x130  | no  | no
+";
+
+struct Arcs;
+
+impl Table for Arcs {
+    fn holds(alloc: Global, _ty: &WellTyped, row: &str) -> Result<bool, Fail> {
+        let (arcs, absolute, relative) = three(row)?;
+        let value = Value::Oid(arcs_of(alloc, arcs)?);
+        let is_absolute = conforms(&Ty::oid(), &value);
+        let value = Value::RelativeOid(arcs_of(alloc, arcs)?);
+        let is_relative = conforms(&Ty::relative_oid(), &value);
+        Ok(is_absolute == is_yes(absolute)? && is_relative == is_yes(relative)?)
+    }
+}
+
+// The arcs of a column. One that ends with `x` and a number stands there as many times.
+fn arcs_of(alloc: Global, column: &str) -> Result<Vec<u128>, Fail> {
+    let mut arcs = Vec::new(alloc);
+    if column.is_empty() {
+        return Ok(arcs);
+    }
+    for word in column.split('.') {
+        let (arc, times) = word.split_once(" x").unwrap_or((word, "1"));
+        let arc = arc.parse::<u128>()?;
+        for _ in 0..times.parse::<usize>()? {
+            arcs.push(arc)?;
+        }
+    }
+    Ok(arcs)
 }
 
 #[test]
 fn arcs(rt: HostRuntime) -> Result<(), Fail> {
-    let most = u128::MAX;
-    // (arcs, of an OBJECT IDENTIFIER and of a RELATIVE-OID)
-    let cases: [(&[u128], (bool, bool)); 12] = [
-        (&[1, 39], (true, true)),
-        (&[1, 40], (false, true)),
-        (&[0, 0], (true, true)),
-        (&[2, 40], (true, true)),
-        (&[2, 999, 3], (true, true)),
-        (&[3, 0], (false, true)),
-        (&[2], (false, true)),
-        (&[], (false, false)),
-        (&[2, most - 80], (true, true)),
-        (&[2, most - 79], (false, true)),
-        (&[1, 2, most], (true, true)),
-        (&[most], (false, true)),
-    ];
-    for (arcs, want) in cases {
-        assert_eq!(rt; conform(rt.alloc(), arcs)?, want, "at {arcs:?}");
-    }
-    Ok(())
-}
-
-#[test]
-fn most_arcs(rt: HostRuntime) -> Result<(), Fail> {
-    let arcs = [1u128; 130];
-    assert_eq!(rt; conform(rt.alloc(), &arcs[..128])?, (true, true));
-    assert_eq!(rt; conform(rt.alloc(), &arcs[..129])?, (true, false));
-    assert_eq!(rt; conform(rt.alloc(), &arcs)?, (false, false));
-    Ok(())
+    check::<Arcs>(rt.alloc(), ARCS)
 }

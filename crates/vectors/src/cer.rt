@@ -5,6 +5,7 @@ use crate::checks::check_table;
 use crate::rows::octets_of;
 use crate::types_by_name::type_of;
 use convert::{Canonical, Rule, transcode};
+use std::alloc::Global;
 use std::test::Fail;
 
 // octets | under DER | under CER | text
@@ -98,18 +99,18 @@ fn strings_in_segments(rt: HostRuntime) -> Result<(), Fail> {
     check_table(rt.alloc(), ALREADY_CUT)
 }
 
+// How many octets CER makes of an OCTET STRING.
+fn cer_length(alloc: Global, octets: &str) -> Result<usize, Fail> {
+    let ty = type_of(alloc, "OCTET STRING")?;
+    let octets = octets_of(alloc, octets)?;
+    let written = transcode(alloc, &ty, Rule::Ber, Canonical::Cer, octets.as_slice())?;
+    Ok(written.len())
+}
+
 #[test]
 fn longest_octet_string(rt: HostRuntime) -> Result<(), Fail> {
-    let ty = type_of(rt.alloc(), "OCTET STRING")?;
     // 1,044 full segments of 1,004 octets, and 396 octets for the last.
-    let octets = octets_of(rt.alloc(), "04 83 0F EF A8, 41 x1044392")?;
-    let written = transcode(
-        rt.alloc(),
-        &ty,
-        Rule::Ber,
-        Canonical::Cer,
-        octets.as_slice(),
-    )?;
-    assert_eq!(rt; written.len(), 1_048_576);
+    let length = cer_length(rt.alloc(), "04 83 0F EF A8, 41 x1044392")?;
+    assert_eq!(rt; length, 1_048_576);
     check_table(rt.alloc(), LONGEST)
 }

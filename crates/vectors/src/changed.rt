@@ -34,14 +34,24 @@ fn check_changed_at(alloc: Global, row: &Row, octets: &[u8], place: usize) -> Re
     requires { place < length octets.now }
 {
     for other in OTHERS {
-        let changed = spliced(alloc, octets, place, &[other])?;
-        check_plainly(alloc, row, changed.as_slice())?;
+        check_spliced(alloc, row, octets, place, &[other])?;
     }
-    let left_out = spliced(alloc, octets, place, &[])?;
-    check_plainly(alloc, row, left_out.as_slice())?;
-    let doubled = spliced(alloc, octets, place, &[octets[place], octets[place]])?;
-    check_plainly(alloc, row, doubled.as_slice())?;
+    check_spliced(alloc, row, octets, place, &[])?;
+    check_spliced(alloc, row, octets, place, &[octets[place], octets[place]])?;
     check_plainly(alloc, row, &octets[..place])
+}
+
+fn check_spliced(
+    alloc: Global,
+    row: &Row,
+    octets: &[u8],
+    place: usize,
+    others: &[u8],
+) -> Result<(), Fail>
+    requires { place < length octets.now }
+{
+    let changed = spliced(alloc, octets, place, others)?;
+    check_plainly(alloc, row, changed.as_slice())
 }
 
 // The octets, with these in place of the one at the place.
@@ -86,12 +96,24 @@ fn is_an_end_begun(plain: Refusal, strict: Option<u8>) -> bool {
 // The value, where its encoding by the rule is the octets that BER reads it from.
 fn read_plainly(alloc: Global, to: Canonical, row: &Row, octets: &[u8]) -> Read {
     let (value, used) = read_by(alloc, Rule::Ber, row.ty, octets)?;
-    match write_by(alloc, to, row.ty, &value) {
-        Ok(written) if written.len() == used && octets.starts_with(written.as_slice()) => {
-            Ok((value, used))
-        }
-        Ok(_) => Err(Refusal::NotCanonical),
-        Err(Refusal::OutputTooLong) => Err(Refusal::NotCanonical),
+    match is_written(alloc, to, row, &value, (octets, used)) {
+        Ok(true) => Ok((value, used)),
+        Ok(false) => Err(Refusal::NotCanonical),
+        Err(refusal) => Err(refusal),
+    }
+}
+
+// Whether a value's encoding by the rule is so many octets, the first of these.
+fn is_written(
+    alloc: Global,
+    to: Canonical,
+    row: &Row,
+    value: &Value,
+    (octets, used): (&[u8], usize),
+) -> Result<bool, Refusal> {
+    match write_by(alloc, to, row.ty, value) {
+        Ok(written) => Ok(written.len() == used && octets.starts_with(written.as_slice())),
+        Err(Refusal::OutputTooLong) => Ok(false),
         Err(refusal) => Err(refusal),
     }
 }

@@ -6,7 +6,7 @@ use crate::changed::check_changed;
 use crate::pieces::check_pieces;
 use crate::rows::{Becomes, Row, row_of};
 use crate::streamed::{check_one_number, check_stopped};
-use crate::types_by_name::type_of;
+use crate::tables::{Table, check};
 use convert::{Canonical, Refusal, Rule, WellTyped};
 use std::alloc::Global;
 use std::test::Fail;
@@ -16,22 +16,21 @@ pub const RULES: [Rule; 3] = [Rule::Ber, Rule::Cer, Rule::Der];
 
 /// Checks what the rows of a table become.
 pub fn check_table(alloc: Global, table: &str) -> Result<(), Fail> {
-    let mut ty = type_of(alloc, "NULL")?;
-    for line in table.lines() {
-        if let Some(name) = line.strip_suffix(':') {
-            ty = type_of(alloc, name)?;
-        }
-        check_line(alloc, &ty, line)?;
-    }
-    Ok(())
+    check::<Encodings>(alloc, table)
 }
 
-/// Checks a line, where it is a row of a table of this type.
-pub fn check_line(alloc: Global, ty: &WellTyped, line: &str) -> Result<(), Fail> {
-    match row_of(alloc, ty, line)? {
-        Some(row) => check_row(alloc, &row),
-        None => Ok(()),
+struct Encodings;
+
+impl Table for Encodings {
+    fn holds(alloc: Global, ty: &WellTyped, line: &str) -> Result<bool, Fail> {
+        check_line(alloc, ty, line)?;
+        Ok(true)
     }
+}
+
+/// Checks a line that is a row of a table of this type.
+pub fn check_line(alloc: Global, ty: &WellTyped, line: &str) -> Result<(), Fail> {
+    check_row(alloc, &row_of(alloc, ty, line)?)
 }
 
 fn check_row(alloc: Global, row: &Row) -> Result<(), Fail> {
@@ -81,10 +80,7 @@ pub fn expect_strict(found: Option<u8>, want: u8, what: &str, row: &Row) -> Resu
 
 // Checks that all readers refuse octets.
 fn check_refused(alloc: Global, row: &Row, number: u8) -> Result<(), Fail> {
-    let octets = row.octets.as_slice();
-    let read = read_by(alloc, Rule::Ber, row.ty, octets);
-    check_pieces(alloc, row, octets, &read)?;
-    expect_number(number_of(read), number, "read by BER", row)?;
+    check_read_refused(alloc, row, number)?;
     check_stopped(alloc, row, number)?;
     for rule in [Rule::Cer, Rule::Der] {
         check_one_number(alloc, row, rule, number)?;
@@ -96,6 +92,14 @@ fn check_refused(alloc: Global, row: &Row, number: u8) -> Result<(), Fail> {
         check_not_taken(alloc, row, rule, number)?;
     }
     Ok(())
+}
+
+// Checks that BER refuses octets, in pieces as well.
+fn check_read_refused(alloc: Global, row: &Row, number: u8) -> Result<(), Fail> {
+    let octets = row.octets.as_slice();
+    let read = read_by(alloc, Rule::Ber, row.ty, octets);
+    check_pieces(alloc, row, octets, &read)?;
+    expect_number(number_of(read), number, "read by BER", row)
 }
 
 // Checks that octets are refused by a rule.
@@ -126,14 +130,19 @@ pub fn expect_by(
 // Checks that a value ends before the octets do.
 fn check_left_over(alloc: Global, row: &Row) -> Result<(), Fail> {
     let octets = row.octets.as_slice();
+    check_first(alloc, row, octets)?;
+    let answer = convert_by(alloc, (Rule::Ber, Canonical::Der), row.ty, octets);
+    expect_number(number_of(answer), 2, "converted", row)
+}
+
+// Checks that octets begin with a value, and do not end with it.
+fn check_first(alloc: Global, row: &Row, octets: &[u8]) -> Result<(), Fail> {
     let read = read_by(alloc, Rule::Ber, row.ty, octets);
     check_pieces(alloc, row, octets, &read)?;
     match read {
-        Ok((_, used)) => expect(used < octets.len(), "nothing left over", row)?,
-        Err(refusal) => refused(refusal, "no value", row)?,
+        Ok((_, used)) => expect(used < octets.len(), "nothing left over", row),
+        Err(refusal) => refused(refusal, "no value", row),
     }
-    let answer = convert_by(alloc, (Rule::Ber, Canonical::Der), row.ty, octets);
-    expect_number(number_of(answer), 2, "converted", row)
 }
 
 /// How messages name a rule.

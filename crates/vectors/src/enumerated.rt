@@ -1,7 +1,8 @@
 //! ENUMERATED (X.690 8.4), whose contents octets are those of an item's number.
 
 use crate::checks::check_table;
-use convert::{Item, Name, Tag, Ty, TypeFault, Value, WellTyped, conforms};
+use crate::tables::{Table, check, has_fault, is_yes, numbers_of, two};
+use convert::{Item, Ty, Value, WellTyped, conforms};
 use std::alloc::Global;
 use std::test::Fail;
 
@@ -27,15 +28,62 @@ M DEFINITIONS ::= BEGIN T ::= ENUMERATED { a(1), b, c(0), d } END:
 0A 01 04                 | refused 6
 ";
 
-// An ENUMERATED whose items, all named `i`, have these numbers.
-fn enumerated(alloc: Global, numbers: &[i128]) -> Result<Ty, Fail> {
+// An ENUMERATED whose items, all named `i`, have the numbers of a column.
+fn enumerated(alloc: Global, numbers: &str) -> Result<Ty, Fail> {
     let mut items = Vec::new(alloc);
-    for number in numbers {
-        let name = Name::new(alloc, "i")?;
-        let number = *number;
-        items.push(Item { name, number })?;
+    for number in numbers_of(alloc, numbers)? {
+        items.push(Item::new(alloc, "i", i128::from(number))?)?;
     }
-    Ok(Ty::Enumerated(Tag::universal(10), items))
+    Ok(Ty::enumerated(items))
+}
+
+// numbers of the items | fault
+const ITEMS: &str = "\
+0      | none
+2 1 0  | none
+1 2 1  | RepeatedNumber
+1 1    | RepeatedNumber
+       | TooLarge
+0..256 | none
+0..257 | TooLarge
+";
+
+struct Items;
+
+impl Table for Items {
+    fn holds(alloc: Global, _ty: &WellTyped, row: &str) -> Result<bool, Fail> {
+        let (numbers, fault) = two(row)?;
+        has_fault(alloc, enumerated(alloc, numbers)?, fault)
+    }
+}
+
+// values | whether they are of the type whose items are 1 and 3
+const VALUES: &str = "\
+ENUMERATED 1 | yes
+ENUMERATED 3 | yes
+ENUMERATED 0 | no
+ENUMERATED 2 | no
+INTEGER 3    | no
+";
+
+struct Values;
+
+impl Table for Values {
+    fn holds(alloc: Global, _ty: &WellTyped, row: &str) -> Result<bool, Fail> {
+        let (value, want) = two(row)?;
+        let ty = enumerated(alloc, "1 3")?;
+        Ok(conforms(&ty, &value_of(value)?) == is_yes(want)?)
+    }
+}
+
+fn value_of(column: &str) -> Result<Value, Fail> {
+    let (name, number) = column.split_once(' ').ok_or("no number")?;
+    let number = number.parse::<i128>()?;
+    match name {
+        "ENUMERATED" => Ok(Value::Enumerated(number)),
+        "INTEGER" => Ok(Value::Integer(number)),
+        _ => Err("another type".into()),
+    }
 }
 
 #[test]
@@ -45,48 +93,10 @@ fn encodings(rt: HostRuntime) -> Result<(), Fail> {
 
 #[test]
 fn items(rt: HostRuntime) -> Result<(), Fail> {
-    // (numbers of the items, fault)
-    let cases: [(&[i128], Option<TypeFault>); 5] = [
-        (&[0], None),
-        (&[2, 1, 0], None),
-        (&[1, 2, 1], Some(TypeFault::RepeatedNumber)),
-        (&[1, 1], Some(TypeFault::RepeatedNumber)),
-        (&[], Some(TypeFault::TooLarge)),
-    ];
-    for (numbers, fault) in cases {
-        let ty = WellTyped::new(enumerated(rt.alloc(), numbers)?);
-        assert_eq!(rt; ty.err(), fault, "at {numbers:?}");
-    }
-    Ok(())
-}
-
-#[test]
-fn most_items(rt: HostRuntime) -> Result<(), Fail> {
-    let mut numbers = Vec::new(rt.alloc());
-    for number in 0..256u32 {
-        numbers.push(i128::from(number))?;
-    }
-    let ty = WellTyped::new(enumerated(rt.alloc(), numbers.as_slice())?);
-    assert_eq!(rt; ty.err(), None);
-    numbers.push(256)?;
-    let ty = WellTyped::new(enumerated(rt.alloc(), numbers.as_slice())?);
-    assert_eq!(rt; ty.err(), Some(TypeFault::TooLarge));
-    Ok(())
+    check::<Items>(rt.alloc(), ITEMS)
 }
 
 #[test]
 fn values(rt: HostRuntime) -> Result<(), Fail> {
-    let ty = enumerated(rt.alloc(), &[1, 3])?;
-    // (value, whether it conforms)
-    let cases = [
-        (Value::Enumerated(1), true),
-        (Value::Enumerated(3), true),
-        (Value::Enumerated(0), false),
-        (Value::Enumerated(2), false),
-        (Value::Integer(3), false),
-    ];
-    for (value, want) in cases {
-        assert_eq!(rt; conforms(&ty, &value), want, "at {value:?}");
-    }
-    Ok(())
+    check::<Values>(rt.alloc(), VALUES)
 }

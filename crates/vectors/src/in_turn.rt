@@ -2,13 +2,14 @@
 //! in it.
 
 use crate::answers::{Streamed, convert_stream, list_stream};
-use crate::rows::{Becomes, row_of};
+use crate::rows::{Becomes, Row, row_of};
+use crate::tables::is_no_row;
 use crate::types_by_name::type_of;
 use convert::{Canonical, Rule, WellTyped};
 use std::alloc::Global;
 use std::test::Fail;
 
-// octets | under DER | under CER | text; the rows below a type are one stream
+// octets | under DER | under CER | text; the rows below a type are one stream, and an empty line ends it
 const RECORDS: &str = "
 AUTOMATIC TAGS SEQUENCE { a INTEGER OPTIONAL, b OCTET STRING, c OCTET STRING DEFAULT '4142'H, d CHOICE { e BOOLEAN, f UTF8String, g SEQUENCE { h INTEGER, i IA5String OPTIONAL } }, j SEQUENCE OF OCTET STRING OPTIONAL }:
 30 18 80 01 05 81 03 41 42 43 A3 05 81 03 78 79 7A A4 07 04 01 01 04 02 02 03 | kept | 30 80 80 01 05 81 03 41 42 43 A3 80 81 03 78 79 7A 00 00 A4 80 04 01 01 04 02 02 03 00 00 00 00 | { a 5, b '414243'H, d f : \"xyz\", j { '01'H, '0203'H } }
@@ -19,10 +20,12 @@ AUTOMATIC TAGS SEQUENCE { a INTEGER OPTIONAL, b OCTET STRING, c OCTET STRING DEF
 30 80 80 01 05 A1 80 04 02 41 42 04 01 43 00 00 82 02 41 42 A3 80 81 03 78 79 7A 00 00 A4 80 04 01 01 04 02 02 03 00 00 00 00 | 30 18 80 01 05 81 03 41 42 43 A3 05 81 03 78 79 7A A4 07 04 01 01 04 02 02 03 | 30 80 80 01 05 81 03 41 42 43 A3 80 81 03 78 79 7A 00 00 A4 80 04 01 01 04 02 02 03 00 00 00 00 | { a 5, b '414243'H, d f : \"xyz\", j { '01'H, '0203'H } }
 30 0E 80 01 FF 81 00 A3 05 A2 03 80 01 08 A4 00 | kept | 30 80 80 01 FF 81 00 A3 80 A2 80 80 01 08 00 00 00 00 A4 80 00 00 00 00 | { a -1, b ''H, d g : { h 8 }, j { } }
 30 0B 81 01 44 82 01 FF A3 03 80 01 FF | kept | 30 80 81 01 44 82 01 FF A3 80 80 01 FF 00 00 00 00 | { b '44'H, c 'FF'H, d e : TRUE }
+
 SET { a [0] OCTET STRING, b [1] BOOLEAN OPTIONAL }:
 31 08 81 01 01 80 03 41 42 43  | 31 08 80 03 41 42 43 81 01 FF | 31 80 80 03 41 42 43 81 01 FF 00 00 | { a '414243'H, b TRUE }
 31 02 80 00                    | kept | 31 80 80 00 00 00       | { a ''H }
 31 03 80 01 44                 | kept | 31 80 80 01 44 00 00    | { a '44'H }
+
 SEQUENCE OF SEQUENCE { a BOOLEAN OPTIONAL, b OCTET STRING OPTIONAL }:
 30 0C 30 03 01 01 FF 30 05 04 03 41 42 43 | kept | 30 80 30 80 01 01 FF 00 00 30 80 04 03 41 42 43 00 00 00 00 | { { a TRUE }, { b '414243'H } }
 30 05 30 03 04 01 44           | kept | 30 80 30 80 04 01 44 00 00 00 00 | { { b '44'H } }
@@ -40,14 +43,17 @@ CHOICE { a UTF8String, b OCTET STRING, c SEQUENCE { d NULL OPTIONAL, e IA5String
 0C 01 64                       | kept | kept                    | a : \"d\"
 30 04 16 02 79 7A              | kept | 30 80 16 02 79 7A 00 00 | c : { e \"yz\" }
 04 00                          | kept | kept                    | b : ''H
+
 UTF8String:
 0C 03 61 62 63                 | kept | kept                    | \"abc\"
 0C 01 64                       | kept | kept                    | \"d\"
 0C 02 65 66                    | kept | kept                    | \"ef\"
+
 GeneralizedTime:
 18 11, '20240101000000.5Z'     | kept | kept                    | \"20240101000000.5Z\"
 18 0F, '20240229120000Z'       | kept | kept                    | \"20240229120000Z\"
 18 12, '20240101000000.25Z'    | kept | kept                    | \"20240101000000.25Z\"
+
 INTEGER:
 02 12 01, 00 x17               | kept | kept                    | '010000000000000000000000000000000000'H
 02 01 05                       | kept | kept                    | 5
@@ -78,16 +84,10 @@ impl Stream {
     }
 
     // Adds the value of a row.
-    fn add(&mut self, alloc: Global, ty: &WellTyped, line: &str) -> Result<(), Fail> {
-        let Some(row) = row_of(alloc, ty, line)? else {
-            return Ok(());
-        };
-        let (Becomes::Octets(der), Becomes::Octets(cer)) = (&row.der, &row.cer) else {
-            return Err(Fail::new(format_args!("no octets at {line}")));
-        };
+    fn add(&mut self, row: &Row) -> Result<(), Fail> {
         self.octets.extend_from_slice(row.octets.as_slice())?;
-        self.der.extend_from_slice(der.as_slice())?;
-        self.cer.extend_from_slice(cer.as_slice())?;
+        self.der.extend_from_slice(octets_in(&row.der)?)?;
+        self.cer.extend_from_slice(octets_in(&row.cer)?)?;
         self.lines.extend_from_slice(row.text.as_bytes())?;
         self.lines.push(b'\n')?;
         self.count = self.count.saturating_add(1);
@@ -96,19 +96,23 @@ impl Stream {
 
     // Checks what becomes of the stream, from each rule.
     fn check(&self, alloc: Global, ty: &WellTyped) -> Result<(), Fail> {
-        let froms = [
-            (Rule::Ber, self.octets.as_slice()),
-            (Rule::Cer, self.cer.as_slice()),
-            (Rule::Der, self.der.as_slice()),
-        ];
-        for (from, octets) in froms {
-            let der = convert_stream(alloc, (from, Canonical::Der), ty, octets);
-            self.expect(&der, self.der.as_slice(), "DER")?;
-            let cer = convert_stream(alloc, (from, Canonical::Cer), ty, octets);
-            self.expect(&cer, self.cer.as_slice(), "CER")?;
-        }
+        self.check_from(alloc, ty, (Rule::Ber, self.octets.as_slice()))?;
+        self.check_from(alloc, ty, (Rule::Cer, self.cer.as_slice()))?;
+        self.check_from(alloc, ty, (Rule::Der, self.der.as_slice()))?;
         let listed = list_stream(alloc, ty, self.octets.as_slice());
         self.expect(&listed, self.lines.as_slice(), "lines")
+    }
+
+    fn check_from(
+        &self,
+        alloc: Global,
+        ty: &WellTyped,
+        (from, octets): (Rule, &[u8]),
+    ) -> Result<(), Fail> {
+        let der = convert_stream(alloc, (from, Canonical::Der), ty, octets);
+        self.expect(&der, self.der.as_slice(), "DER")?;
+        let cer = convert_stream(alloc, (from, Canonical::Cer), ty, octets);
+        self.expect(&cer, self.cer.as_slice(), "CER")
     }
 
     // Fails where another thing was written, or fewer values were done.
@@ -121,19 +125,34 @@ impl Stream {
     }
 }
 
+fn octets_in(becomes: &Becomes) -> Result<&[u8], Fail> {
+    match becomes {
+        Becomes::Octets(octets) => Ok(octets.as_slice()),
+        Becomes::Refused(_) => Err("no octets".into()),
+        Becomes::LeftOver => Err("no octets".into()),
+        Becomes::NotSaid => Err("no octets".into()),
+    }
+}
+
 // Checks the streams of a table.
 fn check_in_turn(alloc: Global, table: &str) -> Result<(), Fail> {
-    let mut ty = type_of(alloc, "NULL")?;
-    let mut stream = Stream::new(alloc);
-    for line in table.lines() {
-        if let Some(name) = line.strip_suffix(':') {
-            stream.check(alloc, &ty)?;
-            ty = type_of(alloc, name)?;
-            stream = Stream::new(alloc);
-        }
-        stream.add(alloc, &ty, line)?;
+    for part in table.split("\n\n") {
+        let (name, rows) = part.trim().split_once(":\n").ok_or("no type")?;
+        let ty = type_of(alloc, name)?;
+        stream_of(alloc, &ty, rows)?.check(alloc, &ty)?;
     }
-    stream.check(alloc, &ty)
+    Ok(())
+}
+
+// The stream that rows of a type are.
+fn stream_of(alloc: Global, ty: &WellTyped, rows: &str) -> Result<Stream, Fail> {
+    let mut stream = Stream::new(alloc);
+    for line in rows.lines() {
+        if !is_no_row(line) {
+            stream.add(&row_of(alloc, ty, line)?)?;
+        }
+    }
+    Ok(stream)
 }
 
 #[test]

@@ -57,6 +57,8 @@ mod steps;
 #[cfg(test)]
 mod streamed;
 #[cfg(test)]
+mod tables;
+#[cfg(test)]
 mod tags;
 #[cfg(test)]
 mod types_by_name;

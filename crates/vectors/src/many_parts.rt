@@ -30,15 +30,6 @@ SET OF NULL:
 31 80, 05 00 x100, 00 00       | 31 81 C8, 05 00 x100 | kept | { NULL, NULL, NULL, NULL, NULL, NULL, NULL, NULL, NULL, NULL, NULL, NULL, NULL, NULL, NULL, NULL, NULL, NULL, NULL, NULL, NULL, NULL, NULL, NULL, NULL, NULL, NULL, NULL, NULL, NULL, NULL, NULL, NULL, NULL, NULL, NULL, NULL, NULL, NULL, NULL, NULL, NULL, NULL, NULL, NULL, NULL, NULL, NULL, NULL, NULL, NULL, NULL, NULL, NULL, NULL, NULL, NULL, NULL, NULL, NULL, NULL, NULL, NULL, NULL, NULL, NULL, NULL, NULL, NULL, NULL, NULL, NULL, NULL, NULL, NULL, NULL, NULL, NULL, NULL, NULL, NULL, NULL, NULL, NULL, NULL, NULL, NULL, NULL, NULL, NULL, NULL, NULL, NULL, NULL, NULL, NULL, NULL, NULL, NULL, NULL }
 ";
 
-// A text so many times.
-fn repeated(alloc: Global, text: &str, times: usize) -> Result<String, Fail> {
-    let mut all = String::new(alloc);
-    for _ in 0..times {
-        all.push_str(text)?;
-    }
-    Ok(all)
-}
-
 #[test]
 fn longest(rt: HostRuntime) -> Result<(), Fail> {
     check_table(rt.alloc(), LONGEST)
@@ -49,70 +40,69 @@ fn many_items(rt: HostRuntime) -> Result<(), Fail> {
     check_table(rt.alloc(), MANY)
 }
 
-// Identifier and length octets of sixty tags around three octets, of the definite form.
-fn definite_tags(alloc: Global) -> Result<String, Fail> {
-    let mut tags = String::new(alloc);
-    for level in 0u8..60 {
-        let length = 121 - 2 * level;
-        tags.push_str(format!(in alloc; "A0{length:02x}")?.as_str())?;
-    }
-    Ok(tags)
-}
+// octets | under DER | under CER | text; no word on tags: they are explicit
+const SIXTY_TAGS: &str = "
+M DEFINITIONS ::= BEGIN T ::= [0] [0] [0] [0] [0] [0] [0] [0] [0] [0] [0] [0] [0] [0] [0] [0] [0] [0] [0] [0] [0] [0] [0] [0] [0] [0] [0] [0] [0] [0] [0] [0] [0] [0] [0] [0] [0] [0] [0] [0] [0] [0] [0] [0] [0] [0] [0] [0] [0] [0] [0] [0] [0] [0] [0] [0] [0] [0] [0] [0] OCTET STRING END:
+A0 80 x60, 04 01 AA, 00 00 x60 | A0 79 A0 77 A0 75 A0 73 A0 71 A0 6F A0 6D A0 6B A0 69 A0 67 A0 65 A0 63 A0 61 A0 5F A0 5D A0 5B A0 59 A0 57 A0 55 A0 53 A0 51 A0 4F A0 4D A0 4B A0 49 A0 47 A0 45 A0 43 A0 41 A0 3F A0 3D A0 3B A0 39 A0 37 A0 35 A0 33 A0 31 A0 2F A0 2D A0 2B A0 29 A0 27 A0 25 A0 23 A0 21 A0 1F A0 1D A0 1B A0 19 A0 17 A0 15 A0 13 A0 11 A0 0F A0 0D A0 0B A0 09 A0 07 A0 05 A0 03 04 01 AA | A0 80 x60, 04 01 AA, 00 00 x60 | 'AA'H
+A0 80 x60, 24 80 x4, 04 01 AA, 00 00 x4, 00 00 x60 | A0 79 A0 77 A0 75 A0 73 A0 71 A0 6F A0 6D A0 6B A0 69 A0 67 A0 65 A0 63 A0 61 A0 5F A0 5D A0 5B A0 59 A0 57 A0 55 A0 53 A0 51 A0 4F A0 4D A0 4B A0 49 A0 47 A0 45 A0 43 A0 41 A0 3F A0 3D A0 3B A0 39 A0 37 A0 35 A0 33 A0 31 A0 2F A0 2D A0 2B A0 29 A0 27 A0 25 A0 23 A0 21 A0 1F A0 1D A0 1B A0 19 A0 17 A0 15 A0 13 A0 11 A0 0F A0 0D A0 0B A0 09 A0 07 A0 05 A0 03 04 01 AA | A0 80 x60, 04 01 AA, 00 00 x60 | 'AA'H
+A0 80 x60, 24 80 x5, 04 01 AA, 00 00 x5, 00 00 x60 | refused 10
+";
 
 #[test]
 fn sixty_explicit_tags(rt: HostRuntime) -> Result<(), Fail> {
-    let alloc = rt.alloc();
-    // no word on tags: they are explicit
-    let tags = repeated(alloc, "[0] ", 60)?;
-    let module = format!(in alloc; "M DEFINITIONS ::= BEGIN T ::= {tags}OCTET STRING END")?;
-    let ty = type_of(alloc, module.as_str())?;
-    let der = definite_tags(alloc)?;
-    let cer = "A0 80 x60, 04 01 AA, 00 00 x60 | 'AA'H";
-    // (how many constructed encodings of the string, under DER and CER, and the text)
-    let cases = [
-        (0, format!(in alloc; "{der} 04 01 AA | {cer}")?),
-        (4, format!(in alloc; "{der} 04 01 AA | {cer}")?),
-        (5, format!(in alloc; "refused 10")?),
-    ];
-    for (levels, becomes) in cases {
-        let line = format!(in alloc;
-            "A0 80 x60, 24 80 x{levels}, 04 01 AA, 00 00 x{levels}, 00 00 x60 | {becomes}"
-        )?;
-        check_line(alloc, &ty, line.as_str())?;
-    }
-    Ok(())
+    check_table(rt.alloc(), SIXTY_TAGS)
 }
 
-// The encodings of INTEGERs, one after another.
-fn integers(alloc: Global, numbers: &[u16]) -> Result<String, Fail> {
+// The encodings of the INTEGERs from 0 to 9,999, one after another.
+fn ascending(alloc: Global) -> Result<String, Fail> {
     let mut all = String::new(alloc);
-    for number in numbers {
-        let digits = match *number {
-            0..128 => format!(in alloc; "0201{number:02x}")?,
-            _ => format!(in alloc; "0202{number:04x}")?,
-        };
-        all.push_str(digits.as_str())?;
+    for number in 0..10_000u16 {
+        all.push_str(integer(alloc, number)?.as_str())?;
     }
     Ok(all)
 }
 
+// The same encodings, the last one first.
+fn descending(alloc: Global) -> Result<String, Fail> {
+    let mut all = String::new(alloc);
+    for number in 0..10_000u16 {
+        all.push_str(integer(alloc, 9_999 - number)?.as_str())?;
+    }
+    Ok(all)
+}
+
+fn integer(alloc: Global, number: u16) -> Result<String, Fail> {
+    Ok(match number {
+        0..128 => format!(in alloc; "0201{number:02x}")?,
+        _ => format!(in alloc; "0202{number:04x}")?,
+    })
+}
+
+// Checks that the items of a SET OF INTEGER become these others.
+fn check_ordered(alloc: Global, items: &str, ascending: &str) -> Result<(), Fail> {
+    let ty = type_of(alloc, "SET OF INTEGER")?;
+    let becomes = format!(in alloc; "31829BC0{ascending} | 3180{ascending}0000")?;
+    let line = format!(in alloc; "31829BC0{items} | {becomes}")?;
+    check_line(alloc, &ty, line.as_str())
+}
+
+// The first two items exchanged
+fn exchanged(alloc: Global, ascending: &str) -> Result<String, Fail> {
+    let others = ascending.strip_prefix("020100020101");
+    let others = others.ok_or("other items first")?;
+    Ok(format!(in alloc; "020101020100{others}")?)
+}
+
 #[test]
 fn ten_thousand_items_of_a_set_of(rt: HostRuntime) -> Result<(), Fail> {
-    let alloc = rt.alloc();
-    let ty = type_of(alloc, "SET OF INTEGER")?;
-    let mut numbers = Vec::new(alloc);
-    for number in 0..10_000u16 {
-        numbers.push(number)?;
-    }
-    let ascending = integers(alloc, numbers.as_slice())?;
-    numbers.reverse();
-    let descending = integers(alloc, numbers.as_slice())?;
-    let becomes = format!(in alloc; "31829BC0{ascending} | 3180{ascending}0000")?;
-    let line = format!(in alloc; "31829BC0{descending} | {becomes}")?;
-    check_line(alloc, &ty, line.as_str())?;
-    // the first two exchanged
-    let others = ascending.as_str().strip_prefix("020100020101");
-    let others = others.ok_or("other items first")?;
-    let line = format!(in alloc; "31829BC0020101020100{others} | {becomes}")?;
-    check_line(alloc, &ty, line.as_str())
+    let ascending = ascending(rt.alloc())?;
+    let descending = descending(rt.alloc())?;
+    check_ordered(rt.alloc(), descending.as_str(), ascending.as_str())
+}
+
+#[test]
+fn ten_thousand_items_of_which_two_are_exchanged(rt: HostRuntime) -> Result<(), Fail> {
+    let ascending = ascending(rt.alloc())?;
+    let exchanged = exchanged(rt.alloc(), ascending.as_str())?;
+    check_ordered(rt.alloc(), exchanged.as_str(), ascending.as_str())
 }

@@ -1,9 +1,9 @@
 //! BIT STRING with named bits (X.680 clause 22), whose bits 0 at the end mean nothing (X.690 11.2.2).
 
 use crate::checks::check_table;
-use convert::{
-    Bits, Field, Name, NamedBit, Presence, Tag, Ty, TypeFault, Value, WellTyped, conforms,
-};
+use crate::rows::octets_of;
+use crate::tables::{Table, check, has_fault, is_yes, numbers_of, three, two};
+use convert::{Bits, Field, NamedBit, Ty, Value, WellTyped, conforms};
 use std::alloc::Global;
 use std::test::Fail;
 
@@ -111,108 +111,90 @@ fn cut_by_cer(rt: HostRuntime) -> Result<(), Fail> {
     check_table(rt.alloc(), CUT)
 }
 
-// A BIT STRING whose bits of these numbers are named `i`.
-fn named_bits(alloc: Global, numbers: &[u32]) -> Result<Ty, Fail> {
+// A BIT STRING whose bits of these numbers, which a column has, are named `i`.
+fn named_bits(alloc: Global, numbers: &str) -> Result<Ty, Fail> {
     let mut bits = Vec::new(alloc);
-    for number in numbers {
-        let name = Name::new(alloc, "i")?;
-        let number = *number;
-        bits.push(NamedBit { name, number })?;
+    for number in numbers_of(alloc, numbers)? {
+        bits.push(NamedBit::new(alloc, "i", number)?)?;
     }
-    Ok(Ty::NamedBits(Tag::universal(3), bits))
+    Ok(Ty::named_bits(bits))
 }
 
-// The bits of one octet, but the unused ones.
-fn bits(alloc: Global, octet: u8, unused: u8) -> Result<Value, Fail> {
-    match Bits::new(Vec::from_slice(alloc, &[octet])?, unused) {
-        Some(bits) => Ok(Value::Bits(bits)),
-        None => Err(Fail::new(format_args!("no bits"))),
+// The bits of octets, but the unused ones.
+fn bits(alloc: Global, octets: &str, unused: &str) -> Result<Value, Fail> {
+    let bits = Bits::new(octets_of(alloc, octets)?, unused.parse::<u8>()?);
+    Ok(Value::Bits(bits.ok_or("no bits")?))
+}
+
+// octets | unused bits | fault of a component that has these bits as its default
+const UNTRIMMED: &str = "\
+80 | 7 | none
+80 | 5 | BadDefault
+00 | 7 | BadDefault
+";
+
+struct Untrimmed;
+
+impl Table for Untrimmed {
+    fn holds(alloc: Global, _ty: &WellTyped, row: &str) -> Result<bool, Fail> {
+        let (octets, unused, fault) = three(row)?;
+        let default = bits(alloc, octets, unused)?;
+        let field = Field::default(alloc, "f", named_bits(alloc, "0")?, default)?;
+        has_fault(alloc, Ty::sequence(vec![in alloc; field]?), fault)
     }
 }
 
-// SEQUENCE of a component `f` with a default of one octet's bits.
-fn with_default(alloc: Global, octet: u8, unused: u8) -> Result<Ty, Fail> {
-    let mut fields = Vec::new(alloc);
-    fields.push(Field {
-        name: Name::new(alloc, "f")?,
-        ty: named_bits(alloc, &[0])?,
-        presence: Presence::Default(bits(alloc, octet, unused)?),
-    })?;
-    Ok(Ty::Sequence(Tag::universal(16), fields))
+// numbers of the bits | fault
+const NUMBERS: &str = "\
+65535 0   | none
+65536     | TooLarge
+7 0 7     | RepeatedNumber
+65536 0 0 | TooLarge
+          | TooLarge
+0..256    | none
+0..257    | TooLarge
+";
+
+struct Numbers;
+
+impl Table for Numbers {
+    fn holds(alloc: Global, _ty: &WellTyped, row: &str) -> Result<bool, Fail> {
+        let (numbers, fault) = two(row)?;
+        has_fault(alloc, named_bits(alloc, numbers)?, fault)
+    }
+}
+
+// octets | unused bits | whether the bits are a value of a BIT STRING with named bits
+const VALUES: &str = "\
+# no octets
+      | 0 | yes
+A0    | 5 | yes
+A0    | 4 | no
+01    | 0 | yes
+80 00 | 0 | no
+";
+
+struct Values;
+
+impl Table for Values {
+    fn holds(alloc: Global, _ty: &WellTyped, row: &str) -> Result<bool, Fail> {
+        let (octets, unused, want) = three(row)?;
+        let ty = named_bits(alloc, "0")?;
+        Ok(conforms(&ty, &bits(alloc, octets, unused)?) == is_yes(want)?)
+    }
 }
 
 #[test]
 fn no_untrimmed_default(rt: HostRuntime) -> Result<(), Fail> {
-    // (octet, unused bits, fault)
-    let cases = [
-        (0x80, 7, None),
-        (0x80, 5, Some(TypeFault::BadDefault)),
-        (0x00, 7, Some(TypeFault::BadDefault)),
-    ];
-    for (octet, unused, fault) in cases {
-        let ty = WellTyped::new(with_default(rt.alloc(), octet, unused)?);
-        assert_eq!(rt; ty.err(), fault, "at {octet} {unused}");
-    }
-    Ok(())
+    check::<Untrimmed>(rt.alloc(), UNTRIMMED)
 }
 
 #[test]
 fn numbers(rt: HostRuntime) -> Result<(), Fail> {
-    // (numbers of the bits, fault)
-    let cases: [(&[u32], Option<TypeFault>); 5] = [
-        (&[65_535, 0], None),
-        (&[65_536], Some(TypeFault::TooLarge)),
-        (&[7, 0, 7], Some(TypeFault::RepeatedNumber)),
-        (&[65_536, 0, 0], Some(TypeFault::TooLarge)),
-        (&[], Some(TypeFault::TooLarge)),
-    ];
-    for (numbers, fault) in cases {
-        let ty = WellTyped::new(named_bits(rt.alloc(), numbers)?);
-        assert_eq!(rt; ty.err(), fault, "at {numbers:?}");
-    }
-    Ok(())
-}
-
-#[test]
-fn most_bits(rt: HostRuntime) -> Result<(), Fail> {
-    let mut numbers = Vec::new(rt.alloc());
-    for number in 0..256u32 {
-        numbers.push(number)?;
-    }
-    let ty = WellTyped::new(named_bits(rt.alloc(), numbers.as_slice())?);
-    assert_eq!(rt; ty.err(), None);
-    numbers.push(256)?;
-    let ty = WellTyped::new(named_bits(rt.alloc(), numbers.as_slice())?);
-    assert_eq!(rt; ty.err(), Some(TypeFault::TooLarge));
-    Ok(())
-}
-
-// Whether these bits are a value of a BIT STRING with named bits.
-fn is_value(alloc: Global, octets: &[u8], unused: u8) -> Result<bool, Fail> {
-    let ty = named_bits(alloc, &[0])?;
-    let octets = Vec::from_slice(alloc, octets)?;
-    match Bits::new(octets, unused) {
-        Some(bits) => Ok(conforms(&ty, &Value::Bits(bits))),
-        None => Err(Fail::new(format_args!("no bits"))),
-    }
+    check::<Numbers>(rt.alloc(), NUMBERS)
 }
 
 #[test]
 fn values(rt: HostRuntime) -> Result<(), Fail> {
-    // (octets, unused bits, whether the bits conform)
-    let cases: [(&[u8], u8, bool); 5] = [
-        (&[], 0, true),
-        (&[0xA0], 5, true),
-        (&[0xA0], 4, false),
-        (&[0x01], 0, true),
-        (&[0x80, 0x00], 0, false),
-    ];
-    for (octets, unused, want) in cases {
-        assert_eq!(rt;
-            is_value(rt.alloc(), octets, unused)?,
-            want,
-            "at {octets:?}"
-        );
-    }
-    Ok(())
+    check::<Values>(rt.alloc(), VALUES)
 }

@@ -4,8 +4,9 @@
 use crate::answers::convert_by;
 use crate::checks::{check_line, check_table};
 use crate::rows::octets_of;
+use crate::tables::{Table, check, two};
 use crate::types_by_name::type_of;
-use convert::{Canonical, Refusal, Rule};
+use convert::{Canonical, Refusal, Rule, WellTyped};
 use std::alloc::Global;
 use std::test::Fail;
 
@@ -22,6 +23,15 @@ OCTET STRING:
 24 80 x64, 24 00, 00 00 x64               | refused 10
 # 65 encodings beside each other in one
 24 80, 24 80 00 00 x65, 00 00             | 04 00 | 04 00 | ''H
+";
+
+// octets | under DER | under CER | text; 63 levels, of 127 contents octets down to 3, by themselves and in others
+const DEFINITE_LEVELS: &str = "
+OCTET STRING:
+24 7F 24 7D 24 7B 24 79 24 77 24 75 24 73 24 71 24 6F 24 6D 24 6B 24 69 24 67 24 65 24 63 24 61 24 5F 24 5D 24 5B 24 59 24 57 24 55 24 53 24 51 24 4F 24 4D 24 4B 24 49 24 47 24 45 24 43 24 41 24 3F 24 3D 24 3B 24 39 24 37 24 35 24 33 24 31 24 2F 24 2D 24 2B 24 29 24 27 24 25 24 23 24 21 24 1F 24 1D 24 1B 24 19 24 17 24 15 24 13 24 11 24 0F 24 0D 24 0B 24 09 24 07 24 05 24 03 04 01 AA | 04 01 AA | 04 01 AA | 'AA'H
+24 81 81 24 7F 24 7D 24 7B 24 79 24 77 24 75 24 73 24 71 24 6F 24 6D 24 6B 24 69 24 67 24 65 24 63 24 61 24 5F 24 5D 24 5B 24 59 24 57 24 55 24 53 24 51 24 4F 24 4D 24 4B 24 49 24 47 24 45 24 43 24 41 24 3F 24 3D 24 3B 24 39 24 37 24 35 24 33 24 31 24 2F 24 2D 24 2B 24 29 24 27 24 25 24 23 24 21 24 1F 24 1D 24 1B 24 19 24 17 24 15 24 13 24 11 24 0F 24 0D 24 0B 24 09 24 07 24 05 24 03 04 01 AA | 04 01 AA | 04 01 AA | 'AA'H
+24 80 24 81 81 24 7F 24 7D 24 7B 24 79 24 77 24 75 24 73 24 71 24 6F 24 6D 24 6B 24 69 24 67 24 65 24 63 24 61 24 5F 24 5D 24 5B 24 59 24 57 24 55 24 53 24 51 24 4F 24 4D 24 4B 24 49 24 47 24 45 24 43 24 41 24 3F 24 3D 24 3B 24 39 24 37 24 35 24 33 24 31 24 2F 24 2D 24 2B 24 29 24 27 24 25 24 23 24 21 24 1F 24 1D 24 1B 24 19 24 17 24 15 24 13 24 11 24 0F 24 0D 24 0B 24 09 24 07 24 05 24 03 04 01 AA | refused 10
+24 81 84 24 81 81 24 7F 24 7D 24 7B 24 79 24 77 24 75 24 73 24 71 24 6F 24 6D 24 6B 24 69 24 67 24 65 24 63 24 61 24 5F 24 5D 24 5B 24 59 24 57 24 55 24 53 24 51 24 4F 24 4D 24 4B 24 49 24 47 24 45 24 43 24 41 24 3F 24 3D 24 3B 24 39 24 37 24 35 24 33 24 31 24 2F 24 2D 24 2B 24 29 24 27 24 25 24 23 24 21 24 1F 24 1D 24 1B 24 19 24 17 24 15 24 13 24 11 24 0F 24 0D 24 0B 24 09 24 07 24 05 24 03 04 01 AA | refused 10
 ";
 
 // octets | under DER | under CER | text
@@ -56,25 +66,7 @@ fn levels(rt: HostRuntime) -> Result<(), Fail> {
 
 #[test]
 fn levels_of_definite_lengths(rt: HostRuntime) -> Result<(), Fail> {
-    let ty = type_of(rt.alloc(), "OCTET STRING")?;
-    // 63 levels, of 127 contents octets down to 3
-    let mut levels = String::new(rt.alloc());
-    for level in 0u8..63 {
-        let length = 127 - 2 * level;
-        levels.push_str(format!(in rt.alloc(); "24{length:02x}")?.as_str())?;
-    }
-    // (identifier and length octets around these, what they become)
-    let cases = [
-        ("", "04 01 AA | 04 01 AA | 'AA'H"),
-        ("24 81 81", "04 01 AA | 04 01 AA | 'AA'H"),
-        ("24 80 24 81 81", "refused 10"),
-        ("24 81 84 24 81 81", "refused 10"),
-    ];
-    for (outer, becomes) in cases {
-        let line = format!(in rt.alloc(); "{outer}{levels}0401AA|{becomes}")?;
-        check_line(rt.alloc(), &ty, line.as_str())?;
-    }
-    Ok(())
+    check_table(rt.alloc(), DEFINITE_LEVELS)
 }
 
 #[test]
@@ -90,29 +82,49 @@ fn lengths(rt: HostRuntime) -> Result<(), Fail> {
     check_table(rt.alloc(), LENGTHS)
 }
 
-// Octets 41 in 255 segments of 4,096, and one more with the rest: what they become under DER.
-fn segments_before(alloc: Global, last: &str) -> Result<Result<Vec<u8>, Refusal>, Fail> {
-    let ty = type_of(alloc, "OCTET STRING")?;
-    let mut segments = String::from_str(alloc, "24 80")?;
-    for _ in 0..255 {
-        segments.push_str(", 04 82 10 00, 41 x4096")?;
+// the segment behind 255 of 4,096 octets 41 | what all of them become under DER
+const LAST_SEGMENTS: &str = "\
+OCTET STRING:
+04 82 0B FB, 41 x3067    | 04 83 0F FB FB, 41 x1047547
+04 82 0B FC, 41 x3068    | 04 83 0F FB FC, 41 x1047548
+04 82 0B FD, 41 x3069    | refused 11
+04 83 00 0B FC, 41 x3068 | refused 11
+";
+
+struct LastSegments;
+
+impl Table for LastSegments {
+    fn holds(alloc: Global, ty: &WellTyped, row: &str) -> Result<bool, Fail> {
+        let (last, becomes) = two(row)?;
+        let octets = segments_before(alloc, last)?;
+        let rules = (Rule::Ber, Canonical::Der);
+        is_what(
+            alloc,
+            convert_by(alloc, rules, ty, octets.as_slice()),
+            becomes,
+        )
     }
-    let octets = format!(in alloc; "{segments}, {last}, 00 00")?;
-    let octets = octets_of(alloc, octets.as_str())?;
-    let rules = (Rule::Ber, Canonical::Der);
-    Ok(convert_by(alloc, rules, &ty, octets.as_slice()))
+}
+
+fn segments_before(alloc: Global, last: &str) -> Result<Vec<u8>, Fail> {
+    let segments = ", 04 82 10 00, 41 x4096".repeat(alloc, 255)?;
+    let octets = format!(in alloc; "24 80{segments}, {last}, 00 00")?;
+    octets_of(alloc, octets.as_str())
+}
+
+fn is_what(alloc: Global, found: Result<Vec<u8>, Refusal>, becomes: &str) -> Result<bool, Fail> {
+    match found {
+        Ok(octets) => Ok(octets == octets_of(alloc, becomes)?),
+        Err(refusal) => is_refused(refusal, becomes),
+    }
+}
+
+fn is_refused(refusal: Refusal, becomes: &str) -> Result<bool, Fail> {
+    let number = becomes.strip_prefix("refused ").ok_or("no refusal")?;
+    Ok(refusal.number() == number.parse::<u8>()?)
 }
 
 #[test]
 fn longest_strings(rt: HostRuntime) -> Result<(), Fail> {
-    let alloc = rt.alloc();
-    let found = segments_before(alloc, "04 82 0B FB, 41 x3067")??;
-    assert!(rt; found == octets_of(alloc, "04 83 0F FB FB, 41 x1047547")?);
-    let found = segments_before(alloc, "04 82 0B FC, 41 x3068")??;
-    assert!(rt; found == octets_of(alloc, "04 83 0F FB FC, 41 x1047548")?);
-    let found = segments_before(alloc, "04 82 0B FD, 41 x3069")?;
-    assert_eq!(rt; found.err(), Some(Refusal::TooLong));
-    let found = segments_before(alloc, "04 83 00 0B FC, 41 x3068")?;
-    assert_eq!(rt; found.err(), Some(Refusal::TooLong));
-    Ok(())
+    check::<LastSegments>(rt.alloc(), LAST_SEGMENTS)
 }

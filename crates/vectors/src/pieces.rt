@@ -1,36 +1,42 @@
 //! Octets that come in pieces: a reader of pieces answers what `read` answers to all of them.
 
-use crate::answers::{fed_by, fed_in_two};
+ghost use Rattle.std.specs.Prelude.{◌≤◌};
+
+use crate::answers::{Fed, ReadFront, fed_by, fed_in_two};
 use crate::checks::expect;
 use crate::rows::Row;
-use convert::{Refusal, Value};
+use convert::Refusal;
 use std::alloc::Global;
 use std::test::Fail;
 
 /// Feeds octets in two pieces by each cut, and one by one; many of them by 997.
-pub fn check_pieces(
-    alloc: Global,
-    row: &Row,
-    octets: &[u8],
-    read: &Result<(Value, usize), Refusal>,
-) -> Result<(), Fail> {
+pub fn check_pieces(alloc: Global, row: &Row, octets: &[u8], read: &ReadFront) -> Result<(), Fail> {
     if row.is_long() {
-        let fed = fed_by(alloc, row.ty, octets, 997);
-        return expect(agree(&fed, read), "fed by 997", row);
+        return expect(agree_by(alloc, row, octets, 997, read), "fed by 997", row);
     }
     for at in 0..octets.len() {
-        let fed = fed_in_two(alloc, row.ty, (&octets[..at], &octets[at..]));
-        expect(agree(&fed, read), "fed in two pieces", row)?;
+        let pieces = (&octets[..at], &octets[at..]);
+        expect(
+            agree_in_two(alloc, row, pieces, read),
+            "fed in two pieces",
+            row,
+        )?;
     }
-    let fed = fed_by(alloc, row.ty, octets, 1);
-    expect(agree(&fed, read), "fed one by one", row)
+    expect(agree_by(alloc, row, octets, 1, read), "fed one by one", row)
+}
+
+fn agree_in_two(alloc: Global, row: &Row, pieces: (&[u8], &[u8]), read: &ReadFront) -> bool {
+    agree(&fed_in_two(alloc, row.ty, pieces), read)
+}
+
+fn agree_by(alloc: Global, row: &Row, octets: &[u8], size: usize, read: &ReadFront) -> bool
+    requires { 1 ≤ size }
+{
+    agree(&fed_by(alloc, row.ty, octets, size), read)
 }
 
 // Whether a reader of pieces and `read` give one answer; `read` refuses no octets with `Truncated`.
-fn agree(
-    fed: &Result<Option<(Value, usize)>, Refusal>,
-    read: &Result<(Value, usize), Refusal>,
-) -> bool {
+fn agree(fed: &Fed, read: &ReadFront) -> bool {
     match (fed, read) {
         (Ok(Some(fed)), Ok(read)) => fed == read,
         (Ok(None), Err(refusal)) => *refusal == Refusal::Truncated,

@@ -1,6 +1,6 @@
 //! How the tables of octets are read.
 //!
-//! A line that ends with a colon is the type of the rows below it, a remark begins with `#`. A row has octets,
+//! They are walked as `tables` says. A row has octets,
 //! what they become under DER, what under CER, and the text of their value, with bars between. All columns but the
 //! first may be empty, and the last ones missing. What octets become is octets, `kept` for the same ones, `refused`
 //! and a number, or `left over` where a value ends before the octets do. What a reader refuses stands in the second
@@ -44,31 +44,22 @@ pub enum Becomes {
     NotSaid,
 }
 
-/// The row that a line has, where it is no remark and no type.
-pub fn row_of<'a>(
-    alloc: Global,
-    ty: &'a WellTyped,
-    line: &'a str,
-) -> Result<Option<Row<'a>>, Fail> {
-    if line.starts_with('#') {
-        return Ok(None);
-    }
-    let Some((octets, columns)) = line.split_once('|') else {
-        return Ok(None);
-    };
+/// The row that a line is.
+pub fn row_of<'a>(alloc: Global, ty: &'a WellTyped, line: &'a str) -> Result<Row<'a>, Fail> {
+    let (octets, columns) = line.split_once('|').ok_or("one column")?;
     let octets = octets_of(alloc, octets)?;
     let (der, columns) = columns.split_once('|').unwrap_or((columns, ""));
     let (cer, text) = columns.split_once('|').unwrap_or((columns, ""));
     let der = outcome_of(alloc, octets.as_slice(), der.trim())?;
     let cer = outcome_of(alloc, octets.as_slice(), cer.trim())?;
-    Ok(Some(Row {
+    Ok(Row {
         ty,
         line,
         octets,
         der,
         cer,
         text: text.trim(),
-    }))
+    })
 }
 
 // What a column says that octets become.

@@ -7,6 +7,8 @@
 
 use crate::answers::{line_of, run_over};
 use crate::rows::octets_of;
+use crate::tables::is_no_row;
+use program::Line;
 use std::alloc::Global;
 use std::test::Fail;
 
@@ -129,41 +131,79 @@ convert,m,T,in,--to,der | 00 || asn1x: module refused 24 UnknownType at 1:1; | 2
 pub fn check_runs(alloc: Global, table: &str) -> Result<(), Fail> {
     let mut text = String::new(alloc);
     for line in table.lines() {
-        if let Some(module) = line.strip_suffix(':') {
-            text = String::from_str(alloc, module)?;
+        match line.strip_suffix(':') {
+            Some(module) => text = String::from_str(alloc, module)?,
+            None if is_no_row(line) => {}
+            None => check_run(alloc, text.as_str(), line)?,
         }
-        check_run(alloc, text.as_str(), line)?;
     }
     Ok(())
 }
 
-/// Checks a run, where a line has one.
-pub fn check_run(alloc: Global, module: &str, row: &str) -> Result<(), Fail> {
-    let Some((words, columns)) = row.split_once('|') else {
-        return Ok(());
-    };
+// The columns of a row.
+#[derive(Clone, Copy)]
+struct Run<'a> {
+    words: &'a str,
+    input: &'a str,
+    out: &'a str,
+    err: &'a str,
+    status: &'a str,
+}
+
+fn columns_of(row: &str) -> Result<Run<'_>, Fail> {
+    let (words, columns) = row.split_once('|').ok_or("no words")?;
     let (input, columns) = columns.split_once('|').ok_or("no input")?;
     let (out, columns) = columns.split_once('|').ok_or("no output")?;
     let (err, status) = columns.split_once('|').ok_or("no status")?;
+    Ok(Run {
+        words,
+        input,
+        out,
+        err,
+        status,
+    })
+}
+
+/// Checks the run of a row.
+pub fn check_run(alloc: Global, module: &str, row: &str) -> Result<(), Fail> {
+    let run = columns_of(row)?;
+    let words = run.words;
     let words = format!(in alloc; "asn1x,{words}")?;
     let line = line_of(alloc, words.as_str().trim())?;
-    let input = if line.hex {
-        Vec::from_slice(alloc, input.as_bytes())?
-    } else {
-        octets_of(alloc, input)?
-    };
-    let want = if line.hex || line.to.is_none() {
-        lines_of(alloc, out)?
-    } else {
-        octets_of(alloc, out)?
-    };
-    let found = run_over(alloc, &line, module, input.as_slice());
-    let want = (want, lines_of(alloc, err)?, status.trim().parse::<u8>()?);
-    if found == want {
+    let input = input_of(alloc, &line, run.input)?;
+    let (out, err, status) = run_over(alloc, &line, module, input.as_slice());
+    if is_printed(alloc, &line, &run, (&out, &err, status))? {
         return Ok(());
     }
-    let (out, err, status) = found;
     Err(Fail::new(format_args!("{status} with {out:?} and {err:?}: {row}")))
+}
+
+fn input_of(alloc: Global, line: &Line, column: &str) -> Result<Vec<u8>, Fail> {
+    if line.hex {
+        return Ok(Vec::from_slice(alloc, column.as_bytes())?);
+    }
+    octets_of(alloc, column)
+}
+
+fn output_of(alloc: Global, line: &Line, column: &str) -> Result<Vec<u8>, Fail> {
+    if line.hex || line.to.is_none() {
+        return lines_of(alloc, column);
+    }
+    octets_of(alloc, column)
+}
+
+// Whether what a run prints, and its status, are what the columns say.
+fn is_printed(
+    alloc: Global,
+    line: &Line,
+    run: &Run,
+    (out, err, status): (&Vec<u8>, &Vec<u8>, u8),
+) -> Result<bool, Fail> {
+    Ok(
+        status == run.status.trim().parse::<u8>()?
+            && *out == output_of(alloc, line, run.out)?
+            && *err == lines_of(alloc, run.err)?,
+    )
 }
 
 // The lines of a column.

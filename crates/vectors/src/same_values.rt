@@ -2,7 +2,7 @@
 
 use crate::answers::{convert_by, read_by};
 use crate::rows::octets_of;
-use crate::types_by_name::type_of;
+use crate::tables::{Table, check, three};
 use canon::{order, same};
 use convert::{Canonical, Rule, Value, WellTyped, conforms};
 use std::alloc::Global;
@@ -76,31 +76,44 @@ fn converted(
     Ok(first.as_slice() == second.as_slice())
 }
 
-// Whether the encodings of a line are of the same value, asked in four ways.
-fn all_ways(alloc: Global, ty: &WellTyped, line: &str) -> Result<[bool; 4], Fail> {
-    let (first, second) = line.split_once('|').ok_or("one column")?;
-    let first = octets_of(alloc, first)?;
-    let second = octets_of(alloc, second)?;
-    let octets = (first.as_slice(), second.as_slice());
-    let der = converted(alloc, Canonical::Der, ty, octets)?;
-    let cer = converted(alloc, Canonical::Cer, ty, octets)?;
-    let (first, _) = read_by(alloc, Rule::Ber, ty, octets.0)?;
-    let (second, _) = read_by(alloc, Rule::Ber, ty, octets.1)?;
-    let (same, ordered) = compared(alloc, ty, &first, &second)?;
-    Ok([der, cer, same, ordered])
+// Whether two encodings are read as the same value, as these two say.
+fn read_alike(
+    alloc: Global,
+    ty: &WellTyped,
+    (first, second): (&[u8], &[u8]),
+) -> Result<(bool, bool), Fail> {
+    let (first, _) = read_by(alloc, Rule::Ber, ty, first)?;
+    let (second, _) = read_by(alloc, Rule::Ber, ty, second)?;
+    compared(alloc, ty, &first, &second)
+}
+
+// Whether this is what all ways say of two encodings: that they are of the same value, or not.
+fn is_said(
+    alloc: Global,
+    ty: &WellTyped,
+    octets: (&[u8], &[u8]),
+    same: bool,
+) -> Result<bool, Fail> {
+    Ok(
+        converted(alloc, Canonical::Der, ty, octets)? == same
+            && converted(alloc, Canonical::Cer, ty, octets)? == same
+            && read_alike(alloc, ty, octets)? == (same, same),
+    )
+}
+
+struct Pairs;
+
+impl Table for Pairs {
+    fn holds(alloc: Global, ty: &WellTyped, row: &str) -> Result<bool, Fail> {
+        let (first, second, want) = three(row)?;
+        let first = octets_of(alloc, first)?;
+        let second = octets_of(alloc, second)?;
+        let octets = (first.as_slice(), second.as_slice());
+        is_said(alloc, ty, octets, want == "same")
+    }
 }
 
 #[test]
 fn pairs(rt: HostRuntime) -> Result<(), Fail> {
-    let mut ty = type_of(rt.alloc(), "NULL")?;
-    for line in PAIRS.lines() {
-        if let Some(name) = line.strip_suffix(':') {
-            ty = type_of(rt.alloc(), name)?;
-        }
-        if let Some((octets, want)) = line.rsplit_once('|') {
-            let want = want.trim() == "same";
-            assert_eq!(rt; all_ways(rt.alloc(), &ty, octets)?, [want; 4], "at {line}");
-        }
-    }
-    Ok(())
+    check::<Pairs>(rt.alloc(), PAIRS)
 }

@@ -1,7 +1,7 @@
 //! What a reader of pieces answers to each of them.
 
 use crate::answers::text_of;
-use crate::types_by_name::type_of;
+use crate::tables::{Table, check, two};
 use berreader::{Reader, Step};
 use convert::{Refusal, WellTyped, unhex};
 use std::alloc::Global;
@@ -84,17 +84,38 @@ A0 05; ; A1 03; ; 01; ; 01 01 | More; More; More; More; More; More; Done 2 TRUE;
 // What is answered to pieces, in words.
 fn answers_to(alloc: Global, ty: &WellTyped, pieces: &str) -> Result<String, Fail> {
     let mut reader = Reader::new(alloc, ty);
+    let answers = fed(alloc, ty, &mut reader, pieces)?;
+    with_end(alloc, answers, reader.finish())
+}
+
+// What is answered to each piece.
+fn fed(alloc: Global, ty: &WellTyped, reader: &mut Reader, pieces: &str) -> Result<String, Fail> {
     let mut answers = String::new(alloc);
     for piece in pieces.split(';') {
-        let octets = unhex(alloc, piece.as_bytes())?;
-        answers.push_str(word_of(alloc, ty, reader.feed(octets.as_slice()))?.as_str())?;
-        answers.push_str("; ")?;
-    }
-    match reader.finish() {
-        Ok(()) => answers.push_str("Ok")?,
-        Err(refusal) => answers.push_str(number_of(alloc, refusal)?.as_str())?,
+        let answer = answer_to(alloc, ty, reader, piece)?;
+        answers.push_str(answer.as_str())?;
     }
     Ok(answers)
+}
+
+fn answer_to(
+    alloc: Global,
+    ty: &WellTyped,
+    reader: &mut Reader,
+    piece: &str,
+) -> Result<String, Fail> {
+    let octets = unhex(alloc, piece.as_bytes())?;
+    let word = word_of(alloc, ty, reader.feed(octets.as_slice()))?;
+    Ok(format!(in alloc; "{word}; ")?)
+}
+
+// The answers, and whether all is finished.
+fn with_end(alloc: Global, answers: String, end: Result<(), Refusal>) -> Result<String, Fail> {
+    let end = match end {
+        Ok(()) => String::from_str(alloc, "Ok")?,
+        Err(refusal) => number_of(alloc, refusal)?,
+    };
+    Ok(format!(in alloc; "{answers}{end}")?)
 }
 
 fn word_of(alloc: Global, ty: &WellTyped, answer: Result<Step, Refusal>) -> Result<String, Fail> {
@@ -114,35 +135,25 @@ fn number_of(alloc: Global, refusal: Refusal) -> Result<String, Fail> {
     Ok(format!(in alloc; "{number}")?)
 }
 
-fn check_answers(alloc: Global, table: &str) -> Result<(), Fail> {
-    let mut ty = type_of(alloc, "NULL")?;
-    for line in table.lines() {
-        if let Some(name) = line.strip_suffix(':') {
-            ty = type_of(alloc, name)?;
-        }
-        check_line(alloc, &ty, line)?;
-    }
-    Ok(())
-}
+struct Answers;
 
-// Checks a line, where it is a row.
-fn check_line(alloc: Global, ty: &WellTyped, line: &str) -> Result<(), Fail> {
-    let Some((pieces, want)) = line.split_once('|') else {
-        return Ok(());
-    };
-    let found = answers_to(alloc, ty, pieces)?;
-    if found.as_str() == want.trim() {
-        return Ok(());
+impl Table for Answers {
+    fn holds(alloc: Global, ty: &WellTyped, row: &str) -> Result<bool, Fail> {
+        let (pieces, want) = two(row)?;
+        let found = answers_to(alloc, ty, pieces)?;
+        if found.as_str() == want {
+            return Ok(true);
+        }
+        Err(Fail::new(format_args!("{found} at {row}")))
     }
-    Err(Fail::new(format_args!("{found} at {line}")))
 }
 
 #[test]
 fn answers(rt: HostRuntime) -> Result<(), Fail> {
-    check_answers(rt.alloc(), ANSWERS)
+    check::<Answers>(rt.alloc(), ANSWERS)
 }
 
 #[test]
 fn answers_to_empty_pieces(rt: HostRuntime) -> Result<(), Fail> {
-    check_answers(rt.alloc(), EMPTY_PIECES)
+    check::<Answers>(rt.alloc(), EMPTY_PIECES)
 }

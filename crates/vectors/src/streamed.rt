@@ -28,12 +28,16 @@ pub fn check_listed_twice(alloc: Global, row: &Row, value: &Value) -> Result<(),
     expect(is_said, "shown", row)?;
     line.push_str("\n")?;
     let octets = twice(alloc, row.octets.as_slice())?;
-    let octets = octets.as_slice();
-    let want = twice(alloc, line.as_bytes())?;
-    let found = list_stream(alloc, row.ty, octets);
-    expect(is_whole(&found, want.as_slice()), "a stream listed", row)?;
+    check_listed(alloc, row, octets.as_slice(), line.as_bytes())
+}
+
+// Checks that octets are two values that are counted, and listed by this line each.
+fn check_listed(alloc: Global, row: &Row, octets: &[u8], line: &[u8]) -> Result<(), Fail> {
     let counted = check_stream(alloc, row.ty, octets);
-    expect(counted == Ok::<u64, Stopped>(2), "a stream checked", row)
+    expect(told(&counted) == (2, 0), "a stream checked", row)?;
+    let want = twice(alloc, line)?;
+    let found = list_stream(alloc, row.ty, octets);
+    expect(is_whole(&found, want.as_slice()), "a stream listed", row)
 }
 
 /// Checks that nothing is written of a stream that is refused before a value is done; one of no octets is not.

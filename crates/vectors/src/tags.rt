@@ -1,8 +1,10 @@
 //! Types under tags other than the universal ones (X.680 8, X.690 8.14).
 
 use crate::checks::check_table;
+use crate::tables::{Table, check, has_fault, two};
 use crate::types_by_name::type_of;
-use convert::{Class, Tag, Ty, TypeFault, Value, WellTyped, conforms};
+use convert::{Class, Tag, Ty, Value, WellTyped, conforms};
+use std::alloc::Global;
 use std::test::Fail;
 
 // octets | under DER | under CER | text
@@ -74,20 +76,39 @@ fn other_tags(rt: HostRuntime) -> Result<(), Fail> {
     check_table(rt.alloc(), OTHER_TAGS)
 }
 
-#[test]
-fn tags_of_no_type(rt: HostRuntime) {
-    // (tag class, tag number, fault)
-    let cases = [
-        (Class::Universal, 0, Some(TypeFault::TagsNotDistinct)),
-        (Class::Universal, 1, None),
-        (Class::Context, 0, None),
-        (Class::Private, 268_435_455, None),
-        (Class::Private, 268_435_456, Some(TypeFault::TooLarge)),
-    ];
-    for (class, number, fault) in cases {
-        let ty = WellTyped::new(Ty::Boolean(Tag { class, number }));
-        assert_eq!(rt; ty.err(), fault, "at {class:?} {number}");
+// class and number of a tag | fault
+const TAGS: &str = "\
+UNIVERSAL 0       | TagsNotDistinct
+UNIVERSAL 1       | none
+CONTEXT 0         | none
+PRIVATE 268435455 | none
+PRIVATE 268435456 | TooLarge
+";
+
+struct Tags;
+
+impl Table for Tags {
+    fn holds(alloc: Global, _ty: &WellTyped, row: &str) -> Result<bool, Fail> {
+        let (tag, fault) = two(row)?;
+        has_fault(alloc, Ty::Boolean(tag_of(tag)?), fault)
     }
+}
+
+fn tag_of(column: &str) -> Result<Tag, Fail> {
+    let (class, number) = column.split_once(' ').ok_or("no number")?;
+    let class = match class {
+        "UNIVERSAL" => Class::Universal,
+        "CONTEXT" => Class::Context,
+        "PRIVATE" => Class::Private,
+        _ => return Err("another class".into()),
+    };
+    let number = number.parse::<u32>()?;
+    Ok(Tag { class, number })
+}
+
+#[test]
+fn tags_of_no_type(rt: HostRuntime) -> Result<(), Fail> {
+    check::<Tags>(rt.alloc(), TAGS)
 }
 
 #[test]

@@ -1,7 +1,9 @@
 //! INTEGER past 128 bits (X.690 8.3), to 1,024 contents octets.
 
 use crate::checks::check_table;
-use convert::{Field, Name, Presence, Tag, Ty, TypeFault, Value, WellTyped, conforms};
+use crate::rows::octets_of;
+use crate::tables::{Table, check, has_fault, is_yes, two};
+use convert::{Field, Ty, Value, WellTyped, conforms};
 use std::alloc::Global;
 use std::test::Fail;
 
@@ -37,43 +39,37 @@ fn encodings(rt: HostRuntime) -> Result<(), Fail> {
     check_table(rt.alloc(), ROWS)
 }
 
-// Two octets and then so many others.
-fn number(alloc: Global, front: [u8; 2], others: usize, octet: u8) -> Result<Value, Fail> {
-    let mut octets = Vec::from_slice(alloc, &front)?;
-    for _ in 0..others {
-        octets.push(octet)?;
+// contents octets | whether they are a value
+const VALUES: &str = "\
+00 80, 00 x15   | yes
+FF 7F, FF x15   | yes
+80 00, 00 x14   | no
+00 7F, FF x15   | no
+01 00, 00 x1022 | yes
+01 00, 00 x1023 | no
+";
+
+struct Values;
+
+impl Table for Values {
+    fn holds(alloc: Global, _ty: &WellTyped, row: &str) -> Result<bool, Fail> {
+        let (octets, want) = two(row)?;
+        let value = Value::WideInteger(octets_of(alloc, octets)?);
+        Ok(conforms(&Ty::integer(), &value) == is_yes(want)?)
     }
-    Ok(Value::WideInteger(octets))
 }
 
 #[test]
 fn values(rt: HostRuntime) -> Result<(), Fail> {
-    let ty = Ty::Integer(Tag::universal(2));
-    // (the first two octets, how many others and which, whether they are a value)
-    let cases = [
-        ([0x00, 0x80], 15, 0x00, true),
-        ([0xFF, 0x7F], 15, 0xFF, true),
-        ([0x80, 0x00], 14, 0x00, false),
-        ([0x00, 0x7F], 15, 0xFF, false),
-        ([0x01, 0x00], 1_022, 0x00, true),
-        ([0x01, 0x00], 1_023, 0x00, false),
-    ];
-    for (front, others, octet, want) in cases {
-        let value = number(rt.alloc(), front, others, octet)?;
-        assert_eq!(rt; conforms(&ty, &value), want, "at {front:?} and {others}");
-    }
-    Ok(())
+    check::<Values>(rt.alloc(), VALUES)
 }
 
 #[test]
 fn no_default(rt: HostRuntime) -> Result<(), Fail> {
-    let mut fields = Vec::new(rt.alloc());
-    fields.push(Field {
-        name: Name::new(rt.alloc(), "a")?,
-        ty: Ty::Integer(Tag::universal(2)),
-        presence: Presence::Default(number(rt.alloc(), [0x00, 0x80], 15, 0x00)?),
-    })?;
-    let ty = WellTyped::new(Ty::Sequence(Tag::universal(16), fields));
-    assert_eq!(rt; ty.err(), Some(TypeFault::BadDefault));
+    let alloc = rt.alloc();
+    let value = Value::WideInteger(octets_of(alloc, "00 80, 00 x15")?);
+    let field = Field::default(alloc, "a", Ty::integer(), value)?;
+    let ty = Ty::sequence(vec![in alloc; field]?);
+    assert!(rt; has_fault(alloc, ty, "BadDefault")?);
     Ok(())
 }
