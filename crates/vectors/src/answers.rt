@@ -130,7 +130,10 @@ pub fn line_of(alloc: Global, words: &str) -> Result<Line, LineFault> {
 }
 
 /// What a command line prints, on the standard output and on the standard error, and its status.
-pub fn run_over(alloc: Global, line: &Line, module: &str, input: &[u8]) -> (Vec<u8>, Vec<u8>, u8) {
+pub type Printed = (Vec<u8>, Vec<u8>, u8);
+
+/// What becomes of a command line.
+pub fn run_over(alloc: Global, line: &Line, module: &str, input: &[u8]) -> Printed {
     let mut out = Vec::new(alloc);
     let mut err = Vec::new(alloc);
     let mut input = input;

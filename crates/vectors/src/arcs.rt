@@ -1,6 +1,6 @@
 //! Which arcs are values of OBJECT IDENTIFIER and RELATIVE-OID (X.690 8.19 and 8.20).
 
-use crate::tables::{Table, check, is_yes, three};
+use crate::tables::{Table, check, is_said, three};
 use convert::{Ty, Value, WellTyped, conforms};
 use std::alloc::Global;
 use std::test::Fail;
@@ -31,12 +31,18 @@ struct Arcs;
 impl Table for Arcs {
     fn holds(alloc: Global, _ty: &WellTyped, row: &str) -> Result<bool, Fail> {
         let (arcs, absolute, relative) = three(row)?;
-        let value = Value::Oid(arcs_of(alloc, arcs)?);
-        let is_absolute = conforms(&Ty::oid(), &value);
-        let value = Value::RelativeOid(arcs_of(alloc, arcs)?);
-        let is_relative = conforms(&Ty::relative_oid(), &value);
-        Ok(is_absolute == is_yes(absolute)? && is_relative == is_yes(relative)?)
+        let is_absolute = are_absolute(arcs_of(alloc, arcs)?);
+        let is_relative = are_relative(arcs_of(alloc, arcs)?);
+        Ok(is_said(is_absolute, absolute)? && is_said(is_relative, relative)?)
     }
+}
+
+fn are_absolute(arcs: Vec<u128>) -> bool {
+    conforms(&Ty::oid(), &Value::Oid(arcs))
+}
+
+fn are_relative(arcs: Vec<u128>) -> bool {
+    conforms(&Ty::relative_oid(), &Value::RelativeOid(arcs))
 }
 
 // The arcs of a column. One that ends with `x` and a number stands there as many times.

@@ -76,16 +76,17 @@ fn check_plainly(alloc: Global, row: &Row, octets: &[u8]) -> Result<(), Fail> {
 type Read = Result<(Value, usize), Refusal>;
 
 fn check_same(row: &Row, plain: Read, strict: Read) -> Result<(), Fail> {
-    match (plain, strict) {
-        (Ok(plain), strict) => expect(strict == Ok(plain), "the plain way takes more", row),
-        (Err(plain), strict) => {
-            let number = number_of(strict);
-            if is_an_end_begun(plain, number) {
-                return Ok(());
-            }
-            expect_strict(number, plain.number(), "the plain way refuses", row)
-        }
+    match plain {
+        Ok(_) => expect(strict == plain, "the plain way takes more", row),
+        Err(refusal) => check_number(row, refusal, number_of(strict)),
     }
+}
+
+fn check_number(row: &Row, plain: Refusal, strict: Option<u8>) -> Result<(), Fail> {
+    if is_an_end_begun(plain, strict) {
+        return Ok(());
+    }
+    expect_strict(strict, plain.number(), "the plain way refuses", row)
 }
 
 // Whether the octets end in a 00 where an identifier must stand: BER waits for a second one before it is refused.

@@ -1,7 +1,7 @@
 //! What the rows of the tables are compared with.
 
 use crate::accepted::check_accepted;
-use crate::answers::{convert_by, number_of, read_by};
+use crate::answers::{ReadFront, convert_by, number_of, read_by};
 use crate::changed::check_changed;
 use crate::pieces::check_pieces;
 use crate::rows::{Becomes, Row, row_of};
@@ -139,9 +139,13 @@ fn check_left_over(alloc: Global, row: &Row) -> Result<(), Fail> {
 fn check_first(alloc: Global, row: &Row, octets: &[u8]) -> Result<(), Fail> {
     let read = read_by(alloc, Rule::Ber, row.ty, octets);
     check_pieces(alloc, row, octets, &read)?;
+    check_ended(row, &read)
+}
+
+fn check_ended(row: &Row, read: &ReadFront) -> Result<(), Fail> {
     match read {
-        Ok((_, used)) => expect(used < octets.len(), "nothing left over", row),
-        Err(refusal) => refused(refusal, "no value", row),
+        Ok((_, used)) => expect(*used < row.octets.len(), "nothing left over", row),
+        Err(refusal) => refused(*refusal, "no value", row),
     }
 }
 

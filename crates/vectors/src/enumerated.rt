@@ -1,7 +1,7 @@
 //! ENUMERATED (X.690 8.4), whose contents octets are those of an item's number.
 
 use crate::checks::check_table;
-use crate::tables::{Table, check, has_fault, is_yes, numbers_of, two};
+use crate::tables::{Table, check, has_fault, is_said, numbers_of, two};
 use convert::{Item, Ty, Value, WellTyped, conforms};
 use std::alloc::Global;
 use std::test::Fail;
@@ -71,8 +71,8 @@ struct Values;
 impl Table for Values {
     fn holds(alloc: Global, _ty: &WellTyped, row: &str) -> Result<bool, Fail> {
         let (value, want) = two(row)?;
-        let ty = enumerated(alloc, "1 3")?;
-        Ok(conforms(&ty, &value_of(value)?) == is_yes(want)?)
+        let value = value_of(value)?;
+        is_said(conforms(&enumerated(alloc, "1 3")?, &value), want)
     }
 }
 

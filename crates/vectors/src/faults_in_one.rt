@@ -16,9 +16,10 @@ fn reads(alloc: Global) -> anyhow::Result<()> {
 
 // SEQUENCE { a INTEGER OPTIONAL, b INTEGER }
 fn alike(alloc: Global) -> Result<Ty, AllocError> {
-    let a = Field::optional(alloc, "a", Ty::integer())?;
-    let b = Field::required(alloc, "b", Ty::integer())?;
-    Ok(Ty::sequence(vec![in alloc; a, b]?))
+    let mut fields = Vec::new(alloc);
+    fields.push(Field::optional(alloc, "a", Ty::integer())?)?;
+    fields.push(Field::required(alloc, "b", Ty::integer())?)?;
+    Ok(Ty::sequence(fields))
 }
 
 fn makes(alloc: Global) -> anyhow::Result<()> {
@@ -60,25 +61,26 @@ fn asks(alloc: Global) -> anyhow::Result<()> {
     Ok(())
 }
 
+// Checks what is passed on: an error that prints this line.
+fn check_line(alloc: Global, passed: anyhow::Result<()>, line: &str) -> Result<(), Fail> {
+    let Err(error) = passed else {
+        return Err("nothing is passed on".into());
+    };
+    let text = format!(in alloc; "{error}")?;
+    if text.as_str() == line {
+        return Ok(());
+    }
+    Err(Fail::new(format_args!("{text} and not {line}")))
+}
+
 #[test]
 fn one_line_each(rt: HostRuntime) -> Result<(), Fail> {
     let alloc = rt.alloc();
-    // (what is passed on, its line)
-    let lines = [
-        (reads(alloc), "6 Contents"),
-        (makes(alloc), "28 TagsNotDistinct"),
-        (parses(alloc), "22 Syntax at 1:15"),
-        (unhexes(alloc), "not hexadecimal"),
-        (streams(alloc), "refused 6 Contents after 2 values"),
-        (fails(alloc), "a device failed"),
-        (asks(alloc), "unexpected argument found"),
-    ];
-    for (passed, line) in lines.iter() {
-        let Err(error) = passed else {
-            return Err(Fail::from("nothing is passed on"));
-        };
-        let text = format!(in alloc; "{error}")?;
-        assert_eq!(rt; text.as_str(), *line);
-    }
-    Ok(())
+    check_line(alloc, reads(alloc), "6 Contents")?;
+    check_line(alloc, makes(alloc), "28 TagsNotDistinct")?;
+    check_line(alloc, parses(alloc), "22 Syntax at 1:15")?;
+    check_line(alloc, unhexes(alloc), "not hexadecimal")?;
+    check_line(alloc, streams(alloc), "refused 6 Contents after 2 values")?;
+    check_line(alloc, fails(alloc), "a device failed")?;
+    check_line(alloc, asks(alloc), "unexpected argument found")
 }

@@ -137,11 +137,16 @@ fn octets_in(becomes: &Becomes) -> Result<&[u8], Fail> {
 // Checks the streams of a table.
 fn check_in_turn(alloc: Global, table: &str) -> Result<(), Fail> {
     for part in table.split("\n\n") {
-        let (name, rows) = part.trim().split_once(":\n").ok_or("no type")?;
-        let ty = type_of(alloc, name)?;
-        stream_of(alloc, &ty, rows)?.check(alloc, &ty)?;
+        check_part(alloc, part.trim())?;
     }
     Ok(())
+}
+
+// Checks the stream of a type and the rows below it.
+fn check_part(alloc: Global, part: &str) -> Result<(), Fail> {
+    let (name, rows) = part.split_once(":\n").ok_or("no type")?;
+    let ty = type_of(alloc, name)?;
+    stream_of(alloc, &ty, rows)?.check(alloc, &ty)
 }
 
 // The stream that rows of a type are.

@@ -3,15 +3,20 @@
 use convert::{
     Canonical, FromSlice, Rule, ToVec, Ty, WellTyped, convert, transcode, type_from, unhex,
 };
+use std::alloc::Global;
 use std::test::Fail;
+
+fn written_by_der(alloc: Global, digits: &[u8]) -> Result<Vec<u8>, Fail> {
+    let ty = WellTyped::new(Ty::boolean())?;
+    let octets = unhex(alloc, digits)?;
+    let from = Rule::Ber;
+    let to = Canonical::Der;
+    Ok(transcode(alloc, &ty, from, to, octets.as_slice())?)
+}
 
 #[test]
 fn reads_ber_and_writes_der(rt: HostRuntime) -> Result<(), Fail> {
-    let ty = WellTyped::new(Ty::boolean())?;
-    let octets = unhex(rt.alloc(), b"01 01 2a")?;
-    let from = Rule::Ber;
-    let to = Canonical::Der;
-    let written = transcode(rt.alloc(), &ty, from, to, octets.as_slice())?;
+    let written = written_by_der(rt.alloc(), b"01 01 2a")?;
     assert_eq!(rt; written.as_slice(), [0x01, 0x01, 0xFF].as_slice());
     Ok(())
 }

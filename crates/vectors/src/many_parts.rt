@@ -81,8 +81,7 @@ fn integer(alloc: Global, number: u16) -> Result<String, Fail> {
 // Checks that the items of a SET OF INTEGER become these others.
 fn check_ordered(alloc: Global, items: &str, ascending: &str) -> Result<(), Fail> {
     let ty = type_of(alloc, "SET OF INTEGER")?;
-    let becomes = format!(in alloc; "31829BC0{ascending} | 3180{ascending}0000")?;
-    let line = format!(in alloc; "31829BC0{items} | {becomes}")?;
+    let line = format!(in alloc; "31829BC0{items} | 31829BC0{ascending} | 3180{ascending}0000")?;
     check_line(alloc, &ty, line.as_str())
 }
 

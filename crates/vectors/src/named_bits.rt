@@ -2,7 +2,7 @@
 
 use crate::checks::check_table;
 use crate::rows::octets_of;
-use crate::tables::{Table, check, has_fault, is_yes, numbers_of, three, two};
+use crate::tables::{Table, check, has_fault, is_said, numbers_of, three, two};
 use convert::{Bits, Field, NamedBit, Ty, Value, WellTyped, conforms};
 use std::alloc::Global;
 use std::test::Fail;
@@ -179,8 +179,8 @@ struct Values;
 impl Table for Values {
     fn holds(alloc: Global, _ty: &WellTyped, row: &str) -> Result<bool, Fail> {
         let (octets, unused, want) = three(row)?;
-        let ty = named_bits(alloc, "0")?;
-        Ok(conforms(&ty, &bits(alloc, octets, unused)?) == is_yes(want)?)
+        let bits = bits(alloc, octets, unused)?;
+        is_said(conforms(&named_bits(alloc, "0")?, &bits), want)
     }
 }
 

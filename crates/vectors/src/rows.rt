@@ -1,10 +1,9 @@
 //! How the tables of octets are read.
 //!
-//! They are walked as `tables` says. A row has octets,
-//! what they become under DER, what under CER, and the text of their value, with bars between. All columns but the
-//! first may be empty, and the last ones missing. What octets become is octets, `kept` for the same ones, `refused`
-//! and a number, or `left over` where a value ends before the octets do. What a reader refuses stands in the second
-//! column alone, and `refused 14` means one writer.
+//! They are walked as `tables` says. A row has octets, what they become under DER, what under CER, and the text of
+//! their value, with bars between. All columns but the first may be empty, and the last ones missing. What octets
+//! become is octets, `kept` for the same ones, `refused` and a number, or `left over` where a value ends before the
+//! octets do. What a reader refuses stands in the second column alone, and `refused 14` means one writer.
 //!
 //! The columns are X.690's, by a converter that shares nothing with these crates. A row that is taken has all of
 //! them, but for texts of a thousand characters and more: `show` returns what `IsShown` says, by its own clause, and

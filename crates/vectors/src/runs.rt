@@ -5,7 +5,7 @@
 //! `--hex` the input is a text, and else octets as in the other tables; so are those that `convert` writes without
 //! it. In printed lines a semicolon stands for a line feed.
 
-use crate::answers::{line_of, run_over};
+use crate::answers::{Printed, line_of, run_over};
 use crate::rows::octets_of;
 use crate::tables::is_no_row;
 use program::Line;
@@ -171,11 +171,15 @@ pub fn check_run(alloc: Global, module: &str, row: &str) -> Result<(), Fail> {
     let words = format!(in alloc; "asn1x,{words}")?;
     let line = line_of(alloc, words.as_str().trim())?;
     let input = input_of(alloc, &line, run.input)?;
-    let (out, err, status) = run_over(alloc, &line, module, input.as_slice());
-    if is_printed(alloc, &line, &run, (&out, &err, status))? {
+    let printed = run_over(alloc, &line, module, input.as_slice());
+    if is_printed(alloc, &line, run, &printed)? {
         return Ok(());
     }
-    Err(Fail::new(format_args!("{status} with {out:?} and {err:?}: {row}")))
+    Err(other_printed(&printed, row))
+}
+
+fn other_printed((out, err, status): &Printed, row: &str) -> Fail {
+    Fail::new(format_args!("{status} with {out:?} and {err:?}: {row}"))
 }
 
 fn input_of(alloc: Global, line: &Line, column: &str) -> Result<Vec<u8>, Fail> {
@@ -193,14 +197,10 @@ fn output_of(alloc: Global, line: &Line, column: &str) -> Result<Vec<u8>, Fail> 
 }
 
 // Whether what a run prints, and its status, are what the columns say.
-fn is_printed(
-    alloc: Global,
-    line: &Line,
-    run: &Run,
-    (out, err, status): (&Vec<u8>, &Vec<u8>, u8),
-) -> Result<bool, Fail> {
+fn is_printed(alloc: Global, line: &Line, run: Run, printed: &Printed) -> Result<bool, Fail> {
+    let (out, err, status) = printed;
     Ok(
-        status == run.status.trim().parse::<u8>()?
+        *status == run.status.trim().parse::<u8>()?
             && *out == output_of(alloc, line, run.out)?
             && *err == lines_of(alloc, run.err)?,
     )

@@ -60,8 +60,7 @@ fn compared(
     }
     let same = same(alloc, ty, first, second)?;
     let first = order(alloc, ty, first)?;
-    let second = order(alloc, ty, second)?;
-    Ok((same, first == second))
+    Ok((same, first == order(alloc, ty, second)?))
 }
 
 // Whether two encodings are the same under a rule.

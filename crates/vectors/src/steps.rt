@@ -3,7 +3,7 @@
 use crate::answers::text_of;
 use crate::tables::{Table, check, two};
 use berreader::{Reader, Step};
-use convert::{Refusal, WellTyped, unhex};
+use convert::{Refusal, Value, WellTyped, unhex};
 use std::alloc::Global;
 use std::test::Fail;
 
@@ -84,8 +84,9 @@ A0 05; ; A1 03; ; 01; ; 01 01 | More; More; More; More; More; More; Done 2 TRUE;
 // What is answered to pieces, in words.
 fn answers_to(alloc: Global, ty: &WellTyped, pieces: &str) -> Result<String, Fail> {
     let mut reader = Reader::new(alloc, ty);
-    let answers = fed(alloc, ty, &mut reader, pieces)?;
-    with_end(alloc, answers, reader.finish())
+    let answers = fed(alloc, ty, &mut reader, pieces);
+    let end = reader.finish();
+    with_end(alloc, answers?, end)
 }
 
 // What is answered to each piece.
@@ -121,12 +122,13 @@ fn with_end(alloc: Global, answers: String, end: Result<(), Refusal>) -> Result<
 fn word_of(alloc: Global, ty: &WellTyped, answer: Result<Step, Refusal>) -> Result<String, Fail> {
     Ok(match answer {
         Ok(Step::More) => String::from_str(alloc, "More")?,
-        Ok(Step::Done { value, used }) => done(alloc, text_of(alloc, ty, &value)?, used)?,
+        Ok(Step::Done { value, used }) => done(alloc, ty, &value, used)?,
         Err(refusal) => number_of(alloc, refusal)?,
     })
 }
 
-fn done(alloc: Global, text: String, used: usize) -> Result<String, Fail> {
+fn done(alloc: Global, ty: &WellTyped, value: &Value, used: usize) -> Result<String, Fail> {
+    let text = text_of(alloc, ty, value)?;
     Ok(format!(in alloc; "Done {used} {text}")?)
 }
 

@@ -45,8 +45,7 @@ pub fn check_stopped(alloc: Global, row: &Row, number: u8) -> Result<(), Fail> {
     let octets = row.octets.as_slice();
     let number = if octets.is_empty() { 0 } else { number };
     for to in [Canonical::Cer, Canonical::Der] {
-        let found = convert_stream(alloc, (Rule::Ber, to), row.ty, octets);
-        expect(is_stopped(&found, number), "a stream converted", row)?;
+        check_unwritten(alloc, row, to, number)?;
     }
     let found = list_stream(alloc, row.ty, octets);
     expect(is_stopped(&found, number), "a stream listed", row)?;

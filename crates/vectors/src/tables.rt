@@ -51,11 +51,11 @@ pub fn three(row: &str) -> Result<(&str, &str, &str), Fail> {
     Ok((first, second, third))
 }
 
-/// Whether a column says yes; it says yes or no.
-pub fn is_yes(column: &str) -> Result<bool, Fail> {
+/// Whether what was found is what a column says, which is yes or no.
+pub fn is_said(found: bool, column: &str) -> Result<bool, Fail> {
     match column {
-        "yes" => Ok(true),
-        "no" => Ok(false),
+        "yes" => Ok(found),
+        "no" => Ok(!found),
         _ => Err("neither yes nor no".into()),
     }
 }

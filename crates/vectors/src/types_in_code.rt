@@ -42,8 +42,8 @@ fn of_characters(notation: &str) -> Option<Ty> {
 // The type of one word or two, or one that has parts
 fn of_notation(alloc: Global, notation: &str) -> Result<Ty, Fail> {
     Ok(match notation {
-        "ENUMERATED { x(1) }" => Ty::enumerated(vec![in alloc; Item::new(alloc, "x", 1)?]?),
-        "BIT STRING { y(1) }" => Ty::named_bits(vec![in alloc; NamedBit::new(alloc, "y", 1)?]?),
+        "ENUMERATED { x(1) }" => one_item(alloc)?,
+        "BIT STRING { y(1) }" => one_bit(alloc)?,
         "SEQUENCE { }" => Ty::sequence(Vec::new(alloc)),
         "SET { }" => Ty::set(Vec::new(alloc)),
         "SEQUENCE OF NULL" => Ty::sequence_of(alloc, Ty::null())?,
@@ -51,6 +51,16 @@ fn of_notation(alloc: Global, notation: &str) -> Result<Ty, Fail> {
         "EXPLICIT NULL" => Ty::null().explicit(alloc, context(99))?,
         _ => of_words(notation).ok_or("no type has this notation")?,
     })
+}
+
+fn one_item(alloc: Global) -> Result<Ty, AllocError> {
+    let x = Item::new(alloc, "x", 1)?;
+    Ok(Ty::enumerated(vec![in alloc; x]?))
+}
+
+fn one_bit(alloc: Global) -> Result<Ty, AllocError> {
+    let y = NamedBit::new(alloc, "y", 1)?;
+    Ok(Ty::named_bits(vec![in alloc; y]?))
 }
 
 const WITHOUT_PARTS: &str = "\
@@ -81,16 +91,33 @@ const WITH_PARTS: &str = "
         either [3] CHOICE { yes BOOLEAN, no [APPLICATION 7] IMPLICIT SEQUENCE { } }
     }";
 
-fn with_parts(alloc: Global) -> Result<Ty, AllocError> {
+fn with_parts(alloc: Global) -> Result<Ty, Fail> {
     let mut fields = Vec::new(alloc);
-    fields.push(Field::optional(alloc, "colour", colour(alloc)?)?)?;
-    fields.push(Field::required(alloc, "flags", flags(alloc)?)?)?;
-    let count = Ty::integer().implicit(alloc, context(0))?;
-    fields.push(Field::default(alloc, "count", count, Value::Integer(5))?)?;
-    fields.push(Field::required(alloc, "names", names(alloc)?)?)?;
-    fields.push(Field::required(alloc, "marks", marks(alloc)?)?)?;
-    fields.push(Field::required(alloc, "either", either(alloc)?)?)?;
+    for name in "colour flags count names marks either".split(' ') {
+        fields.push(part_named(alloc, name)?)?;
+    }
     Ok(Ty::set(fields))
+}
+
+fn part_named(alloc: Global, name: &str) -> Result<Field, Fail> {
+    let ty = type_of_part(alloc, name)?;
+    Ok(match name {
+        "colour" => Field::optional(alloc, name, ty)?,
+        "count" => Field::default(alloc, name, ty, Value::Integer(5))?,
+        _ => Field::required(alloc, name, ty)?,
+    })
+}
+
+fn type_of_part(alloc: Global, name: &str) -> Result<Ty, Fail> {
+    Ok(match name {
+        "colour" => colour(alloc)?,
+        "flags" => flags(alloc)?,
+        "count" => Ty::integer().implicit(alloc, context(0))?,
+        "names" => names(alloc)?,
+        "marks" => marks(alloc)?,
+        "either" => either(alloc)?,
+        _ => return Err("no such component".into()),
+    })
 }
 
 fn colour(alloc: Global) -> Result<Ty, AllocError> {
@@ -114,11 +141,14 @@ fn marks(alloc: Global) -> Result<Ty, AllocError> {
 }
 
 fn either(alloc: Global) -> Result<Ty, AllocError> {
-    let class = Class::Application;
-    let no = Ty::sequence(Vec::new(alloc)).implicit(alloc, Tag { class, number: 7 })?;
     let yes = Alternative::new(alloc, "yes", Ty::boolean())?;
-    let no = Alternative::new(alloc, "no", no)?;
+    let no = Alternative::new(alloc, "no", no(alloc)?)?;
     Ty::choice(vec![in alloc; yes, no]?).implicit(alloc, context(3))
+}
+
+fn no(alloc: Global) -> Result<Ty, AllocError> {
+    let class = Class::Application;
+    Ty::sequence(Vec::new(alloc)).implicit(alloc, Tag { class, number: 7 })
 }
 
 // Under IMPLICIT TAGS, where each tag is in place of the type's own
@@ -143,11 +173,13 @@ fn alternative_of(alloc: Global, alternative: &str) -> Result<Alternative, Fail>
     Ok(Alternative::new(alloc, name, ty)?)
 }
 
-// Whether a type is what a notation means, and what is meant by the one that it is printed in
-fn is_meant(alloc: Global, ty: &Ty, tags: &str, notation: &str) -> Result<bool, Fail> {
+// Checks that a type is what a notation means, and what is meant by the one that it is printed in
+fn check_meant(alloc: Global, ty: &Ty, tags: &str, notation: &str) -> Result<(), Fail> {
     let printed = format!(in alloc; "{ty}")?;
-    let is_printed = means(alloc, "EXPLICIT", printed.as_str(), ty)?;
-    Ok(is_printed && means(alloc, tags, notation, ty)?)
+    if means(alloc, "EXPLICIT", printed.as_str(), ty)? && means(alloc, tags, notation, ty)? {
+        return Ok(());
+    }
+    Err(Fail::new(format_args!("not {notation}: {printed}")))
 }
 
 // Whether a notation means a type
@@ -159,31 +191,20 @@ fn means(alloc: Global, tags: &str, notation: &str, ty: &Ty) -> Result<bool, Fai
 
 #[test]
 fn without_parts_as_in_the_notation(rt: HostRuntime) -> Result<(), Fail> {
-    let alloc = rt.alloc();
-    let notation = format!(in alloc; "SEQUENCE {{ {WITHOUT_PARTS} }}")?;
-    let ty = without_parts(alloc)?;
-    assert!(rt;
-        is_meant(alloc, &ty, "EXPLICIT", notation.as_str())?,
-        "{ty}"
-    );
-    Ok(())
+    let notation = format!(in rt.alloc(); "SEQUENCE {{ {WITHOUT_PARTS} }}")?;
+    let ty = without_parts(rt.alloc())?;
+    check_meant(rt.alloc(), &ty, "EXPLICIT", notation.as_str())
 }
 
 #[test]
 fn with_parts_as_in_the_notation(rt: HostRuntime) -> Result<(), Fail> {
     let ty = with_parts(rt.alloc())?;
-    assert!(rt; is_meant(rt.alloc(), &ty, "EXPLICIT", WITH_PARTS)?, "{ty}");
-    Ok(())
+    check_meant(rt.alloc(), &ty, "EXPLICIT", WITH_PARTS)
 }
 
 #[test]
 fn tagged_as_in_the_notation(rt: HostRuntime) -> Result<(), Fail> {
-    let alloc = rt.alloc();
-    let notation = format!(in alloc; "CHOICE {{ {TAGGED} }}")?;
-    let ty = tagged(alloc)?;
-    assert!(rt;
-        is_meant(alloc, &ty, "IMPLICIT", notation.as_str())?,
-        "{ty}"
-    );
-    Ok(())
+    let notation = format!(in rt.alloc(); "CHOICE {{ {TAGGED} }}")?;
+    let ty = tagged(rt.alloc())?;
+    check_meant(rt.alloc(), &ty, "IMPLICIT", notation.as_str())
 }

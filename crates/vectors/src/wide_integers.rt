@@ -2,7 +2,7 @@
 
 use crate::checks::check_table;
 use crate::rows::octets_of;
-use crate::tables::{Table, check, has_fault, is_yes, two};
+use crate::tables::{Table, check, has_fault, is_said, two};
 use convert::{Field, Ty, Value, WellTyped, conforms};
 use std::alloc::Global;
 use std::test::Fail;
@@ -55,7 +55,7 @@ impl Table for Values {
     fn holds(alloc: Global, _ty: &WellTyped, row: &str) -> Result<bool, Fail> {
         let (octets, want) = two(row)?;
         let value = Value::WideInteger(octets_of(alloc, octets)?);
-        Ok(conforms(&Ty::integer(), &value) == is_yes(want)?)
+        is_said(conforms(&Ty::integer(), &value), want)
     }
 }
 
@@ -64,12 +64,23 @@ fn values(rt: HostRuntime) -> Result<(), Fail> {
     check::<Values>(rt.alloc(), VALUES)
 }
 
+// contents octets of a default | fault
+const DEFAULTS: &str = "\
+00 80, 00 x15   | BadDefault
+";
+
+struct Defaults;
+
+impl Table for Defaults {
+    fn holds(alloc: Global, _ty: &WellTyped, row: &str) -> Result<bool, Fail> {
+        let (octets, fault) = two(row)?;
+        let value = Value::WideInteger(octets_of(alloc, octets)?);
+        let field = Field::default(alloc, "a", Ty::integer(), value)?;
+        has_fault(alloc, Ty::sequence(vec![in alloc; field]?), fault)
+    }
+}
+
 #[test]
 fn no_default(rt: HostRuntime) -> Result<(), Fail> {
-    let alloc = rt.alloc();
-    let value = Value::WideInteger(octets_of(alloc, "00 80, 00 x15")?);
-    let field = Field::default(alloc, "a", Ty::integer(), value)?;
-    let ty = Ty::sequence(vec![in alloc; field]?);
-    assert!(rt; has_fault(alloc, ty, "BadDefault")?);
-    Ok(())
+    check::<Defaults>(rt.alloc(), DEFAULTS)
 }
