@@ -26,9 +26,9 @@ const ARCS: &str = "\
 1 x130  | no  | no
 ";
 
-struct Arcs;
+struct WhetherArcs;
 
-impl Table for Arcs {
+impl Table for WhetherArcs {
     fn holds(alloc: Global, _ty: &WellTyped, row: &str) -> Result<bool, Fail> {
         let (arcs, absolute, relative) = three(row)?;
         let is_absolute = are_absolute(arcs_of(alloc, arcs)?);
@@ -63,5 +63,5 @@ fn arcs_of(alloc: Global, column: &str) -> Result<Vec<u128>, Fail> {
 
 #[test]
 fn arcs(rt: HostRuntime) -> Result<(), Fail> {
-    check::<Arcs>(rt.alloc(), ARCS)
+    check::<WhetherArcs>(rt.alloc(), ARCS)
 }

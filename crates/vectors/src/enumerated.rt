@@ -48,9 +48,9 @@ const ITEMS: &str = "\
 0..257 | TooLarge
 ";
 
-struct Items;
+struct ItemFaults;
 
-impl Table for Items {
+impl Table for ItemFaults {
     fn holds(alloc: Global, _ty: &WellTyped, row: &str) -> Result<bool, Fail> {
         let (numbers, fault) = two(row)?;
         has_fault(alloc, enumerated(alloc, numbers)?, fault)
@@ -66,9 +66,9 @@ ENUMERATED 2 | no
 INTEGER 3    | no
 ";
 
-struct Values;
+struct Conforming;
 
-impl Table for Values {
+impl Table for Conforming {
     fn holds(alloc: Global, _ty: &WellTyped, row: &str) -> Result<bool, Fail> {
         let (value, want) = two(row)?;
         let value = value_of(value)?;
@@ -93,10 +93,10 @@ fn encodings(rt: HostRuntime) -> Result<(), Fail> {
 
 #[test]
 fn items(rt: HostRuntime) -> Result<(), Fail> {
-    check::<Items>(rt.alloc(), ITEMS)
+    check::<ItemFaults>(rt.alloc(), ITEMS)
 }
 
 #[test]
 fn values(rt: HostRuntime) -> Result<(), Fail> {
-    check::<Values>(rt.alloc(), VALUES)
+    check::<Conforming>(rt.alloc(), VALUES)
 }

@@ -155,9 +155,9 @@ const NUMBERS: &str = "\
 0..257    | TooLarge
 ";
 
-struct Numbers;
+struct NumberFaults;
 
-impl Table for Numbers {
+impl Table for NumberFaults {
     fn holds(alloc: Global, _ty: &WellTyped, row: &str) -> Result<bool, Fail> {
         let (numbers, fault) = two(row)?;
         has_fault(alloc, named_bits(alloc, numbers)?, fault)
@@ -174,9 +174,9 @@ A0    | 4 | no
 80 00 | 0 | no
 ";
 
-struct Values;
+struct Conforming;
 
-impl Table for Values {
+impl Table for Conforming {
     fn holds(alloc: Global, _ty: &WellTyped, row: &str) -> Result<bool, Fail> {
         let (octets, unused, want) = three(row)?;
         let bits = bits(alloc, octets, unused)?;
@@ -191,10 +191,10 @@ fn no_untrimmed_default(rt: HostRuntime) -> Result<(), Fail> {
 
 #[test]
 fn numbers(rt: HostRuntime) -> Result<(), Fail> {
-    check::<Numbers>(rt.alloc(), NUMBERS)
+    check::<NumberFaults>(rt.alloc(), NUMBERS)
 }
 
 #[test]
 fn values(rt: HostRuntime) -> Result<(), Fail> {
-    check::<Values>(rt.alloc(), VALUES)
+    check::<Conforming>(rt.alloc(), VALUES)
 }

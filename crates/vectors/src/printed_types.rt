@@ -40,9 +40,9 @@ fn printed(alloc: Global, text: &str) -> Result<String, Fail> {
     Ok(format!(in alloc; "{ty}", ty = ty.as_type())?)
 }
 
-struct Printed;
+struct PrintedAgain;
 
-impl Table for Printed {
+impl Table for PrintedAgain {
     fn holds(alloc: Global, _ty: &WellTyped, row: &str) -> Result<bool, Fail> {
         Ok(printed(alloc, row)?.as_str() == row)
     }
@@ -50,5 +50,5 @@ impl Table for Printed {
 
 #[test]
 fn are_printed_as_they_are_written(rt: HostRuntime) -> Result<(), Fail> {
-    check::<Printed>(rt.alloc(), PRINTED)
+    check::<PrintedAgain>(rt.alloc(), PRINTED)
 }

@@ -100,9 +100,9 @@ fn is_said(
     )
 }
 
-struct Pairs;
+struct SameOrOther;
 
-impl Table for Pairs {
+impl Table for SameOrOther {
     fn holds(alloc: Global, ty: &WellTyped, row: &str) -> Result<bool, Fail> {
         let (first, second, want) = three(row)?;
         let first = octets_of(alloc, first)?;
@@ -114,5 +114,5 @@ impl Table for Pairs {
 
 #[test]
 fn pairs(rt: HostRuntime) -> Result<(), Fail> {
-    check::<Pairs>(rt.alloc(), PAIRS)
+    check::<SameOrOther>(rt.alloc(), PAIRS)
 }

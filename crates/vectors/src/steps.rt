@@ -137,9 +137,9 @@ fn number_of(alloc: Global, refusal: Refusal) -> Result<String, Fail> {
     Ok(format!(in alloc; "{number}")?)
 }
 
-struct Answers;
+struct ToPieces;
 
-impl Table for Answers {
+impl Table for ToPieces {
     fn holds(alloc: Global, ty: &WellTyped, row: &str) -> Result<bool, Fail> {
         let (pieces, want) = two(row)?;
         let found = answers_to(alloc, ty, pieces)?;
@@ -152,10 +152,10 @@ impl Table for Answers {
 
 #[test]
 fn answers(rt: HostRuntime) -> Result<(), Fail> {
-    check::<Answers>(rt.alloc(), ANSWERS)
+    check::<ToPieces>(rt.alloc(), ANSWERS)
 }
 
 #[test]
 fn answers_to_empty_pieces(rt: HostRuntime) -> Result<(), Fail> {
-    check::<Answers>(rt.alloc(), EMPTY_PIECES)
+    check::<ToPieces>(rt.alloc(), EMPTY_PIECES)
 }

@@ -49,9 +49,9 @@ FF 7F, FF x15   | yes
 01 00, 00 x1023 | no
 ";
 
-struct Values;
+struct Conforming;
 
-impl Table for Values {
+impl Table for Conforming {
     fn holds(alloc: Global, _ty: &WellTyped, row: &str) -> Result<bool, Fail> {
         let (octets, want) = two(row)?;
         let value = Value::WideInteger(octets_of(alloc, octets)?);
@@ -61,7 +61,7 @@ impl Table for Values {
 
 #[test]
 fn values(rt: HostRuntime) -> Result<(), Fail> {
-    check::<Values>(rt.alloc(), VALUES)
+    check::<Conforming>(rt.alloc(), VALUES)
 }
 
 // contents octets of a default | fault
