@@ -85,7 +85,7 @@ fn check_ordered(alloc: Global, items: &str, ascending: &str) -> Result<(), Fail
     check_line(alloc, &ty, line.as_str())
 }
 
-// The first two items exchanged
+// The first two items exchanged.
 fn exchanged(alloc: Global, ascending: &str) -> Result<String, Fail> {
     let others = ascending.strip_prefix("020100020101");
     let others = others.ok_or("other items first")?;

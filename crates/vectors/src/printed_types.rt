@@ -5,7 +5,7 @@ use convert::{WellTyped, type_from};
 use std::alloc::Global;
 use std::test::Fail;
 
-// Types in a notation that says each tag and keyword, as they are printed
+// Types in a notation that says each tag and keyword, as they are printed.
 const PRINTED: &str = "\
 BOOLEAN
 [0] IMPLICIT INTEGER
@@ -33,7 +33,7 @@ SEQUENCE { a OCTET STRING DEFAULT '0A00FF'H, b [0] IMPLICIT OCTET STRING DEFAULT
 SEQUENCE { a UTF8String DEFAULT \"say \"\"Grüß Gott\"\"\", b [5] IMPLICIT IA5String DEFAULT \"\" }
 ";
 
-// What a text means as a type where tags are explicit, printed
+// What a text means as a type where tags are explicit, printed.
 fn printed(alloc: Global, text: &str) -> Result<String, Fail> {
     let module = format!(in alloc; "M DEFINITIONS EXPLICIT TAGS ::= BEGIN T ::= {text} END")?;
     let ty = type_from(alloc, module.as_bytes(), "T")?;

@@ -11,7 +11,7 @@ fn context(number: u32) -> Tag {
     Tag { class, number }
 }
 
-// The type of one word or two
+// The type of one word or two.
 fn of_words(notation: &str) -> Option<Ty> {
     Some(match notation {
         "BOOLEAN" => Ty::boolean(),
@@ -39,7 +39,7 @@ fn of_characters(notation: &str) -> Option<Ty> {
     })
 }
 
-// The type of one word or two, or one that has parts
+// The type of one word or two, or one that has parts.
 fn of_notation(alloc: Global, notation: &str) -> Result<Ty, Fail> {
     Ok(match notation {
         "ENUMERATED { x(1) }" => one_item(alloc)?,
@@ -151,7 +151,7 @@ fn no(alloc: Global) -> Result<Ty, AllocError> {
     Ty::sequence(Vec::new(alloc)).implicit(alloc, Tag { class, number: 7 })
 }
 
-// Under IMPLICIT TAGS, where each tag is in place of the type's own
+// Under IMPLICIT TAGS, where each tag is in place of the type's own.
 const TAGGED: &str = "\
 a [0] BOOLEAN, b [1] INTEGER, c [2] NULL, d [3] OBJECT IDENTIFIER, e [4] RELATIVE-OID, f [5] BIT STRING, \
 g [6] OCTET STRING, h [7] UTF8String, i [8] UTCTime, j [9] ENUMERATED { x(1) }, k [10] BIT STRING { y(1) }, \
@@ -173,7 +173,7 @@ fn alternative_of(alloc: Global, alternative: &str) -> Result<Alternative, Fail>
     Ok(Alternative::new(alloc, name, ty)?)
 }
 
-// Checks that a type is what a notation means, and what is meant by the one that it is printed in
+// Checks that a type is what a notation means, and what is meant by the one that it is printed in.
 fn check_meant(alloc: Global, ty: &Ty, tags: &str, notation: &str) -> Result<(), Fail> {
     let printed = format!(in alloc; "{ty}")?;
     if means(alloc, "EXPLICIT", printed.as_str(), ty)? && means(alloc, tags, notation, ty)? {
@@ -182,7 +182,7 @@ fn check_meant(alloc: Global, ty: &Ty, tags: &str, notation: &str) -> Result<(),
     Err(Fail::new(format_args!("not {notation}: {printed}")))
 }
 
-// Whether a notation means a type
+// Whether a notation means a type.
 fn means(alloc: Global, tags: &str, notation: &str, ty: &Ty) -> Result<bool, Fail> {
     let module = format!(in alloc; "M DEFINITIONS {tags} TAGS ::= BEGIN T ::= {notation} END")?;
     let named = type_from(alloc, module.as_bytes(), "T")?;
