@@ -10,3 +10,5 @@ mod dripping;
 mod on_devices;
 #[cfg(test)]
 mod programs;
+#[cfg(test)]
+mod rows;

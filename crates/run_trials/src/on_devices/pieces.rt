@@ -1,6 +1,7 @@
 //! Pieces of a source, and parts of what is written.
 
 use crate::dripping::Dripping;
+use crate::rows::{Table, check, numbers_of, three, two};
 use devices::{Failed, FromReader, FromSlice, Piece, Source, whole_parts};
 use std::alloc::{AllocError, Global};
 use std::io::ErrorKind;
@@ -15,32 +16,53 @@ fn counted(alloc: Global, count: usize) -> Result<Vec<u8>, AllocError> {
     Ok(octets)
 }
 
+// Whether a read into a piece is answered, and gives it so many octets, which are put behind `read`.
+fn gives(
+    source: &mut FromSlice<'_>,
+    piece: &mut Piece,
+    want: usize,
+    read: &mut Vec<u8>,
+) -> Result<bool, AllocError> {
+    let is_given = !source.failed() && piece.read_from(source) == Ok(());
+    read.extend_from_slice(piece.octets())?;
+    Ok(is_given && piece.octets().len() == want)
+}
+
+// Whether a slice gives pieces of these sizes, and in them its octets.
+fn has_pieces(alloc: Global, octets: &[u8], sizes: &[usize]) -> Result<bool, AllocError> {
+    let mut source = FromSlice::new(octets);
+    let mut piece = Piece::new();
+    let mut is_so = piece.octets().is_empty();
+    let mut read = Vec::new(alloc);
+    for size in sizes {
+        is_so &= gives(&mut source, &mut piece, *size, &mut read)?;
+    }
+    Ok(is_so && read.as_slice() == octets)
+}
+
+struct Pieces;
+
+impl Table for Pieces {
+    fn holds(alloc: Global, row: &str) -> Result<bool, Fail> {
+        let (size, sizes) = two(row)?;
+        let octets = counted(alloc, size.parse::<usize>()?)?;
+        let sizes = numbers_of(alloc, sizes)?;
+        Ok(has_pieces(alloc, octets.as_slice(), sizes.as_slice())?)
+    }
+}
+
+// octets of the source | octets of its first pieces
+const PIECES: &str = "\
+0      | 0 0 0
+1      | 1 0 0
+131071 | 131071 0 0
+131072 | 131072 0 0
+131073 | 131072 1 0
+280000 | 131072 131072 17856";
+
 #[test]
 fn pieces_of_a_slice(rt: HostRuntime) -> Result<(), Fail> {
-    // (octets of the source, octets of its first pieces)
-    let cases = [
-        (0, [0, 0, 0]),
-        (1, [1, 0, 0]),
-        (131_071, [131_071, 0, 0]),
-        (131_072, [131_072, 0, 0]),
-        (131_073, [131_072, 1, 0]),
-        (280_000, [131_072, 131_072, 17_856]),
-    ];
-    for (size, sizes) in cases {
-        let octets = counted(rt.alloc(), size)?;
-        let mut source = FromSlice::new(octets.as_slice());
-        let mut piece = Piece::new();
-        assert_eq!(rt; piece.octets().len(), 0);
-        let mut read = Vec::new(rt.alloc());
-        for want in sizes {
-            assert_eq!(rt; source.failed(), false);
-            assert_eq!(rt; piece.read_from(&mut source), Ok(()));
-            assert_eq!(rt; piece.octets().len(), want, "of {size}");
-            read.extend_from_slice(piece.octets())?;
-        }
-        assert_eq!(rt; read.as_slice(), octets.as_slice());
-    }
-    Ok(())
+    check::<Pieces>(rt.alloc(), PIECES)
 }
 
 #[test]
@@ -58,23 +80,32 @@ fn pieces_of_a_reader_that_fails(rt: HostRuntime) {
     assert_eq!(rt; source.failed(), true);
 }
 
-#[test]
-fn parts_that_are_whole(rt: HostRuntime) {
-    // (lengths of the parts, how many octets of them, how many parts are whole)
-    let cases: [(&[usize], usize, usize); 11] = [
-        (&[], 0, 0),
-        (&[], 5, 0),
-        (&[3], 0, 0),
-        (&[3], 2, 0),
-        (&[3], 3, 1),
-        (&[3, 2], 4, 1),
-        (&[3, 2], 5, 2),
-        (&[3, 2, 4], 5, 2),
-        (&[3, 2, 4], 8, 2),
-        (&[3, 2, 4], 9, 3),
-        (&[usize::MAX, usize::MAX], usize::MAX, 1),
-    ];
-    for (lengths, at, count) in cases {
-        assert_eq!(rt; whole_parts(lengths, at), count, "{at} of {lengths:?}");
+struct WholeParts;
+
+impl Table for WholeParts {
+    fn holds(alloc: Global, row: &str) -> Result<bool, Fail> {
+        let (lengths, at, count) = three(row)?;
+        let lengths = numbers_of(alloc, lengths)?;
+        let found = whole_parts(lengths.as_slice(), at.parse::<usize>()?);
+        Ok(found == count.parse::<usize>()?)
     }
+}
+
+// lengths of the parts | how many octets of them | how many parts are whole
+const PARTS: &str = "\
+      | 0 | 0
+      | 5 | 0
+3     | 0 | 0
+3     | 2 | 0
+3     | 3 | 1
+3 2   | 4 | 1
+3 2   | 5 | 2
+3 2 4 | 5 | 2
+3 2 4 | 8 | 2
+3 2 4 | 9 | 3
+18446744073709551615 18446744073709551615 | 18446744073709551615 | 1";
+
+#[test]
+fn parts_that_are_whole(rt: HostRuntime) -> Result<(), Fail> {
+    check::<WholeParts>(rt.alloc(), PARTS)
 }

@@ -1,24 +1,27 @@
 //! What sinks take, and when they fail.
 
 use crate::dripping::Filling;
+use crate::rows::{Table, check, four, prints};
 use devices::{Failed, Sink, ToVec, ToWriter, write_all};
+use std::alloc::Global;
 use std::io::ErrorKind;
 use std::test::Fail;
+
+// Whether a sink takes octets, and its vector then has these.
+fn takes(sink: &mut ToVec, octets: &[u8], want: &[u8]) -> bool {
+    !sink.failed() && sink.write(octets) == Ok(octets.len()) && sink.as_slice() == want
+}
 
 #[test]
 fn vectors(rt: HostRuntime) -> Result<(), Fail> {
     let mut octets = Vec::new(rt.alloc());
     octets.push(b'a')?;
     let mut sink = ToVec::new(octets);
-    // (octets, what the vector then has)
-    let cases: [(&[u8], &[u8]); 3] = [(b"", b"a"), (b"bc", b"abc"), (b"d", b"abcd")];
-    for (octets, want) in cases {
-        assert_eq!(rt; sink.failed(), false);
-        assert_eq!(rt; sink.write(octets), Ok(octets.len()), "of {octets:?}");
-        assert_eq!(rt; sink.as_slice(), want);
-    }
-    assert_eq!(rt; sink.failed(), false);
-    assert_eq!(rt; sink.into_vec().as_slice(), b"abcd".as_slice());
+    assert!(rt; takes(&mut sink, b"", b"a"));
+    assert!(rt; takes(&mut sink, b"bc", b"abc"));
+    assert!(rt; takes(&mut sink, b"d", b"abcd"));
+    assert!(rt; !sink.failed());
+    assert!(rt; sink.into_vec().as_slice() == b"abcd".as_slice());
     Ok(())
 }
 
@@ -32,39 +35,53 @@ fn writers_that_take_all(rt: HostRuntime) -> Result<(), Fail> {
     Ok(())
 }
 
-#[test]
-fn writers_that_fail(rt: HostRuntime) {
-    // (most octets a call, how many calls go well, what is returned, what was taken)
-    let cases: [(usize, usize, Result<(), usize>, &[u8]); 10] = [
-        (1, 0, Err(0), b""),
-        (1, 1, Err(1), b"a"),
-        (1, 2, Err(2), b"ab"),
-        (1, 4, Err(4), b"abcd"),
-        (1, 5, Ok(()), b"abcde"),
-        (2, 1, Err(2), b"ab"),
-        (2, 2, Err(4), b"abcd"),
-        (2, 3, Ok(()), b"abcde"),
-        (9, 0, Err(0), b""),
-        (9, 1, Ok(()), b"abcde"),
-    ];
-    for then in [ErrorKind::StorageFull, ErrorKind::Interrupted] {
-        for (most, good_calls, want, taken) in cases {
-            let mut sink = ToWriter::new(Filling {
-                taken: Vec::new(rt.alloc()),
-                most,
-                good_calls,
-                then,
-            });
-            let answer = write_all(&mut sink, b"abcde");
-            assert_eq!(rt; answer, want, "after {good_calls} calls of {most}");
-            assert_eq!(rt;
-                sink.failed(),
-                want.is_err(),
-                "after {good_calls} calls of {most}"
-            );
-            assert_eq!(rt; sink.into_inner().taken.as_slice(), taken);
-        }
+// What is returned of a writer that is to take all, whether the sink has failed, and what was taken.
+fn written(filling: Filling) -> (Result<(), usize>, bool, Vec<u8>) {
+    let mut sink = ToWriter::new(filling);
+    let answer = write_all(&mut sink, b"abcde");
+    let failed = sink.failed();
+    (answer, failed, sink.into_inner().taken)
+}
+
+// Whether a writer that fails so is as the columns of a row say.
+fn is_written(alloc: Global, row: &str, then: ErrorKind) -> Result<bool, Fail> {
+    let (most, good_calls, want, taken) = four(row)?;
+    let (answer, failed, found) = written(Filling {
+        taken: Vec::new(alloc),
+        most: most.parse::<usize>()?,
+        good_calls: good_calls.parse::<usize>()?,
+        then,
+    });
+    let is_so = failed == answer.is_err() && found.as_slice() == taken.as_bytes();
+    Ok(is_so && prints(alloc, &answer, want)?)
+}
+
+// Writers that fail, also by an error that says that the call was interrupted.
+struct FailingWriters;
+
+impl Table for FailingWriters {
+    fn holds(alloc: Global, row: &str) -> Result<bool, Fail> {
+        let is_full = is_written(alloc, row, ErrorKind::StorageFull)?;
+        Ok(is_full && is_written(alloc, row, ErrorKind::Interrupted)?)
     }
+}
+
+// most octets a call | how many calls go well | what is returned | what was taken
+const FAILING_WRITERS: &str = "\
+1 | 0 | Err(0) |
+1 | 1 | Err(1) | a
+1 | 2 | Err(2) | ab
+1 | 4 | Err(4) | abcd
+1 | 5 | Ok(()) | abcde
+2 | 1 | Err(2) | ab
+2 | 2 | Err(4) | abcd
+2 | 3 | Ok(()) | abcde
+9 | 0 | Err(0) |
+9 | 1 | Ok(()) | abcde";
+
+#[test]
+fn writers_that_fail(rt: HostRuntime) -> Result<(), Fail> {
+    check::<FailingWriters>(rt.alloc(), FAILING_WRITERS)
 }
 
 #[test]

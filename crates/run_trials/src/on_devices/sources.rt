@@ -1,8 +1,9 @@
 //! What sources give, and when they fail.
 
 use crate::dripping::Dripping;
+use crate::rows::{Table, check, octets_of, prints, three};
 use devices::{Failed, FromReader, FromSlice, Source};
-use std::alloc::AllocError;
+use std::alloc::{AllocError, Global};
 use std::io::ErrorKind;
 use std::test::Fail;
 
@@ -25,17 +26,28 @@ fn read_on<S: Source>(source: &mut S, out: &mut Vec<u8>) -> Result<Option<usize>
     Ok(last)
 }
 
+// WholeSlices that are read to their end.
+struct WholeSlices;
+
+impl Table for WholeSlices {
+    fn holds(alloc: Global, row: &str) -> Result<bool, Fail> {
+        let octets = octets_of(alloc, row)?;
+        let mut source = FromSlice::new(octets.as_slice());
+        let mut out = Vec::new(alloc);
+        let last = read_on(&mut source, &mut out)?;
+        Ok(last == Some(0) && out == octets && !source.failed())
+    }
+}
+
+const SLICES: &str = "\
+''
+'abc'
+'abcd'
+'abcdefgh'";
+
 #[test]
 fn slices(rt: HostRuntime) -> Result<(), Fail> {
-    let cases: [&[u8]; 4] = [b"", b"abc", b"abcd", b"abcdefgh"];
-    for octets in cases {
-        let mut source = FromSlice::new(octets);
-        let mut out = Vec::new(rt.alloc());
-        assert_eq!(rt; read_on(&mut source, &mut out)?, Some(0), "of {octets:?}");
-        assert_eq!(rt; out.as_slice(), octets);
-        assert_eq!(rt; source.failed(), false, "of {octets:?}");
-    }
-    Ok(())
+    check::<WholeSlices>(rt.alloc(), SLICES)
 }
 
 #[test]
@@ -49,35 +61,41 @@ fn readers_over_slices(rt: HostRuntime) -> Result<(), Fail> {
     Ok(())
 }
 
+// Whether a reader that fails so is as the columns of a row say.
+fn is_read(alloc: Global, row: &str, then: ErrorKind) -> Result<bool, Fail> {
+    let (good_calls, given, last) = three(row)?;
+    let mut source = FromReader::new(Dripping {
+        octets: b"ab",
+        good_calls: good_calls.parse::<usize>()?,
+        then,
+    });
+    let mut out = Vec::new(alloc);
+    let found = read_on(&mut source, &mut out)?;
+    let is_so = out.as_slice() == given.as_bytes() && source.failed() == found.is_none();
+    Ok(is_so && prints(alloc, &found, last)?)
+}
+
+// Readers that fail, also by an error that says that the call was interrupted.
+struct FailingReaders;
+
+impl Table for FailingReaders {
+    fn holds(alloc: Global, row: &str) -> Result<bool, Fail> {
+        let is_other = is_read(alloc, row, ErrorKind::Other)?;
+        Ok(is_other && is_read(alloc, row, ErrorKind::Interrupted)?)
+    }
+}
+
+// how many calls go well | what they give | what the last call returned
+const FAILING_READERS: &str = "\
+0 |    | None
+1 | a  | None
+2 | ab | None
+3 | ab | None
+8 | ab | Some(0)";
+
 #[test]
 fn readers_that_fail(rt: HostRuntime) -> Result<(), Fail> {
-    // (how many calls go well, what they give, what the last call returned)
-    let cases: [(usize, &[u8], Option<usize>); 5] = [
-        (0, b"", None),
-        (1, b"a", None),
-        (2, b"ab", None),
-        (3, b"ab", None),
-        (8, b"ab", Some(0)),
-    ];
-    for then in [ErrorKind::Other, ErrorKind::Interrupted] {
-        for (good_calls, want, last) in cases {
-            let octets = b"ab";
-            let mut source = FromReader::new(Dripping {
-                octets,
-                good_calls,
-                then,
-            });
-            let mut out = Vec::new(rt.alloc());
-            assert_eq!(rt;
-                read_on(&mut source, &mut out)?,
-                last,
-                "after {good_calls} calls"
-            );
-            assert_eq!(rt; out.as_slice(), want, "after {good_calls} calls");
-            assert_eq!(rt; source.failed(), last.is_none(), "after {good_calls} calls");
-        }
-    }
-    Ok(())
+    check::<FailingReaders>(rt.alloc(), FAILING_READERS)
 }
 
 #[test]

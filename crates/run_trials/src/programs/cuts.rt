@@ -20,15 +20,22 @@ fn stops_behind_one(alloc: Global, pieces: (&[u8], &[u8], &[u8])) -> Result<bool
     Ok(sink.as_slice() == [0x01, 0x01, 0xFF].as_slice() && counted(result) == (1, 1))
 }
 
+// Fails at the first place to cut the rest at which the stream does not stop behind one value.
+fn check_second_cuts(alloc: Global, first: &[u8], rest: &[u8]) -> Result<(), Fail> {
+    for next in 0..rest.len() + 1 {
+        let (second, third) = rest.split_at(next);
+        if !stops_behind_one(alloc, (first, second, third))? {
+            return Err(Fail::new(format_args!("{first:?}, cut at {next} behind it")));
+        }
+    }
+    Ok(())
+}
+
 #[test]
 fn stream_of_one_value_and_a_part(rt: HostRuntime) -> Result<(), Fail> {
     for cut in 0_usize..6 {
         let (first, rest) = OCTETS.split_at(cut);
-        for next in 0..rest.len() + 1 {
-            let (second, third) = rest.split_at(next);
-            let stops = stops_behind_one(rt.alloc(), (first, second, third))?;
-            assert_eq!(rt; stops, true, "cut at {cut} and {next}");
-        }
+        check_second_cuts(rt.alloc(), first, rest)?;
     }
     Ok(())
 }

@@ -1,7 +1,9 @@
 //! Files, readers and writers that fail.
 
-use super::line_to_der;
+use super::printed::line_of;
+use crate::rows::{Table, check, four, kind_of, lines_of, octets_of, three, two};
 use program::{cannot_open, run};
+use std::alloc::Global;
 use std::io;
 use std::io::{ErrorKind, Read, Write};
 use std::test::Fail;
@@ -26,30 +28,35 @@ impl Write for Failing {
     }
 }
 
+// how the reader fails | the standard error | the status
+const READERS: &str = "\
+Other        | asn1x: cannot read in.hex;                 | 3
+IsADirectory | asn1x: cannot read in.hex;                 | 3
+OutOfMemory  | asn1x: refused 17 NoMemory after 0 values; | 4";
+
+struct FailingReaders;
+
+impl Table for FailingReaders {
+    fn holds(alloc: Global, row: &str) -> Result<bool, Fail> {
+        let (kind, err, status) = three(row)?;
+        let want = (
+            Vec::new(alloc),
+            lines_of(alloc, err)?,
+            status.parse::<u8>()?,
+        );
+        let line = line_of(alloc, "convert,@builtin,NULL,in.hex,--hex,--to,der")?;
+        // All that comes before the failure would be accepted.
+        let mut input = b"0500".as_slice().chain(Failing(kind_of(kind)?));
+        let mut out = Vec::new(alloc);
+        let mut err = Vec::new(alloc);
+        let status = run(alloc, &line, &[], &mut input, &mut out, &mut err);
+        Ok((out, err, status) == want)
+    }
+}
+
 #[test]
 fn run_over_a_failing_reader(rt: HostRuntime) -> Result<(), Fail> {
-    // (how it fails, standard error, status)
-    let cases = [
-        (ErrorKind::Other, "asn1x: cannot read in.hex\n", 3),
-        (ErrorKind::IsADirectory, "asn1x: cannot read in.hex\n", 3),
-        (
-            ErrorKind::OutOfMemory,
-            "asn1x: refused 17 NoMemory after 0 values\n",
-            4,
-        ),
-    ];
-    for (kind, want, want_status) in cases {
-        // All that comes before the failure would be accepted.
-        let mut input = b"0500".as_slice().chain(Failing(kind));
-        let mut out = Vec::new(rt.alloc());
-        let mut err = Vec::new(rt.alloc());
-        let line = line_to_der(rt.alloc(), "NULL")?;
-        let status = run(rt.alloc(), &line, &[], &mut input, &mut out, &mut err);
-        assert_eq!(rt; out.len(), 0, "before {want}");
-        assert_eq!(rt; err.as_slice(), want.as_bytes());
-        assert_eq!(rt; status, want_status, "after {want}");
-    }
-    Ok(())
+    check::<FailingReaders>(rt.alloc(), READERS)
 }
 
 // A device that takes this many octets, and then fails.
@@ -73,74 +80,85 @@ impl Write for Filling {
     }
 }
 
+// how many octets the writer takes | the standard error | the status
+const WRITERS: &str = "\
+0 | asn1x: refused 16 SinkFault after 0 values; | 3
+3 | asn1x: refused 16 SinkFault after 0 values; | 3
+# all but the line feed behind the value
+4 | asn1x: refused 16 SinkFault after 1 values; | 3
+5 |                                             | 0";
+
+struct FailingWriters;
+
+impl Table for FailingWriters {
+    fn holds(alloc: Global, row: &str) -> Result<bool, Fail> {
+        let (room, err, status) = three(row)?;
+        let want = (lines_of(alloc, err)?, status.parse::<u8>()?);
+        let line = line_of(alloc, "convert,@builtin,NULL,in.hex,--hex,--to,der")?;
+        let room = room.parse::<usize>()?;
+        let mut out = Filling { room };
+        let mut err = Vec::new(alloc);
+        let mut input = b"0500".as_slice();
+        let status = run(alloc, &line, &[], &mut input, &mut out, &mut err);
+        Ok((err, status) == want)
+    }
+}
+
 #[test]
 fn run_over_a_failing_writer(rt: HostRuntime) -> Result<(), Fail> {
-    let failed = "asn1x: refused 16 SinkFault after 0 values\n";
-    // All but the line feed behind the value.
-    let unfinished = "asn1x: refused 16 SinkFault after 1 values\n";
-    // (how many octets the writer takes, standard error, status)
-    let cases = [
-        (0, failed, 3),
-        (3, failed, 3),
-        (4, unfinished, 3),
-        (5, "", 0),
-    ];
-    for (room, want, want_status) in cases {
-        let mut out = Filling { room };
-        let mut err = Vec::new(rt.alloc());
-        let line = line_to_der(rt.alloc(), "NULL")?;
-        let mut input = b"0500".as_slice();
-        let status = run(rt.alloc(), &line, &[], &mut input, &mut out, &mut err);
-        assert_eq!(rt; err.as_slice(), want.as_bytes(), "with room for {room}");
-        assert_eq!(rt; status, want_status, "with room for {room}");
+    check::<FailingWriters>(rt.alloc(), WRITERS)
+}
+
+// words | the input | the standard output | the status
+const ERROR_WRITERS: &str = "\
+convert,@builtin,NULL,in.hex,--hex,--to,der | 0500       | 0500; | 0
+convert,@builtin,NULL,in.hex,--hex,--to,der | 0500050100 | 0500; | 1
+convert,@builtin,REAL,in.hex,--hex,--to,der | 0500       |       | 64";
+
+struct FailingErrorWriters;
+
+impl Table for FailingErrorWriters {
+    fn holds(alloc: Global, row: &str) -> Result<bool, Fail> {
+        let (words, input, out, status) = four(row)?;
+        let want = (lines_of(alloc, out)?, status.parse::<u8>()?);
+        let line = line_of(alloc, words)?;
+        let mut out = Vec::new(alloc);
+        let mut err = Failing(ErrorKind::BrokenPipe);
+        let mut input = input.as_bytes();
+        let status = run(alloc, &line, &[], &mut input, &mut out, &mut err);
+        Ok((out, status) == want)
     }
-    Ok(())
 }
 
 #[test]
 fn run_over_a_failing_error_writer(rt: HostRuntime) -> Result<(), Fail> {
-    // (type, text, standard output, status)
-    let cases = [
-        ("NULL", "0500", "0500\n", 0),
-        ("NULL", "0500050100", "0500\n", 1),
-        ("REAL", "0500", "", 64),
-    ];
-    for (name, text, want, want_status) in cases {
-        let mut out = Vec::new(rt.alloc());
-        let mut err = Failing(ErrorKind::BrokenPipe);
-        let line = line_to_der(rt.alloc(), name)?;
-        let status = run(
-            rt.alloc(),
-            &line,
-            &[],
-            &mut text.as_bytes(),
-            &mut out,
-            &mut err,
-        );
-        assert_eq!(rt; out.as_slice(), want.as_bytes(), "of {text}");
-        assert_eq!(rt; status, want_status, "of {text}");
+    check::<FailingErrorWriters>(rt.alloc(), ERROR_WRITERS)
+}
+
+// the path | the line that is printed
+const PATHS: &str = "\
+'no/such file'       | asn1x: cannot read no/such file;
+'a', 0A, 'b'         | asn1x: cannot read a\\u{a}b;
+'\r\u{7f}\u{85}é'    | asn1x: cannot read \\u{d}\\u{7f}\\u{85}é;
+'a\\b \"c\"'         | asn1x: cannot read a\\b \"c\";
+''                   | asn1x: cannot read ;";
+
+struct Paths;
+
+impl Table for Paths {
+    fn holds(alloc: Global, row: &str) -> Result<bool, Fail> {
+        let (path, want) = two(row)?;
+        let path = String::from_utf8(octets_of(alloc, path)?)?;
+        let mut err = Vec::new(alloc);
+        let status = cannot_open(alloc, path.as_str(), &mut err);
+        Ok(status == 3 && err == lines_of(alloc, want)?)
     }
-    Ok(())
 }
 
 #[test]
-fn file_that_cannot_be_opened(rt: HostRuntime) {
-    // (path, line)
-    let cases = [
-        ("no/such file", "asn1x: cannot read no/such file\n"),
-        ("a\nb", "asn1x: cannot read a\\u{a}b\n"),
-        (
-            "\r\u{7f}\u{85}é",
-            "asn1x: cannot read \\u{d}\\u{7f}\\u{85}é\n",
-        ),
-        ("a\\b \"c\"", "asn1x: cannot read a\\b \"c\"\n"),
-        ("", "asn1x: cannot read \n"),
-    ];
-    for (path, want) in cases {
-        let mut err = Vec::new(rt.alloc());
-        assert_eq!(rt; cannot_open(rt.alloc(), path, &mut err), 3, "at {path:?}");
-        assert_eq!(rt; err.as_slice(), want.as_bytes(), "at {path:?}");
-    }
+fn file_that_cannot_be_opened(rt: HostRuntime) -> Result<(), Fail> {
+    check::<Paths>(rt.alloc(), PATHS)?;
     let mut err = Failing(ErrorKind::BrokenPipe);
     assert_eq!(rt; cannot_open(rt.alloc(), "no/such file", &mut err), 3);
+    Ok(())
 }

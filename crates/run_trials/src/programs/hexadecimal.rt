@@ -1,52 +1,59 @@
 //! Hexadecimal text.
 
 use super::spaces;
+use crate::rows::{Table, check, octets_of, prints, two};
 use convert::{HexFault, unhex};
+use std::alloc::Global;
 use std::test::Fail;
 
-#[test]
-fn hexadecimal_text(rt: HostRuntime) {
-    // (text, octets)
-    let cases: [(&[u8], Result<&[u8], HexFault>); 15] = [
-        (b"", Ok(&[])),
-        (b"00", Ok(&[0x00])),
-        (b"0123456789", Ok(&[0x01, 0x23, 0x45, 0x67, 0x89])),
-        (b"abcdef", Ok(&[0xAB, 0xCD, 0xEF])),
-        (b"ABCDEF", Ok(&[0xAB, 0xCD, 0xEF])),
-        (b"aBfF", Ok(&[0xAB, 0xFF])),
-        (b" 0 1\t0\r\n1 2a\n", Ok(&[0x01, 0x01, 0x2A])),
-        (b" \t\r\n", Ok(&[])),
-        (b"0", Err(HexFault::NotHex)),
-        (b"05 0", Err(HexFault::NotHex)),
-        (b"0g", Err(HexFault::NotHex)),
-        (b"01\x0B01", Err(HexFault::NotHex)),
-        (b"01\x0C01", Err(HexFault::NotHex)),
-        (b"0x01", Err(HexFault::NotHex)),
-        (b"01\x00", Err(HexFault::NotHex)),
-    ];
-    for (text, want) in cases {
-        let got = unhex(rt.alloc(), text);
-        let got = match &got {
-            Ok(octets) => Ok(octets.as_slice()),
-            Err(fault) => Err(*fault),
-        };
-        assert_eq!(rt; got, want, "of {text:?}");
+// a text | the octets that it spells, or its fault
+const TEXTS: &str = "\
+''                          | ''
+'00'                        | 00
+'0123456789'                | 01 23 45 67 89
+'abcdef'                    | AB CD EF
+'ABCDEF'                    | AB CD EF
+'aBfF'                      | AB FF
+' 0 1\t0\r', 0A, '1 2a', 0A | 01 01 2A
+' \t\r', 0A                 | ''
+'0'                         | NotHex
+'05 0'                      | NotHex
+'0g'                        | NotHex
+'01', 0B, '01'              | NotHex
+'01', 0C, '01'              | NotHex
+'0x01'                      | NotHex
+'01', 00                    | NotHex";
+
+struct Texts;
+
+impl Table for Texts {
+    fn holds(alloc: Global, row: &str) -> Result<bool, Fail> {
+        let (text, want) = two(row)?;
+        let text = octets_of(alloc, text)?;
+        match unhex(alloc, text.as_slice()) {
+            Ok(octets) => Ok(octets == octets_of(alloc, want)?),
+            Err(fault) => prints(alloc, &fault, want),
+        }
     }
+}
+
+#[test]
+fn hexadecimal_text(rt: HostRuntime) -> Result<(), Fail> {
+    check::<Texts>(rt.alloc(), TEXTS)
+}
+
+// How many octets a text spells, or its fault.
+fn count_of(alloc: Global, text: &[u8]) -> Result<usize, HexFault> {
+    Ok(unhex(alloc, text)?.len())
 }
 
 #[test]
 fn longest_hexadecimal_text(rt: HostRuntime) -> Result<(), Fail> {
     let mut text = spaces(rt.alloc(), 4_194_304)?;
-    assert_eq!(rt; unhex(rt.alloc(), text.as_slice())?.len(), 0);
+    assert!(rt; count_of(rt.alloc(), text.as_slice()) == Ok(0));
     text.push(b' ')?;
-    assert_eq!(rt;
-        unhex(rt.alloc(), text.as_slice()).err(),
-        Some(HexFault::TooLong)
-    );
+    assert!(rt; count_of(rt.alloc(), text.as_slice()) == Err(HexFault::TooLong));
     text.push(b'x')?;
-    assert_eq!(rt;
-        unhex(rt.alloc(), text.as_slice()).err(),
-        Some(HexFault::TooLong)
-    );
+    assert!(rt; count_of(rt.alloc(), text.as_slice()) == Err(HexFault::TooLong));
     Ok(())
 }

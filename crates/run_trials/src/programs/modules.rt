@@ -1,12 +1,13 @@
 //! Runs over the types of modules.
 
-use super::{check_run_of, line_to_der, spaces};
+use super::printed::{Printed, is_printed, is_so, line_of, run_over};
+use super::spaces;
 use crate::dripping::Dripping;
-use convert::{Canonical, read_module};
-use program::{Line, Verb, cannot_read_module};
-use std::alloc::{AllocError, Global};
+use crate::rows::{Table, check, kind_of, lines_of, three, two};
+use convert::read_module;
+use program::cannot_read_module;
+use std::alloc::Global;
 use std::io;
-use std::io::ErrorKind;
 use std::test::Fail;
 
 // A call between two numbers.
@@ -20,126 +21,95 @@ Number ::= [APPLICATION 2] NumericString
 END
 ";
 
-// Two calls: one of 7 seconds with its number in segments and its parts in long lengths, and one of none.
-const TWO_CALLS: &str =
-    "30 80 62 80 04 01 35 04 01 36 00 00 80 81 01 07 81 01 05 00 00 30 07 42 02 35 36 80 01 00";
+// Runs over the types of that module.
+struct CallRuns;
 
-// The line `asn1x convert calls.asn NAME in.hex --hex --to der`.
-fn line_of_module(alloc: Global, name: &str) -> Result<Line, AllocError> {
-    let mut line = line_to_der(alloc, name)?;
-    line.module = String::from_str(alloc, "calls.asn")?;
-    Ok(line)
+impl Table for CallRuns {
+    fn holds(alloc: Global, row: &str) -> Result<bool, Fail> {
+        let (words, columns) = two(row)?;
+        let line = line_of(alloc, words)?;
+        is_so(alloc, &line, CALLS, columns)
+    }
 }
+
+// Two calls: one of 7 seconds with its number in segments and its parts in long lengths, and one of none.
+const TWO_CALLS: &str = "\
+convert,calls.asn,Call,in,--hex,--to,der | 30 80 62 80 04 01 35 04 01 36 00 00 80 81 01 07 81 01 05 00 00 30 07 42 02 35 36 80 01 00 | 300a42023536800107810105300442023536; || 0
+convert,calls.asn,Call,in,--hex,--to,cer | 30 80 62 80 04 01 35 04 01 36 00 00 80 81 01 07 81 01 05 00 00 30 07 42 02 35 36 80 01 00 | 30804202353680010781010500003080420235360000; || 0
+show,calls.asn,Call,in,--hex             | 30 80 62 80 04 01 35 04 01 36 00 00 80 81 01 07 81 01 05 00 00 30 07 42 02 35 36 80 01 00 | { caller \"56\", seconds 7, ended busy };{ caller \"56\" }; || 0
+check,calls.asn,Call,in,--hex            | 30 80 62 80 04 01 35 04 01 36 00 00 80 81 01 07 81 01 05 00 00 30 07 42 02 35 36 80 01 00 | ok 2; || 0";
 
 #[test]
 fn runs_of_each_command_with_a_module(rt: HostRuntime) -> Result<(), Fail> {
-    let mut line = line_of_module(rt.alloc(), "Call")?;
-    let module = CALLS.as_bytes();
-    let input = TWO_CALLS.as_bytes();
-    let der = "300a42023536800107810105300442023536\n";
-    check_run_of(&rt, &line, module, input, (der, "", 0));
-    line.to = Some(Canonical::Cer);
-    let cer = "30804202353680010781010500003080420235360000\n";
-    check_run_of(&rt, &line, module, input, (cer, "", 0));
-    line.to = None;
-    line.verb = Verb::Show;
-    let shown = "{ caller \"56\", seconds 7, ended busy }\n{ caller \"56\" }\n";
-    check_run_of(&rt, &line, module, input, (shown, "", 0));
-    line.verb = Verb::Check;
-    check_run_of(&rt, &line, module, input, ("ok 2\n", "", 0));
-    Ok(())
+    check::<CallRuns>(rt.alloc(), TWO_CALLS)
 }
+
+const WRONG_NUMBER: &str = "\
+convert,calls.asn,Number,in,--hex,--to,der | 42 01 35 42 01 41 | 420135; | asn1x: refused 7 Alphabet after 1 values; | 1";
 
 #[test]
 fn runs_of_a_module_over_wrong_octets(rt: HostRuntime) -> Result<(), Fail> {
-    let line = line_of_module(rt.alloc(), "Number")?;
-    let module = CALLS.as_bytes();
-    let refused = "asn1x: refused 7 Alphabet after 1 values\n";
-    check_run_of(
-        &rt,
-        &line,
-        module,
-        b"42 01 35 42 01 41",
-        ("420135\n", refused, 1),
-    );
-    Ok(())
+    check::<CallRuns>(rt.alloc(), WRONG_NUMBER)
 }
+
+// What a run over the type `T` of a module prints and returns.
+fn run_of(alloc: Global, module: &[u8], input: &[u8]) -> Result<Printed, Fail> {
+    let line = line_of(alloc, "convert,calls.asn,T,in,--hex,--to,der")?;
+    Ok(run_over(alloc, &line, module, input))
+}
+
+// Modules, of which the input is not read.
+struct RefusedModules;
+
+impl Table for RefusedModules {
+    fn holds(alloc: Global, row: &str) -> Result<bool, Fail> {
+        let (module, fault) = two(row)?;
+        let module = lines_of(alloc, module)?;
+        let found = run_of(alloc, module.as_slice(), b"05 0")?;
+        let want = format!(in alloc; "asn1x: module refused {fault}\n")?;
+        Ok(is_printed(&found, ("", want.as_str(), 2)))
+    }
+}
+
+// a module | its fault
+const REFUSED_MODULES: &str = "\
+M DEFINITIONS ::= BEGIN; # END                                         | 21 Token at 2:2
+                                                                       | 22 Syntax at 1:1
+M DEFINITIONS ::= BEGIN T ::= ::= END                                  | 22 Syntax at 1:31
+M DEFINITIONS ::= BEGIN BOOLEAN ::= NULL END                           | 23 Reserved at 1:25
+M DEFINITIONS ::= BEGIN END                                            | 24 UnknownType at 1:1
+M DEFINITIONS ::= BEGIN;T ::= U END                                    | 24 UnknownType at 2:1
+M DEFINITIONS ::= BEGIN;  T ::= SET OF T END                           | 25 Cycle at 2:3
+M DEFINITIONS ::= BEGIN;T ::= NULL;T ::= NULL END                      | 26 RepeatedName at 3:1
+M DEFINITIONS ::= BEGIN;T ::= ENUMERATED { a(1), b(1) } END            | 27 RepeatedNumber at 2:1
+M DEFINITIONS ::= BEGIN;T ::= SET { a NULL, b NULL } END               | 28 TagsNotDistinct at 2:1
+M DEFINITIONS ::= BEGIN;T ::= [0] IMPLICIT CHOICE { a NULL } END       | 29 ImplicitChoice at 2:1
+M DEFINITIONS ::= BEGIN;T ::= SEQUENCE { a BOOLEAN DEFAULT 3 } END     | 30 BadDefault at 2:1
+M DEFINITIONS ::= BEGIN T ::= [268435456] NULL END                     | 31 TooLarge at 1:32
+M DEFINITIONS ::= BEGIN T ::= INTEGER (5) END                          | 32 NotInProfile at 1:39";
 
 #[test]
 fn modules_that_are_refused(rt: HostRuntime) -> Result<(), Fail> {
-    let line = line_of_module(rt.alloc(), "T")?;
-    // (module, fault), of which the input is not read
-    let cases = [
-        ("M DEFINITIONS ::= BEGIN\n # END", "21 Token at 2:2"),
-        ("", "22 Syntax at 1:1"),
-        ("M DEFINITIONS ::= BEGIN T ::= ::= END", "22 Syntax at 1:31"),
-        (
-            "M DEFINITIONS ::= BEGIN BOOLEAN ::= NULL END",
-            "23 Reserved at 1:25",
-        ),
-        ("M DEFINITIONS ::= BEGIN END", "24 UnknownType at 1:1"),
-        (
-            "M DEFINITIONS ::= BEGIN\nT ::= U END",
-            "24 UnknownType at 2:1",
-        ),
-        (
-            "M DEFINITIONS ::= BEGIN\n  T ::= SET OF T END",
-            "25 Cycle at 2:3",
-        ),
-        (
-            "M DEFINITIONS ::= BEGIN\nT ::= NULL\nT ::= NULL END",
-            "26 RepeatedName at 3:1",
-        ),
-        (
-            "M DEFINITIONS ::= BEGIN\nT ::= ENUMERATED { a(1), b(1) } END",
-            "27 RepeatedNumber at 2:1",
-        ),
-        (
-            "M DEFINITIONS ::= BEGIN\nT ::= SET { a NULL, b NULL } END",
-            "28 TagsNotDistinct at 2:1",
-        ),
-        (
-            "M DEFINITIONS ::= BEGIN\nT ::= [0] IMPLICIT CHOICE { a NULL } END",
-            "29 ImplicitChoice at 2:1",
-        ),
-        (
-            "M DEFINITIONS ::= BEGIN\nT ::= SEQUENCE { a BOOLEAN DEFAULT 3 } END",
-            "30 BadDefault at 2:1",
-        ),
-        (
-            "M DEFINITIONS ::= BEGIN T ::= [268435456] NULL END",
-            "31 TooLarge at 1:32",
-        ),
-        (
-            "M DEFINITIONS ::= BEGIN T ::= INTEGER (5) END",
-            "32 NotInProfile at 1:39",
-        ),
-    ];
-    for (module, fault) in cases {
-        let fault = format!(in rt.alloc(); "asn1x: module refused {fault}\n")?;
-        check_run_of(
-            &rt,
-            &line,
-            module.as_bytes(),
-            b"05 0",
-            ("", fault.as_str(), 2),
-        );
-    }
-    Ok(())
+    check::<RefusedModules>(rt.alloc(), REFUSED_MODULES)
 }
 
 #[test]
 fn modules_that_are_no_text(rt: HostRuntime) -> Result<(), Fail> {
-    let line = line_of_module(rt.alloc(), "T")?;
-    let no_text = "asn1x: module refused 21 Token at 1:1\n";
-    check_run_of(&rt, &line, b"M\n\xFF", b"", ("", no_text, 2));
+    let found = run_of(rt.alloc(), b"M\n\xFF", b"")?;
+    assert!(rt; is_printed(&found, ("", "asn1x: module refused 21 Token at 1:1\n", 2)));
     let front = b"M DEFINITIONS ::= BEGIN T ::= NULL END";
     let mut module = spaces(rt.alloc(), 262_144 - front.len())?;
     module.extend_from_slice(front)?;
-    check_run_of(&rt, &line, module.as_slice(), b"05 00", ("0500\n", "", 0));
+    let found = run_of(rt.alloc(), module.as_slice(), b"05 00")?;
+    assert!(rt; is_printed(&found, ("0500\n", "", 0)));
     module.push(b'\xFF')?;
-    let too_long = "asn1x: module refused 31 TooLarge at 1:1\n";
-    check_run_of(&rt, &line, module.as_slice(), b"", ("", too_long, 2));
+    let found = run_of(rt.alloc(), module.as_slice(), b"")?;
+    assert!(rt;
+        is_printed(
+            &found,
+            ("", "asn1x: module refused 31 TooLarge at 1:1\n", 2)
+        )
+    );
     Ok(())
 }
 
@@ -147,41 +117,35 @@ fn modules_that_are_no_text(rt: HostRuntime) -> Result<(), Fail> {
 fn files_of_modules(rt: HostRuntime) -> Result<(), Fail> {
     let octets = read_module(rt.alloc(), &mut CALLS.as_bytes());
     let octets = octets.ok().ok_or("not read")?;
-    assert_eq!(rt; octets.as_slice(), CALLS.as_bytes());
+    assert!(rt; octets.as_slice() == CALLS.as_bytes());
     // one octet more than a text may have is enough to refuse it
     let long = spaces(rt.alloc(), 262_150)?;
     let octets = read_module(rt.alloc(), &mut long.as_slice());
-    assert_eq!(rt; octets.ok().ok_or("not read")?.len(), 262_145);
+    assert!(rt; octets.ok().ok_or("not read")?.len() == 262_145);
     let cut = read_module(rt.alloc(), &mut Dripping::new(b"M DEFINITIONS", 5));
     assert!(rt; cut.is_err());
     Ok(())
 }
 
-#[test]
-fn files_of_modules_that_cannot_be_read(rt: HostRuntime) {
-    // (why not, line, status)
-    let cases = [
-        (ErrorKind::NotFound, "asn1x: cannot read no/such.asn\n", 3),
-        (
-            ErrorKind::IsADirectory,
-            "asn1x: cannot read no/such.asn\n",
-            3,
-        ),
-        (
-            ErrorKind::OutOfMemory,
-            "asn1x: module refused 33 NoMemory at 1:1\n",
-            4,
-        ),
-    ];
-    for (kind, want, want_status) in cases {
-        let mut err = Vec::new(rt.alloc());
-        let status = cannot_read_module(
-            rt.alloc(),
-            "no/such.asn",
-            &io::Error::from(kind),
-            &mut err,
-        );
-        assert_eq!(rt; err.as_slice(), want.as_bytes(), "at {kind:?}");
-        assert_eq!(rt; status, want_status, "at {kind:?}");
+struct UnreadModules;
+
+impl Table for UnreadModules {
+    fn holds(alloc: Global, row: &str) -> Result<bool, Fail> {
+        let (kind, want, want_status) = three(row)?;
+        let error = io::Error::from(kind_of(kind)?);
+        let mut err = Vec::new(alloc);
+        let status = cannot_read_module(alloc, "no/such.asn", &error, &mut err);
+        Ok(err == lines_of(alloc, want)? && status == want_status.parse::<u8>()?)
     }
+}
+
+// why not | the line | the status
+const UNREAD_MODULES: &str = "\
+NotFound     | asn1x: cannot read no/such.asn;           | 3
+IsADirectory | asn1x: cannot read no/such.asn;           | 3
+OutOfMemory  | asn1x: module refused 33 NoMemory at 1:1; | 4";
+
+#[test]
+fn files_of_modules_that_cannot_be_read(rt: HostRuntime) -> Result<(), Fail> {
+    check::<UnreadModules>(rt.alloc(), UNREAD_MODULES)
 }

@@ -1,134 +1,119 @@
 //! What a run prints and returns over devices that do not fail.
 
-use super::rows::{column, lines_of};
-use super::{check_run, line_to_der, spaces};
-use convert::{Canonical, Rule};
-use program::{Line, Verb};
-use std::process::Abort;
+use super::printed::{Runs, is_printed, is_so, line_of, run_over};
+use super::spaces;
+use crate::rows::{Table, check, two};
+use convert::Canonical;
+use std::alloc::Global;
 use std::test::Fail;
 
-// The type, a text, the standard output, the standard error, and the status.
 const RUNS: &str = "\
-BOOLEAN      | 01 01 2a       | 0101ff;       |                                            | 0
-OCTET STRING | 0482000141     | 040141;       |                                            | 0
-INTEGER      | 02 02 00 7f    |               | asn1x: refused 6 Contents after 0 values;  | 1
-NULL         | 05 0           |               | asn1x: not hexadecimal;                    | 1
-NULL         | 05;00;         | 0500;         |                                            | 0
-OCTET STRING | 04 02 AB CD    | 0402abcd;     |                                            | 0
-BOOLEAN      |                |               |                                            | 0
-BOOLEAN      | 0101ff0101ff   | 0101ff0101ff; |                                            | 0
-BOOLEAN      | 01 01 01 01 01 | 0101ff;       | asn1x: refused 1 Truncated after 1 values; | 1
-REAL         | 05 0           |               | asn1x: no such built-in type;              | 64
-boolean      | 0101ff         |               | asn1x: no such built-in type;              | 64
-             | 0101ff         |               | asn1x: no such built-in type;              | 64";
-
-// Checks a run over a row's text, behind which stands what it prints and returns.
-fn check_row<R: Abort + AllocGlobal>(rt: &R, line: &Line, row: &str) -> Result<(), Fail> {
-    let (text, columns) = column(row)?;
-    let (out, columns) = column(columns)?;
-    let (err, status) = column(columns)?;
-    let text = lines_of(rt.alloc(), text)?;
-    let out = String::from_utf8(lines_of(rt.alloc(), out)?)?;
-    let err = String::from_utf8(lines_of(rt.alloc(), err)?)?;
-    let status = status.trim().parse::<u8>()?;
-    check_run(
-        rt,
-        line,
-        text.as_slice(),
-        (out.as_str(), err.as_str(), status),
-    );
-    Ok(())
-}
+convert,@builtin,BOOLEAN,in,--hex,--to,der      | 01 01 2a       | 0101ff;       || 0
+convert,@builtin,OCTET STRING,in,--hex,--to,der | 0482000141     | 040141;       || 0
+convert,@builtin,INTEGER,in,--hex,--to,der      | 02 02 00 7f    || asn1x: refused 6 Contents after 0 values;  | 1
+convert,@builtin,NULL,in,--hex,--to,der         | 05 0           || asn1x: not hexadecimal;                    | 1
+convert,@builtin,NULL,in,--hex,--to,der         | 05;00;         | 0500;         || 0
+convert,@builtin,OCTET STRING,in,--hex,--to,der | 04 02 AB CD    | 0402abcd;     || 0
+convert,@builtin,BOOLEAN,in,--hex,--to,der      |                |               || 0
+convert,@builtin,BOOLEAN,in,--hex,--to,der      | 0101ff0101ff   | 0101ff0101ff; || 0
+convert,@builtin,BOOLEAN,in,--hex,--to,der      | 01 01 01 01 01 | 0101ff; | asn1x: refused 1 Truncated after 1 values; | 1
+convert,@builtin,REAL,in,--hex,--to,der         | 05 0           || asn1x: no such built-in type; | 64
+convert,@builtin,boolean,in,--hex,--to,der      | 0101ff         || asn1x: no such built-in type; | 64
+convert,@builtin,,in,--hex,--to,der             | 0101ff         || asn1x: no such built-in type; | 64";
 
 #[test]
 fn runs(rt: HostRuntime) -> Result<(), Fail> {
-    for row in RUNS.lines() {
-        let (name, columns) = column(row)?;
-        let line = line_to_der(rt.alloc(), name)?;
-        check_row(&rt, &line, columns)?;
-    }
-    Ok(())
+    check::<Runs>(rt.alloc(), RUNS)
 }
+
+const TO_CER: &str = "\
+convert,@builtin,OCTET STRING,in,--hex,--to,cer | 04 81 01 41 | 040141; || 0";
 
 #[test]
 fn run_to_cer(rt: HostRuntime) -> Result<(), Fail> {
-    let mut line = line_to_der(rt.alloc(), "OCTET STRING")?;
-    line.to = Some(Canonical::Cer);
-    check_run(&rt, &line, b"04 81 01 41", ("040141\n", "", 0));
+    check::<Runs>(rt.alloc(), TO_CER)?;
+    let line = line_of(
+        rt.alloc(),
+        "convert,@builtin,OCTET STRING,in,--hex,--to,cer",
+    )?;
     // 1001 octets 41: the first 1000, and the last.
     let full = "41".repeat(rt.alloc(), 1_000)?;
     let text = format!(in rt.alloc(); "048203e9{full}41")?;
     let want = format!(in rt.alloc(); "2480048203e8{full}0401410000\n")?;
-    check_run(&rt, &line, text.as_bytes(), (want.as_str(), "", 0));
+    let found = run_over(rt.alloc(), &line, &[], text.as_bytes());
+    assert!(rt; is_printed(&found, (want.as_str(), "", 0)));
     Ok(())
 }
 
+const FROM_DER: &str = "\
+convert,@builtin,BOOLEAN,in,--hex,--to,der,--from,der | 0101ff | 0101ff; || 0
+convert,@builtin,BOOLEAN,in,--hex,--to,der,--from,der | 01012a || asn1x: refused 12 NotCanonical after 0 values; | 1";
+
 #[test]
 fn run_from_der(rt: HostRuntime) -> Result<(), Fail> {
-    let mut line = line_to_der(rt.alloc(), "BOOLEAN")?;
-    line.from = Rule::Der;
-    check_run(&rt, &line, b"0101ff", ("0101ff\n", "", 0));
-    let refused = "asn1x: refused 12 NotCanonical after 0 values\n";
-    check_run(&rt, &line, b"01012a", ("", refused, 1));
-    Ok(())
+    check::<Runs>(rt.alloc(), FROM_DER)
 }
 
 #[test]
 fn run_over_too_long_a_text(rt: HostRuntime) -> Result<(), Fail> {
-    let line = line_to_der(rt.alloc(), "NULL")?;
+    let line = line_of(rt.alloc(), "convert,@builtin,NULL,in,--hex,--to,der")?;
     let mut text = spaces(rt.alloc(), 4_194_300)?;
     text.extend_from_slice(b"0500")?;
-    check_run(&rt, &line, text.as_slice(), ("0500\n", "", 0));
+    let found = run_over(rt.alloc(), &line, &[], text.as_slice());
+    assert!(rt; is_printed(&found, ("0500\n", "", 0)));
     text.push(b'x')?;
-    let too_long = "asn1x: hexadecimal text too long\n";
-    check_run(&rt, &line, text.as_slice(), ("", too_long, 1));
+    let found = run_over(rt.alloc(), &line, &[], text.as_slice());
+    assert!(rt; is_printed(&found, ("", "asn1x: hexadecimal text too long\n", 1)));
     Ok(())
 }
+
+// Runs of command lines that have a rule to write by, whatever their command.
+struct WithRule;
+
+impl Table for WithRule {
+    fn holds(alloc: Global, row: &str) -> Result<bool, Fail> {
+        let (words, columns) = two(row)?;
+        let mut line = line_of(alloc, words)?;
+        line.to = Some(Canonical::Der);
+        is_so(alloc, &line, "", columns)
+    }
+}
+
+const COMMANDS: &str = "\
+show,@builtin,BOOLEAN,in,--hex             | 01 01 2A 01 01 00 | TRUE;FALSE;   || 0
+show,@builtin,BOOLEAN,in                   | 01 01 2A 01 01 00 | TRUE;FALSE;   || 0
+check,@builtin,BOOLEAN,in,--hex            | 01 01 2A 01 01 00 | ok 2;         || 0
+check,@builtin,BOOLEAN,in                  | 01 01 2A 01 01 00 | ok 2;         || 0
+convert,@builtin,BOOLEAN,in,--hex,--to,der | 01 01 2A 01 01 00 | 0101ff010100; || 0
+show,@builtin,BOOLEAN,in,--hex,--from,der  | 01 01 2A 01 01 00 || asn1x: refused 12 NotCanonical after 0 values; | 1
+show,@builtin,BOOLEAN,in,--from,der        | 01 01 2A 01 01 00 || asn1x: refused 12 NotCanonical after 0 values; | 1
+check,@builtin,BOOLEAN,in,--hex,--from,cer | 01 01 2A 01 01 00 || asn1x: refused 12 NotCanonical after 0 values; | 1
+check,@builtin,BOOLEAN,in,--from,cer       | 01 01 2A 01 01 00 || asn1x: refused 12 NotCanonical after 0 values; | 1";
 
 #[test]
 fn runs_of_each_command(rt: HostRuntime) -> Result<(), Fail> {
-    let refused = "asn1x: refused 12 NotCanonical after 0 values\n";
-    // (verb, rule to read by, standard output, standard error, status)
-    let cases = [
-        (Verb::Show, Rule::Ber, "TRUE\nFALSE\n", "", 0),
-        (Verb::Check, Rule::Ber, "ok 2\n", "", 0),
-        (Verb::Convert, Rule::Ber, "0101ff010100\n", "", 0),
-        (Verb::Show, Rule::Der, "", refused, 1),
-        (Verb::Check, Rule::Cer, "", refused, 1),
-    ];
-    for (verb, from, out, err, status) in cases {
-        let mut line = line_to_der(rt.alloc(), "BOOLEAN")?;
-        line.verb = verb;
-        line.from = from;
-        check_run(&rt, &line, b"01 01 2A 01 01 00", (out, err, status));
-        line.hex = false;
-        if verb != Verb::Convert {
-            check_run(&rt, &line, b"\x01\x01\x2A\x01\x01\x00", (out, err, status));
-        }
-    }
-    Ok(())
+    check::<WithRule>(rt.alloc(), COMMANDS)
 }
+
+const OVER_OCTETS: &str = "\
+convert,@builtin,OCTET STRING,in,--to,der | 04 81 01, 'A'  | 04 01, 'A' || 0
+convert,@builtin,OCTET STRING,in,--to,der | 04 01, 'A', 04 | 04 01, 'A' | asn1x: refused 1 Truncated after 1 values; | 1
+convert,@builtin,OCTET STRING,in,--to,der | ''             | ''         || 0";
 
 #[test]
 fn runs_over_octets(rt: HostRuntime) -> Result<(), Fail> {
-    let mut line = line_to_der(rt.alloc(), "OCTET STRING")?;
-    line.hex = false;
-    check_run(&rt, &line, b"\x04\x81\x01A", ("\x04\x01A", "", 0));
-    let cut = "asn1x: refused 1 Truncated after 1 values\n";
-    check_run(&rt, &line, b"\x04\x01A\x04", ("\x04\x01A", cut, 1));
-    check_run(&rt, &line, b"", ("", "", 0));
-    Ok(())
+    check::<Runs>(rt.alloc(), OVER_OCTETS)
 }
+
+const NOTHING_DONE: &str = "\
+check,@builtin,NULL,in,--hex  | 0500 | ok 1; || 0
+check,@builtins,NULL,in,--hex | 0500 || asn1x: module refused 22 Syntax at 1:1; | 2";
 
 #[test]
 fn runs_of_lines_of_which_nothing_is_done(rt: HostRuntime) -> Result<(), Fail> {
-    let mut line = line_to_der(rt.alloc(), "NULL")?;
+    let mut line = line_of(rt.alloc(), "convert,@builtin,NULL,in,--hex,--to,der")?;
     line.to = None;
-    check_run(&rt, &line, b"0500", ("", "", 64));
-    line.verb = Verb::Check;
-    check_run(&rt, &line, b"0500", ("ok 1\n", "", 0));
-    line.module = String::from_str(rt.alloc(), "@builtins")?;
-    let refused = "asn1x: module refused 22 Syntax at 1:1\n";
-    check_run(&rt, &line, b"0500", ("", refused, 2));
-    Ok(())
+    let found = run_over(rt.alloc(), &line, &[], b"0500");
+    assert!(rt; is_printed(&found, ("", "", 64)));
+    check::<Runs>(rt.alloc(), NOTHING_DONE)
 }

@@ -1,20 +1,31 @@
 //! Streams from sources that give one octet a call or many, to sinks that take one octet a call or many.
 
-use super::rows::{column, lines_of, names_of, rule_of, type_of};
+use super::letters::{names_of, rule_of, type_of};
 use super::{boolean, counted};
 use crate::dripping::{Dripping, Filling};
+use crate::rows::{Table, check, four, lines_of, octets_of, three};
 use convert::{
-    Canonical, FromReader, FromSlice, Rule, Stopped, ToVec, ToWriter, WellTyped, check, convert,
-    list, unhex,
+    Canonical, FromReader, FromSlice, Rule, Stopped, ToVec, ToWriter, WellTyped,
+    check as check_stream, convert, list,
 };
 use std::alloc::Global;
 use std::test::Fail;
+
+// A BOOLEAN that is TRUE, and one that is FALSE.
+const TRUE_AND_FALSE: [u8; 6] = [0x01, 0x01, 0x01, 0x01, 0x01, 0x00];
 
 // What `convert` writes of a slice, and its count.
 fn converted(alloc: Global, ty: &WellTyped, from: Rule, octets: &[u8]) -> (Vec<u8>, (u64, u8)) {
     let to = Canonical::Der;
     let mut sink = ToVec::new(Vec::new(alloc));
     let result = convert(alloc, ty, from, to, &mut FromSlice::new(octets), &mut sink);
+    (sink.into_vec(), counted(result))
+}
+
+// What `list` writes of a slice, and its count.
+fn listed(alloc: Global, ty: &WellTyped, from: Rule, octets: &[u8]) -> (Vec<u8>, (u64, u8)) {
+    let mut sink = ToVec::new(Vec::new(alloc));
+    let result = list(alloc, ty, from, &mut FromSlice::new(octets), &mut sink);
     (sink.into_vec(), counted(result))
 }
 
@@ -32,8 +43,10 @@ fn converted_by_octets(
     (sink.into_inner().taken, counted(result))
 }
 
-// The rule and the type by their letters, octets, what is written, how many values are done, and the refusal's number
-// or 0. The long form of a length is 12, but not before BER has the value: it refuses one of two octets with 6.
+// the rule and the type by their letters | octets | what is written | how many values are done, and the refusal's number
+// or 0
+//
+// The long form of a length is 12, but not before BER has the value: it refuses one of two octets with 6.
 const CONVERTED: &str = "\
 b b |                            |                   | 0 0
 b b | 01 01 01 01 01 00          | 01 01 FF 01 01 00 | 2 0
@@ -50,35 +63,34 @@ d o | 04 81 01 41                |                   | 0 12
 d o | 04 81 02 41                |                   | 0 1
 d b | 01 01 FF 01 81 02 FF FF    | 01 01 FF          | 1 6";
 
-// Whether octets are converted as a row says, whole and octet by octet.
-fn is_converted(alloc: Global, row: &str) -> Result<bool, Fail> {
-    let (names, columns) = column(row)?;
-    let (octets, columns) = column(columns)?;
-    let (written, ending) = column(columns)?;
-    let (from, ty) = names_of(alloc, names)?;
-    let octets = unhex(alloc, octets.as_bytes())?;
-    let want = (unhex(alloc, written.as_bytes())?, ending_of(ending)?);
-    Ok(
-        converted(alloc, &ty, from, octets.as_slice()) == want
-            && converted_by_octets(alloc, &ty, from, octets.as_slice()) == want,
-    )
+// Octets that are converted whole and octet by octet.
+struct Conversions;
+
+impl Table for Conversions {
+    fn holds(alloc: Global, row: &str) -> Result<bool, Fail> {
+        let (names, octets, written, ending) = four(row)?;
+        let (from, ty) = names_of(alloc, names)?;
+        let octets = octets_of(alloc, octets)?;
+        let want = (octets_of(alloc, written)?, ending_of(ending)?);
+        Ok(
+            converted(alloc, &ty, from, octets.as_slice()) == want
+                && converted_by_octets(alloc, &ty, from, octets.as_slice()) == want,
+        )
+    }
 }
 
 // How many values a column says are done, and the refusal's number or 0.
 fn ending_of(column: &str) -> Result<(u64, u8), Fail> {
-    let (done, number) = column.trim().split_once(' ').ok_or("one number")?;
+    let (done, number) = column.split_once(' ').ok_or("one number")?;
     Ok((done.parse::<u64>()?, number.parse::<u8>()?))
 }
 
 #[test]
 fn converted_streams(rt: HostRuntime) -> Result<(), Fail> {
-    for row in CONVERTED.lines() {
-        assert!(rt; is_converted(rt.alloc(), row)?, "{row}");
-    }
-    Ok(())
+    check::<Conversions>(rt.alloc(), CONVERTED)
 }
 
-// The rule by its letter, octets of BOOLEANs, the lines, how many values are done, and the refusal's number or 0.
+// the rule by its letter | octets of BOOLEANs | the lines | how many values are done, and the refusal's number or 0
 const LISTED: &str = "\
 b |                   |             | 0 0
 b | 01 01 2A 01 01 00 | TRUE;FALSE; | 2 0
@@ -86,94 +98,91 @@ b | 01 01 2A 01 01    | TRUE;       | 1 1
 d | 01 01 00 01 01 2A | FALSE;      | 1 12
 c | 02                |             | 0 2";
 
-// Whether octets are checked and listed as a row says.
-fn is_listed(alloc: Global, row: &str) -> Result<bool, Fail> {
-    let (rule, columns) = column(row)?;
-    let (octets, columns) = column(columns)?;
-    let (lines, ending) = column(columns)?;
-    let (from, ty) = (rule_of(rule)?, boolean()?);
-    let octets = unhex(alloc, octets.as_bytes())?;
-    let lines = lines_of(alloc, lines)?;
-    let ending = ending_of(ending)?;
-    let checked = check(alloc, &ty, from, &mut FromSlice::new(octets.as_slice()));
-    let mut sink = ToVec::new(Vec::new(alloc));
-    let mut source = FromSlice::new(octets.as_slice());
-    let listed = list(alloc, &ty, from, &mut source, &mut sink);
-    Ok(
-        counted(checked) == ending
-            && counted(listed) == ending
-            && sink.as_slice() == lines.as_slice(),
-    )
+struct Lists;
+
+impl Table for Lists {
+    fn holds(alloc: Global, row: &str) -> Result<bool, Fail> {
+        let (rule, octets, lines, ending) = four(row)?;
+        let (from, ty) = (rule_of(rule)?, boolean()?);
+        let octets = octets_of(alloc, octets)?;
+        let want = (lines_of(alloc, lines)?, ending_of(ending)?);
+        let source = &mut FromSlice::new(octets.as_slice());
+        let checked = counted(check_stream(alloc, &ty, from, source));
+        Ok(checked == want.1 && listed(alloc, &ty, from, octets.as_slice()) == want)
+    }
 }
 
 #[test]
 fn checked_and_listed_streams(rt: HostRuntime) -> Result<(), Fail> {
-    for row in LISTED.lines() {
-        assert!(rt; is_listed(rt.alloc(), row)?, "{row}");
+    check::<Lists>(rt.alloc(), LISTED)
+}
+
+// the rule by its letter | how many calls of the reader go well | how many values are done, and the refusal's number |
+// what is written
+const FAILING_SOURCES: &str = "\
+b | 0 | 0 15 |
+b | 1 | 0 15 |
+b | 2 | 0 15 |
+b | 3 | 1 15 | 01 01 FF
+b | 4 | 1 15 | 01 01 FF
+b | 5 | 1 15 | 01 01 FF
+b | 6 | 2 15 | 01 01 FF 01 01 00
+# TRUE may be written as 01 in BER alone
+c | 0 | 0 15 |
+c | 1 | 0 15 |
+c | 2 | 0 15 |
+c | 3 | 0 12 |
+c | 4 | 0 12 |
+c | 5 | 0 12 |
+c | 6 | 0 12 |";
+
+struct FailingSources;
+
+impl Table for FailingSources {
+    fn holds(alloc: Global, row: &str) -> Result<bool, Fail> {
+        let (rule, good_calls, ending, written) = four(row)?;
+        let (from, good_calls) = (rule_of(rule)?, good_calls.parse::<usize>()?);
+        let want = (octets_of(alloc, written)?, ending_of(ending)?);
+        let ty = boolean()?;
+        let mut source = FromReader::new(Dripping::new(&TRUE_AND_FALSE, good_calls));
+        let mut sink = ToVec::new(Vec::new(alloc));
+        let result = convert(alloc, &ty, from, Canonical::Der, &mut source, &mut sink);
+        Ok((sink.into_vec(), counted(result)) == want)
     }
-    Ok(())
 }
 
 #[test]
 fn source_that_fails_at_each_call(rt: HostRuntime) -> Result<(), Fail> {
-    let octets = [0x01, 0x01, 0x01, 0x01, 0x01, 0x00];
-    let ty = boolean()?;
-    for from in [Rule::Ber, Rule::Cer] {
-        for call in 1_usize..8 {
-            let mut source = FromReader::new(Dripping::new(&octets, call - 1));
-            let mut sink = ToVec::new(Vec::new(rt.alloc()));
-            let result = convert(
-                rt.alloc(),
-                &ty,
-                from,
-                Canonical::Der,
-                &mut source,
-                &mut sink,
-            );
-            let done = (call - 1) / 3;
-            // TRUE may be written as 01 in BER alone.
-            let want = match from {
-                Rule::Cer if call > 3 => (0, 12),
-                _ => (done as u64, 15),
-            };
-            assert_eq!(rt; counted(result), want, "at call {call}");
-            let written: &[u8] = match want.0 {
-                0 => &[],
-                1 => &[0x01, 0x01, 0xFF],
-                _ => &[0x01, 0x01, 0xFF, 0x01, 0x01, 0x00],
-            };
-            assert_eq!(rt; sink.as_slice(), written, "at call {call}");
-        }
+    check::<FailingSources>(rt.alloc(), FAILING_SOURCES)
+}
+
+// how many calls of the writer go well | how many values are done, and the refusal's number | what is written
+const FAILING_SINKS: &str = "\
+0 | 0 16 |
+1 | 0 16 | 01
+2 | 0 16 | 01 01
+3 | 1 16 | 01 01 FF
+4 | 1 16 | 01 01 FF 01
+5 | 1 16 | 01 01 FF 01 01";
+
+struct FailingSinks;
+
+impl Table for FailingSinks {
+    fn holds(alloc: Global, row: &str) -> Result<bool, Fail> {
+        let (good_calls, ending, written) = three(row)?;
+        let want = (octets_of(alloc, written)?, ending_of(ending)?);
+        let ty = boolean()?;
+        let mut source = FromSlice::new(&TRUE_AND_FALSE);
+        let mut sink = ToWriter::new(Filling::new(alloc, good_calls.parse::<usize>()?));
+        let to = Canonical::Der;
+        let result = convert(alloc, &ty, Rule::Ber, to, &mut source, &mut sink);
+        Ok((sink.into_inner().taken, counted(result)) == want)
     }
-    Ok(())
 }
 
 #[test]
 fn sink_that_fails_at_each_call(rt: HostRuntime) -> Result<(), Fail> {
-    let octets = [0x01, 0x01, 0x01, 0x01, 0x01, 0x00];
-    let ty = boolean()?;
-    for call in 1_usize..7 {
-        let mut sink = ToWriter::new(Filling::new(rt.alloc(), call - 1));
-        let mut source = FromSlice::new(&octets);
-        let result = convert(
-            rt.alloc(),
-            &ty,
-            Rule::Ber,
-            Canonical::Der,
-            &mut source,
-            &mut sink,
-        );
-        let done = (call - 1) / 3;
-        assert_eq!(rt; counted(result), (done as u64, 16), "at call {call}");
-        let want = [0x01, 0x01, 0xFF, 0x01, 0x01, 0x00];
-        let taken = sink.into_inner().taken;
-        assert_eq!(rt;
-            taken.as_slice(),
-            want.get(..call - 1).unwrap_or(&[]),
-            "at call {call}"
-        );
-    }
-    Ok(())
+    check::<FailingSinks>(rt.alloc(), FAILING_SINKS)
 }
 
 #[test]
@@ -185,7 +194,7 @@ fn sink_with_room_for_four_octets(rt: HostRuntime) -> Result<(), Fail> {
         &boolean()?,
         Rule::Ber,
         Canonical::Der,
-        &mut FromSlice::new(&[0x01, 0x01, 0x01, 0x01, 0x01, 0x00]),
+        &mut FromSlice::new(&TRUE_AND_FALSE),
         &mut sink,
     );
     assert_eq!(rt; counted(result), (1, 16));
@@ -200,7 +209,7 @@ fn too_long_an_encoding_is_only_checked(rt: HostRuntime) -> Result<(), Fail> {
     let mut octets = Vec::from_slice(alloc, &[0x30, 0x80, 0x04, 0x83, 0x0F, 0xFF, 0xF7])?;
     octets.resize(1_048_576, 0)?;
     let ty = type_of(alloc, "s")?;
-    let result = check(
+    let result = check_stream(
         alloc,
         &ty,
         Rule::Ber,

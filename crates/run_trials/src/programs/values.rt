@@ -3,17 +3,16 @@
 ghost use Rattle.std.specs.Prelude.{◌≡◌};
 
 use super::boolean;
-use super::rows::{column, names_of};
+use super::letters::names_of;
 use crate::dripping::Dripping;
-use convert::{
-    FromReader, FromSlice, NoMemory, Rule, Source, Values, WellTyped, conforms, show, unhex,
-};
+use crate::rows::{Table, check, four, octets_of, three, two};
+use convert::{FromReader, FromSlice, NoMemory, Rule, Source, Values, WellTyped, conforms, show};
 use std::alloc::Global;
 use std::test::Fail;
 
-// The rule by its first letter, the type by its letter, octets, the values' texts, the number of the refusal or 0, how
-// many values were returned, and how many octets they have.
-const ROWS: &str = "
+// the rule and the type by their letters | octets | the values' texts | the number of the refusal or 0 | how many values
+// were returned | how many octets they have
+const ROWS: &str = "\
 b b |                                  |                  | 0  | 0 | 0
 b b | 01 01 2a 01 01 00                | TRUE;FALSE;      | 0  | 2 | 6
 b b | 01 01 00 01 81 01 00 01          | FALSE;FALSE;     | 1  | 2 | 7
@@ -26,8 +25,7 @@ d o | 04 00 24 80 04 01 41 00 00       | ''H;             | 12 | 1 | 2
 c o | 04 01 41 04 81 01 42             | '41'H;           | 12 | 1 | 3
 b s | 30 80 04 01 41 04 00 00 00 30 00 | { '41'H, ''H };{ }; | 0 | 2 | 11
 d s | 30 03 04 01 41 30 02 04          | { '41'H };       | 1  | 1 | 5
-c s | 30 80 04 00 00 00 30 00          | { ''H };         | 12 | 1 | 6
-";
+c s | 30 80 04 00 00 00 30 00          | { ''H };         | 12 | 1 | 6";
 
 // A row of the table.
 #[derive(Drop)]
@@ -40,23 +38,25 @@ struct Row<'a> {
 }
 
 fn row_of<'a>(alloc: Global, line: &'a str) -> Result<Row<'a>, Fail> {
-    let (names, columns) = column(line)?;
-    let (octets, columns) = column(columns)?;
-    let (texts, columns) = column(columns)?;
-    let (number, columns) = column(columns)?;
-    let (done, offset) = column(columns)?;
+    let (names, octets, texts, ending) = four(line)?;
     let (rule, ty) = names_of(alloc, names)?;
     Ok(Row {
         rule,
         ty,
-        octets: unhex(alloc, octets.as_bytes())?,
+        octets: octets_of(alloc, octets)?,
         texts,
-        ending: (
-            number.parse::<u8>()?,
-            done.parse::<u64>()?,
-            offset.trim().parse::<u64>()?,
-        ),
+        ending: ending_of(ending)?,
     })
+}
+
+// The number of the refusal or 0, how many values were returned, and how many octets they have.
+fn ending_of(columns: &str) -> Result<(u8, u64, u64), Fail> {
+    let (number, done, offset) = three(columns)?;
+    Ok((
+        number.parse::<u8>()?,
+        done.parse::<u64>()?,
+        offset.parse::<u64>()?,
+    ))
 }
 
 // The number that stops the values, or 0 at the end. Their texts are put behind `out`, a semicolon behind each.
@@ -96,15 +96,24 @@ fn is_as_said<S: Source + Drop>(alloc: Global, row: &Row, source: S) -> Result<b
     Ok(ending == row.ending && again == number && texts.as_slice() == row.texts.as_bytes())
 }
 
-// Whether the values of a row's octets are as it says, from a slice and from a reader.
-fn is_right(alloc: Global, line: &str) -> Result<bool, Fail> {
-    let row = row_of(alloc, line)?;
-    let octets = row.octets.as_slice();
-    let dripping = Dripping::new(octets, octets.len() + 1);
-    Ok(
-        is_as_said(alloc, &row, FromSlice::new(octets))?
-            && is_as_said(alloc, &row, FromReader::new(dripping))?,
-    )
+// Values from a slice and from a reader.
+struct OfBoth;
+
+impl Table for OfBoth {
+    fn holds(alloc: Global, row: &str) -> Result<bool, Fail> {
+        let row = row_of(alloc, row)?;
+        let octets = row.octets.as_slice();
+        let dripping = Dripping::new(octets, octets.len() + 1);
+        Ok(
+            is_as_said(alloc, &row, FromSlice::new(octets))?
+                && is_as_said(alloc, &row, FromReader::new(dripping))?,
+        )
+    }
+}
+
+#[test]
+fn of_slices_and_of_readers(rt: HostRuntime) -> Result<(), Fail> {
+    check::<OfBoth>(rt.alloc(), ROWS)
 }
 
 // Whether the values of 01 01 01 and 01 01 00 end so, from a reader that fails once so many calls went well.
@@ -118,28 +127,25 @@ fn ends_so(alloc: Global, good_calls: usize, ending: (u8, u64, u64)) -> Result<b
     Ok(is_so && values.into_source().failed() == (number == 15))
 }
 
-#[test]
-fn of_slices_and_of_readers(rt: HostRuntime) -> Result<(), Fail> {
-    for line in ROWS.lines().skip(1) {
-        assert!(rt; is_right(rt.alloc(), line)?, "{line}");
+struct OfAFailingReader;
+
+impl Table for OfAFailingReader {
+    fn holds(alloc: Global, row: &str) -> Result<bool, Fail> {
+        let (good_calls, ending) = two(row)?;
+        ends_so(alloc, good_calls.parse::<usize>()?, ending_of(ending)?)
     }
-    Ok(())
 }
+
+// how many calls go well | the refusal's number | how many values came | how many octets they have
+const FAILING_READERS: &str = "\
+0 | 15 | 0 | 0
+2 | 15 | 0 | 0
+3 | 15 | 1 | 3
+5 | 15 | 1 | 3
+6 | 15 | 2 | 6
+7 | 0  | 2 | 6";
 
 #[test]
 fn of_a_reader_that_fails(rt: HostRuntime) -> Result<(), Fail> {
-    // (how many calls go well, the refusal's number, how many values came, and how many octets they have)
-    let cases = [
-        (0, 15, 0, 0),
-        (2, 15, 0, 0),
-        (3, 15, 1, 3),
-        (5, 15, 1, 3),
-        (6, 15, 2, 6),
-        (7, 0, 2, 6),
-    ];
-    for (good_calls, number, done, offset) in cases {
-        let is_so = ends_so(rt.alloc(), good_calls, (number, done, offset))?;
-        assert!(rt; is_so, "after {good_calls} calls");
-    }
-    Ok(())
+    check::<OfAFailingReader>(rt.alloc(), FAILING_READERS)
 }

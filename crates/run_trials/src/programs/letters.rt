@@ -1,24 +1,9 @@
-//! How the tables are read: a line is a row, with bars between its columns.
+//! The rules and the types of the tables, by their letters.
 
 use super::boolean;
 use convert::{Rule, Tag, Ty, WellTyped};
-use std::alloc::{AllocError, Global};
+use std::alloc::Global;
 use std::test::Fail;
-
-/// The column in front, and what is behind its bar.
-pub fn column(row: &str) -> Result<(&str, &str), Fail> {
-    let (first, others) = row.split_once('|').ok_or("too few columns")?;
-    Ok((first.trim(), others))
-}
-
-/// The lines of a column, in which a semicolon stands for a line feed.
-pub fn lines_of(alloc: Global, column: &str) -> Result<Vec<u8>, AllocError> {
-    let mut lines = Vec::new(alloc);
-    for octet in column.bytes() {
-        lines.push(if octet == b';' { b'\n' } else { octet })?;
-    }
-    Ok(lines)
-}
 
 /// The rule and the type of a column: their letters, with a space between them.
 pub fn names_of(alloc: Global, column: &str) -> Result<(Rule, WellTyped), Fail> {
