@@ -1,7 +1,6 @@
 //! Tests of the engine, and what they share.
 
 use convert::{Stopped, Tag, Ty, WellTyped};
-use std::alloc::{AllocError, Global};
 use std::test::Fail;
 
 mod command_lines;
@@ -27,13 +26,4 @@ pub fn counted(counted: Result<u64, Stopped>) -> (u64, u8) {
         Ok(done) => (done, 0),
         Err(stopped) => (stopped.done, stopped.refusal.number()),
     }
-}
-
-/// A text of this many spaces.
-pub fn spaces(alloc: Global, count: usize) -> Result<Vec<u8>, AllocError> {
-    let mut text = Vec::new(alloc);
-    for _ in 0..count {
-        text.push(b' ')?;
-    }
-    Ok(text)
 }

@@ -93,15 +93,20 @@ fn octets_of_part(alloc: Global, part: &str) -> Result<Vec<u8>, Fail> {
     Ok(octets)
 }
 
-// Appends the octets that pairs of digits spell; `unhex` is itself tested, and does not read the tables.
+// Appends the octets that pairs of digits spell.
 fn put_octets(octets: &mut Vec<u8>, digits: &str) -> Result<(), Fail> {
-    if digits.len() % 2 == 1 {
-        return Err("a digit without another".into());
-    }
     for pair in digits.as_bytes().chunks(2) {
-        octets.push(u8::from_str_radix(from_utf8(pair)?, 16)?)?;
+        octets.push(octet_of(pair)?)?;
     }
     Ok(())
+}
+
+// The octet of two digits; `unhex` is itself tested, and does not read the tables.
+fn octet_of(pair: &[u8]) -> Result<u8, Fail> {
+    if pair.len() != 2 {
+        return Err("a digit without another".into());
+    }
+    Ok(u8::from_str_radix(from_utf8(pair)?, 16)?)
 }
 
 /// Whether `Debug` prints what was found as this text.

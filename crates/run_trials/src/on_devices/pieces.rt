@@ -4,7 +4,6 @@ use crate::dripping::Dripping;
 use crate::rows::{Table, check, numbers_of, three, two};
 use devices::{Failed, FromReader, FromSlice, Piece, Source, whole_parts};
 use std::alloc::{AllocError, Global};
-use std::io::ErrorKind;
 use std::test::Fail;
 
 // So many octets, no two neighbours of them equal.
@@ -65,19 +64,22 @@ fn pieces_of_a_slice(rt: HostRuntime) -> Result<(), Fail> {
     check::<Pieces>(rt.alloc(), PIECES)
 }
 
+// Whether a read into a piece is answered so, and the source has failed only where it is refused.
+fn answers(
+    source: &mut FromReader<Dripping<'_>>,
+    piece: &mut Piece,
+    want: Result<(), Failed>,
+) -> bool {
+    !source.failed() && piece.read_from(source) == want && source.failed() == want.is_err()
+}
+
 #[test]
 fn pieces_of_a_reader_that_fails(rt: HostRuntime) {
-    let mut source = FromReader::new(Dripping {
-        octets: b"ab",
-        good_calls: 1,
-        then: ErrorKind::Other,
-    });
+    let mut source = FromReader::new(Dripping::new(b"ab", 1));
     let mut piece = Piece::new();
-    assert_eq!(rt; piece.read_from(&mut source), Ok(()));
-    assert_eq!(rt; piece.octets(), b"a".as_slice());
-    assert_eq!(rt; source.failed(), false);
-    assert_eq!(rt; piece.read_from(&mut source), Err(Failed));
-    assert_eq!(rt; source.failed(), true);
+    let is_given = answers(&mut source, &mut piece, Ok(()));
+    assert!(rt; is_given && piece.octets() == b"a".as_slice());
+    assert!(rt; answers(&mut source, &mut piece, Err(Failed)));
 }
 
 struct WholeParts;

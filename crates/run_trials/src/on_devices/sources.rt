@@ -54,10 +54,9 @@ fn slices(rt: HostRuntime) -> Result<(), Fail> {
 fn readers_over_slices(rt: HostRuntime) -> Result<(), Fail> {
     let mut source = FromReader::new(b"abcdefgh".as_slice());
     let mut out = Vec::new(rt.alloc());
-    assert_eq!(rt; read_on(&mut source, &mut out)?, Some(0));
-    assert_eq!(rt; out.as_slice(), b"abcdefgh".as_slice());
-    assert_eq!(rt; source.failed(), false);
-    assert_eq!(rt; source.into_inner().len(), 0);
+    let last = read_on(&mut source, &mut out)?;
+    assert!(rt; last == Some(0) && out.as_slice() == b"abcdefgh".as_slice() && !source.failed());
+    assert!(rt; source.into_inner().is_empty());
     Ok(())
 }
 
@@ -99,11 +98,9 @@ fn readers_that_fail(rt: HostRuntime) -> Result<(), Fail> {
 }
 
 #[test]
-fn an_empty_buffer_is_no_end(rt: HostRuntime) -> Result<(), Fail> {
+fn an_empty_buffer_is_no_end(rt: HostRuntime) {
     let mut source = FromSlice::new(b"a");
-    assert_eq!(rt; source.read(&mut []), Ok(0));
     let mut buffer = [0; 2];
-    assert_eq!(rt; source.read(&mut buffer), Ok(1));
-    assert_eq!(rt; buffer, [b'a', 0]);
-    Ok(())
+    let is_no_end = source.read(&mut []) == Ok(0);
+    assert!(rt; is_no_end && source.read(&mut buffer) == Ok(1) && buffer == [b'a', 0]);
 }

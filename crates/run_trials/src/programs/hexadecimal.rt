@@ -1,6 +1,5 @@
 //! Hexadecimal text.
 
-use super::spaces;
 use crate::rows::{Table, check, octets_of, prints, two};
 use convert::{HexFault, unhex};
 use std::alloc::Global;
@@ -42,6 +41,22 @@ fn hexadecimal_text(rt: HostRuntime) -> Result<(), Fail> {
     check::<Texts>(rt.alloc(), TEXTS)
 }
 
+// a long text | how many octets it spells, or the fault
+const LONG_TEXTS: &str = "\
+' ' x4194304      | Ok(0)
+' ' x4194305      | Err(TooLong)
+' ' x4194305, 'x' | Err(TooLong)";
+
+struct LongTexts;
+
+impl Table for LongTexts {
+    fn holds(alloc: Global, row: &str) -> Result<bool, Fail> {
+        let (text, want) = two(row)?;
+        let text = octets_of(alloc, text)?;
+        prints(alloc, &count_of(alloc, text.as_slice()), want)
+    }
+}
+
 // How many octets a text spells, or its fault.
 fn count_of(alloc: Global, text: &[u8]) -> Result<usize, HexFault> {
     Ok(unhex(alloc, text)?.len())
@@ -49,11 +64,5 @@ fn count_of(alloc: Global, text: &[u8]) -> Result<usize, HexFault> {
 
 #[test]
 fn longest_hexadecimal_text(rt: HostRuntime) -> Result<(), Fail> {
-    let mut text = spaces(rt.alloc(), 4_194_304)?;
-    assert!(rt; count_of(rt.alloc(), text.as_slice()) == Ok(0));
-    text.push(b' ')?;
-    assert!(rt; count_of(rt.alloc(), text.as_slice()) == Err(HexFault::TooLong));
-    text.push(b'x')?;
-    assert!(rt; count_of(rt.alloc(), text.as_slice()) == Err(HexFault::TooLong));
-    Ok(())
+    check::<LongTexts>(rt.alloc(), LONG_TEXTS)
 }

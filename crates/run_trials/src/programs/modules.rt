@@ -1,9 +1,8 @@
 //! Runs over the types of modules.
 
 use super::printed::{Printed, is_printed, is_so, line_of, run_over};
-use super::spaces;
 use crate::dripping::Dripping;
-use crate::rows::{Table, check, kind_of, lines_of, three, two};
+use crate::rows::{Table, check, four, kind_of, lines_of, octets_of, three, two};
 use convert::read_module;
 use program::cannot_read_module;
 use std::alloc::Global;
@@ -93,35 +92,51 @@ fn modules_that_are_refused(rt: HostRuntime) -> Result<(), Fail> {
     check::<RefusedModules>(rt.alloc(), REFUSED_MODULES)
 }
 
+// Modules that are octets.
+struct OctetModules;
+
+impl Table for OctetModules {
+    fn holds(alloc: Global, row: &str) -> Result<bool, Fail> {
+        let (module, input, out, columns) = four(row)?;
+        let (err, status) = two(columns)?;
+        let module = octets_of(alloc, module)?;
+        let want = (
+            lines_of(alloc, out)?,
+            lines_of(alloc, err)?,
+            status.parse::<u8>()?,
+        );
+        Ok(run_of(alloc, module.as_slice(), input.as_bytes())? == want)
+    }
+}
+
+// octets of a module | the input | the standard output | the standard error | the status
+const OCTET_MODULES: &str = "\
+'M', 0A FF || | asn1x: module refused 21 Token at 1:1; | 2
+# 262,144 octets, and one more
+' ' x262106, 'M DEFINITIONS ::= BEGIN T ::= NULL END' | 05 00 | 0500; || 0
+' ' x262106, 'M DEFINITIONS ::= BEGIN T ::= NULL END', FF || | asn1x: module refused 31 TooLarge at 1:1; | 2";
+
 #[test]
 fn modules_that_are_no_text(rt: HostRuntime) -> Result<(), Fail> {
-    let found = run_of(rt.alloc(), b"M\n\xFF", b"")?;
-    assert!(rt; is_printed(&found, ("", "asn1x: module refused 21 Token at 1:1\n", 2)));
-    let front = b"M DEFINITIONS ::= BEGIN T ::= NULL END";
-    let mut module = spaces(rt.alloc(), 262_144 - front.len())?;
-    module.extend_from_slice(front)?;
-    let found = run_of(rt.alloc(), module.as_slice(), b"05 00")?;
-    assert!(rt; is_printed(&found, ("0500\n", "", 0)));
-    module.push(b'\xFF')?;
-    let found = run_of(rt.alloc(), module.as_slice(), b"")?;
-    assert!(rt;
-        is_printed(
-            &found,
-            ("", "asn1x: module refused 31 TooLarge at 1:1\n", 2)
-        )
-    );
-    Ok(())
+    check::<OctetModules>(rt.alloc(), OCTET_MODULES)
+}
+
+// What is read of a module's file.
+fn read_of(alloc: Global, file: &[u8]) -> Result<Vec<u8>, Fail> {
+    let mut file = file;
+    match read_module(alloc, &mut file) {
+        Ok(octets) => Ok(octets),
+        Err(_) => Err("not read".into()),
+    }
 }
 
 #[test]
 fn files_of_modules(rt: HostRuntime) -> Result<(), Fail> {
-    let octets = read_module(rt.alloc(), &mut CALLS.as_bytes());
-    let octets = octets.ok().ok_or("not read")?;
+    let octets = read_of(rt.alloc(), CALLS.as_bytes())?;
     assert!(rt; octets.as_slice() == CALLS.as_bytes());
     // one octet more than a text may have is enough to refuse it
-    let long = spaces(rt.alloc(), 262_150)?;
-    let octets = read_module(rt.alloc(), &mut long.as_slice());
-    assert!(rt; octets.ok().ok_or("not read")?.len() == 262_145);
+    let long = octets_of(rt.alloc(), "' ' x262150")?;
+    assert!(rt; read_of(rt.alloc(), long.as_slice())?.len() == 262_145);
     let cut = read_module(rt.alloc(), &mut Dripping::new(b"M DEFINITIONS", 5));
     assert!(rt; cut.is_err());
     Ok(())

@@ -1,9 +1,10 @@
 //! How the tables of runs are read, and what runs print and return.
 //!
 //! A row has the words behind the program's name, the input, the standard output, the standard error and the status.
-//! With `--hex` the input is a text, and else octets; so are those that `convert` writes without it.
+//! With `--hex` the input is a text, and else octets; so are those that `convert` writes without it. In rows of long
+//! texts they are octets too.
 
-use crate::rows::{Table, lines_of, octets_of, three, two};
+use crate::rows::{Table, four, lines_of, octets_of, three, two};
 use program::{Line, LineFault, Verb, line, run};
 use std::alloc::Global;
 use std::test::Fail;
@@ -41,8 +42,8 @@ pub fn out_of(alloc: Global, line: &Line, column: &str) -> Result<Vec<u8>, Fail>
     }
 }
 
-// What columns say that a run prints and returns.
-fn printed_of(alloc: Global, line: &Line, columns: &str) -> Result<Printed, Fail> {
+/// What columns say that a run prints and returns.
+pub fn printed_of(alloc: Global, line: &Line, columns: &str) -> Result<Printed, Fail> {
     let (out, err, status) = three(columns)?;
     let out = out_of(alloc, line, out)?;
     let err = lines_of(alloc, err)?;
@@ -82,5 +83,23 @@ impl Table for Runs {
         let (words, columns) = two(row)?;
         let line = line_of(alloc, words)?;
         is_so(alloc, &line, "", columns)
+    }
+}
+
+/// Runs over built-in types whose texts are long.
+pub struct LongRuns;
+
+impl Table for LongRuns {
+    fn holds(alloc: Global, row: &str) -> Result<bool, Fail> {
+        let (words, input, out, columns) = four(row)?;
+        let (err, status) = two(columns)?;
+        let line = line_of(alloc, words)?;
+        let input = octets_of(alloc, input)?;
+        let want = (
+            octets_of(alloc, out)?,
+            lines_of(alloc, err)?,
+            status.parse::<u8>()?,
+        );
+        Ok(run_over(alloc, &line, &[], input.as_slice()) == want)
     }
 }

@@ -1,7 +1,6 @@
 //! What a run prints and returns over devices that do not fail.
 
-use super::printed::{Runs, is_printed, is_so, line_of, run_over};
-use super::spaces;
+use super::printed::{LongRuns, Runs, is_printed, is_so, line_of, run_over};
 use crate::rows::{Table, check, two};
 use convert::Canonical;
 use std::alloc::Global;
@@ -29,20 +28,14 @@ fn runs(rt: HostRuntime) -> Result<(), Fail> {
 const TO_CER: &str = "\
 convert,@builtin,OCTET STRING,in,--hex,--to,cer | 04 81 01 41 | 040141; || 0";
 
+// 1001 octets 41: the first 1000, and the last.
+const LONG_TO_CER: &str = "\
+convert,@builtin,OCTET STRING,in,--hex,--to,cer | '048203e9', '41' x1000, '41' | '2480048203e8', '41' x1000, '0401410000', 0A || 0";
+
 #[test]
 fn run_to_cer(rt: HostRuntime) -> Result<(), Fail> {
     check::<Runs>(rt.alloc(), TO_CER)?;
-    let line = line_of(
-        rt.alloc(),
-        "convert,@builtin,OCTET STRING,in,--hex,--to,cer",
-    )?;
-    // 1001 octets 41: the first 1000, and the last.
-    let full = "41".repeat(rt.alloc(), 1_000)?;
-    let text = format!(in rt.alloc(); "048203e9{full}41")?;
-    let want = format!(in rt.alloc(); "2480048203e8{full}0401410000\n")?;
-    let found = run_over(rt.alloc(), &line, &[], text.as_bytes());
-    assert!(rt; is_printed(&found, (want.as_str(), "", 0)));
-    Ok(())
+    check::<LongRuns>(rt.alloc(), LONG_TO_CER)
 }
 
 const FROM_DER: &str = "\
@@ -54,17 +47,13 @@ fn run_from_der(rt: HostRuntime) -> Result<(), Fail> {
     check::<Runs>(rt.alloc(), FROM_DER)
 }
 
+const TOO_LONG: &str = "\
+convert,@builtin,NULL,in,--hex,--to,der | ' ' x4194300, '0500'      | '0500', 0A || 0
+convert,@builtin,NULL,in,--hex,--to,der | ' ' x4194300, '0500', 'x' || asn1x: hexadecimal text too long; | 1";
+
 #[test]
 fn run_over_too_long_a_text(rt: HostRuntime) -> Result<(), Fail> {
-    let line = line_of(rt.alloc(), "convert,@builtin,NULL,in,--hex,--to,der")?;
-    let mut text = spaces(rt.alloc(), 4_194_300)?;
-    text.extend_from_slice(b"0500")?;
-    let found = run_over(rt.alloc(), &line, &[], text.as_slice());
-    assert!(rt; is_printed(&found, ("0500\n", "", 0)));
-    text.push(b'x')?;
-    let found = run_over(rt.alloc(), &line, &[], text.as_slice());
-    assert!(rt; is_printed(&found, ("", "asn1x: hexadecimal text too long\n", 1)));
-    Ok(())
+    check::<LongRuns>(rt.alloc(), TOO_LONG)
 }
 
 // Runs of command lines that have a rule to write by, whatever their command.

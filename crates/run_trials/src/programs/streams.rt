@@ -5,8 +5,8 @@ use super::{boolean, counted};
 use crate::dripping::{Dripping, Filling};
 use crate::rows::{Table, check, four, lines_of, octets_of, three};
 use convert::{
-    Canonical, FromReader, FromSlice, Rule, Stopped, ToVec, ToWriter, WellTyped,
-    check as check_stream, convert, list,
+    Canonical, FromReader, FromSlice, Rule, ToVec, ToWriter, WellTyped, check as check_stream,
+    convert, list,
 };
 use std::alloc::Global;
 use std::test::Fail;
@@ -197,27 +197,18 @@ fn sink_with_room_for_four_octets(rt: HostRuntime) -> Result<(), Fail> {
         &mut FromSlice::new(&TRUE_AND_FALSE),
         &mut sink,
     );
-    assert_eq!(rt; counted(result), (1, 16));
-    assert_eq!(rt; room, [0x01, 0x01, 0xFF, 0x01]);
+    assert!(rt; counted(result) == (1, 16) && room == [0x01, 0x01, 0xFF, 0x01]);
     Ok(())
 }
 
 #[test]
 fn too_long_an_encoding_is_only_checked(rt: HostRuntime) -> Result<(), Fail> {
-    let alloc = rt.alloc();
-    // 30 80, 04 83 0F FF F7 and as many octets 00, 00 00: 1,048,576 octets in all.
-    let mut octets = Vec::from_slice(alloc, &[0x30, 0x80, 0x04, 0x83, 0x0F, 0xFF, 0xF7])?;
-    octets.resize(1_048_576, 0)?;
-    let ty = type_of(alloc, "s")?;
-    let result = check_stream(
-        alloc,
-        &ty,
-        Rule::Ber,
-        &mut FromSlice::new(octets.as_slice()),
-    );
-    assert_eq!(rt; result, Ok::<u64, Stopped>(1));
-    let (written, count) = converted(alloc, &ty, Rule::Ber, octets.as_slice());
-    assert_eq!(rt; count, (0, 14));
-    assert_eq!(rt; written.len(), 0);
+    // 1,048,576 octets in all
+    let octets = octets_of(rt.alloc(), "30 80, 04 83 0F FF F7, 00 x1048567, 00 00")?;
+    let ty = type_of(rt.alloc(), "s")?;
+    let source = &mut FromSlice::new(octets.as_slice());
+    let checked = counted(check_stream(rt.alloc(), &ty, Rule::Ber, source));
+    let (written, count) = converted(rt.alloc(), &ty, Rule::Ber, octets.as_slice());
+    assert!(rt; checked == (1, 0) && count == (0, 14) && written.is_empty());
     Ok(())
 }
