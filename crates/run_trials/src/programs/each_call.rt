@@ -1,6 +1,6 @@
 //! Runs over devices of one octet a call that fail at each call in turn: what was done before is printed, and no more.
 
-use super::printed::{Printed, input_of, is_printed, line_of, out_of};
+use super::printed::{Printed, input_of, line_of, out_of};
 use crate::dripping::{Dripping, Filling};
 use crate::rows::{Table, check, four, lines_of, three, two};
 use program::{Line, run};
