@@ -31,22 +31,24 @@ pub fn check<T: Table>(alloc: Global, table: &str) -> Result<(), Fail> {
 
 /// The column in front, and those behind it.
 pub fn two(row: &str) -> Result<(&str, &str), Fail> {
-    let (first, second) = row.split_once('|').ok_or("too few columns")?;
-    Ok((first.trim(), second.trim()))
+    match row.split_once('|') {
+        Some((first, others)) => Ok((first.trim(), others.trim())),
+        None => Err("too few columns".into()),
+    }
 }
 
 /// The two columns in front, and those behind them.
 pub fn three(row: &str) -> Result<(&str, &str, &str), Fail> {
     let (first, others) = two(row)?;
-    let (second, third) = two(others)?;
-    Ok((first, second, third))
+    let (second, others) = two(others)?;
+    Ok((first, second, others))
 }
 
 /// The three columns in front, and those behind them.
 pub fn four(row: &str) -> Result<(&str, &str, &str, &str), Fail> {
-    let (first, others) = two(row)?;
-    let (second, third, fourth) = three(others)?;
-    Ok((first, second, third, fourth))
+    let (first, second, others) = three(row)?;
+    let (third, others) = two(others)?;
+    Ok((first, second, third, others))
 }
 
 /// The numbers of a column.
@@ -72,22 +74,28 @@ pub fn octets_of(alloc: Global, column: &str) -> Result<Vec<u8>, Fail> {
     let mut octets = Vec::new(alloc);
     for part in column.split(',') {
         let (once, times) = part.split_once(" x").unwrap_or((part, "1"));
-        let once = octets_of_part(alloc, once.trim())?;
-        for _ in 0..times.trim().parse::<usize>()? {
-            octets.extend_from_slice(once.as_slice())?;
-        }
+        let once = spelt(alloc, once.trim())?;
+        put_times(&mut octets, once.as_slice(), times.trim().parse::<usize>()?)?;
     }
     Ok(octets)
 }
 
-// The octets of one part: those of the characters between `'`, or those that digits spell.
-fn octets_of_part(alloc: Global, part: &str) -> Result<Vec<u8>, Fail> {
-    if let Some(text) = part.strip_prefix('\'') {
+// Appends octets as many times.
+fn put_times(octets: &mut Vec<u8>, once: &[u8], times: usize) -> Result<(), AllocError> {
+    for _ in 0..times {
+        octets.extend_from_slice(once)?;
+    }
+    Ok(())
+}
+
+// The octets of the characters between `'`, or those that digits spell.
+fn spelt(alloc: Global, once: &str) -> Result<Vec<u8>, Fail> {
+    if let Some(text) = once.strip_prefix('\'') {
         let text = text.strip_suffix('\'').ok_or("characters without an end")?;
         return Ok(Vec::from_slice(alloc, text.as_bytes())?);
     }
     let mut octets = Vec::new(alloc);
-    for digits in part.split(' ') {
+    for digits in once.split(' ') {
         put_octets(&mut octets, digits)?;
     }
     Ok(octets)

@@ -26,7 +26,7 @@ fn read_on<S: Source>(source: &mut S, out: &mut Vec<u8>) -> Result<Option<usize>
     Ok(last)
 }
 
-// WholeSlices that are read to their end.
+// Slices that are read to their end.
 struct WholeSlices;
 
 impl Table for WholeSlices {
@@ -39,6 +39,7 @@ impl Table for WholeSlices {
     }
 }
 
+// octets, which are all read
 const SLICES: &str = "\
 ''
 'abc'

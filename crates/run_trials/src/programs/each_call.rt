@@ -106,10 +106,10 @@ fn is_cut_by_reader(
 
 // words | what is printed of two values | where what stands for each ends | what else is printed of all
 const READERS: &str = "\
-show,@builtin,OCTET STRING,in             | '41'H;''H;     | 6 10 |
-check,@builtin,OCTET STRING,in            |                | 0 0  | ok 2;
-convert,@builtin,OCTET STRING,in,--to,der | 04 01 41 04 00 | 3 5  |
-convert,@builtin,OCTET STRING,in,--to,cer | 04 01 41 04 00 | 3 5  |";
+show,@builtin,OCTET STRING,in.hex             | '41'H;''H;     | 6 10 |
+check,@builtin,OCTET STRING,in.hex            |                | 0 0  | ok 2;
+convert,@builtin,OCTET STRING,in.hex,--to,der | 04 01 41 04 00 | 3 5  |
+convert,@builtin,OCTET STRING,in.hex,--to,cer | 04 01 41 04 00 | 3 5  |";
 
 #[test]
 fn reader_that_fails_at_each_call(rt: HostRuntime) -> Result<(), Fail> {
@@ -156,16 +156,16 @@ fn check_writes(
     Ok(())
 }
 
-// words | the input | what is printed of two values | where what stands for each ends | the standard error and the
-// status where the writer does not fail
+// words | the input | what is printed of two values | where what stands for each ends | the standard error where the
+// writer does not fail | the status there
 const WRITERS: &str = "\
-show,@builtin,OCTET STRING,in                   | 24 80 04 01 41 00 00 04 00 | '41'H;''H;     | 6 10 | | 0
-check,@builtin,OCTET STRING,in                  | 24 80 04 01 41 00 00 04 00 | ok 2;          | 0 0  | | 0
-check,@builtin,OCTET STRING,in,--hex            | 24 80 04 01 41 00 00 04 00 | ok 2;          | 0 0  | | 0
-convert,@builtin,OCTET STRING,in,--to,der       | 24 80 04 01 41 00 00 04 00 | 04 01 41 04 00 | 3 5  | | 0
-convert,@builtin,OCTET STRING,in,--hex,--to,der | 24 80 04 01 41 00 00 04 00 | 0401410400;    | 6 10 | | 0
+show,@builtin,OCTET STRING,in.hex                   | 24 80 04 01 41 00 00 04 00 | '41'H;''H;     | 6 10 | | 0
+check,@builtin,OCTET STRING,in.hex                  | 24 80 04 01 41 00 00 04 00 | ok 2;          | 0 0  | | 0
+check,@builtin,OCTET STRING,in.hex,--hex            | 24 80 04 01 41 00 00 04 00 | ok 2;          | 0 0  | | 0
+convert,@builtin,OCTET STRING,in.hex,--to,der       | 24 80 04 01 41 00 00 04 00 | 04 01 41 04 00 | 3 5  | | 0
+convert,@builtin,OCTET STRING,in.hex,--hex,--to,der | 24 80 04 01 41 00 00 04 00 | 0401410400;    | 6 10 | | 0
 # the line feed is written before the refusal
-convert,@builtin,OCTET STRING,in,--hex,--to,der | 0401410400 05 | 0401410400; | 6 10 | asn1x: refused 2 Identifier after 2 values; | 1";
+convert,@builtin,OCTET STRING,in.hex,--hex,--to,der | 0401410400 05 | 0401410400; | 6 10 | asn1x: refused 2 Identifier after 2 values; | 1";
 
 #[test]
 fn writer_that_fails_at_each_call(rt: HostRuntime) -> Result<(), Fail> {

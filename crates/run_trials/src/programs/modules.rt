@@ -33,10 +33,10 @@ impl Table for CallRuns {
 
 // Two calls: one of 7 seconds with its number in segments and its parts in long lengths, and one of none.
 const TWO_CALLS: &str = "\
-convert,calls.asn,Call,in,--hex,--to,der | 30 80 62 80 04 01 35 04 01 36 00 00 80 81 01 07 81 01 05 00 00 30 07 42 02 35 36 80 01 00 | 300a42023536800107810105300442023536; || 0
-convert,calls.asn,Call,in,--hex,--to,cer | 30 80 62 80 04 01 35 04 01 36 00 00 80 81 01 07 81 01 05 00 00 30 07 42 02 35 36 80 01 00 | 30804202353680010781010500003080420235360000; || 0
-show,calls.asn,Call,in,--hex             | 30 80 62 80 04 01 35 04 01 36 00 00 80 81 01 07 81 01 05 00 00 30 07 42 02 35 36 80 01 00 | { caller \"56\", seconds 7, ended busy };{ caller \"56\" }; || 0
-check,calls.asn,Call,in,--hex            | 30 80 62 80 04 01 35 04 01 36 00 00 80 81 01 07 81 01 05 00 00 30 07 42 02 35 36 80 01 00 | ok 2; || 0";
+convert,calls.asn,Call,in.hex,--hex,--to,der | 30 80 62 80 04 01 35 04 01 36 00 00 80 81 01 07 81 01 05 00 00 30 07 42 02 35 36 80 01 00 | 300a42023536800107810105300442023536; || 0
+convert,calls.asn,Call,in.hex,--hex,--to,cer | 30 80 62 80 04 01 35 04 01 36 00 00 80 81 01 07 81 01 05 00 00 30 07 42 02 35 36 80 01 00 | 30804202353680010781010500003080420235360000; || 0
+show,calls.asn,Call,in.hex,--hex             | 30 80 62 80 04 01 35 04 01 36 00 00 80 81 01 07 81 01 05 00 00 30 07 42 02 35 36 80 01 00 | { caller \"56\", seconds 7, ended busy };{ caller \"56\" }; || 0
+check,calls.asn,Call,in.hex,--hex            | 30 80 62 80 04 01 35 04 01 36 00 00 80 81 01 07 81 01 05 00 00 30 07 42 02 35 36 80 01 00 | ok 2; || 0";
 
 #[test]
 fn runs_of_each_command_with_a_module(rt: HostRuntime) -> Result<(), Fail> {
@@ -44,7 +44,7 @@ fn runs_of_each_command_with_a_module(rt: HostRuntime) -> Result<(), Fail> {
 }
 
 const WRONG_NUMBER: &str = "\
-convert,calls.asn,Number,in,--hex,--to,der | 42 01 35 42 01 41 | 420135; | asn1x: refused 7 Alphabet after 1 values; | 1";
+convert,calls.asn,Number,in.hex,--hex,--to,der | 42 01 35 42 01 41 | 420135; | asn1x: refused 7 Alphabet after 1 values; | 1";
 
 #[test]
 fn runs_of_a_module_over_wrong_octets(rt: HostRuntime) -> Result<(), Fail> {
@@ -53,7 +53,7 @@ fn runs_of_a_module_over_wrong_octets(rt: HostRuntime) -> Result<(), Fail> {
 
 // What a run over the type `T` of a module prints and returns.
 fn run_of(alloc: Global, module: &[u8], input: &[u8]) -> Result<Printed, Fail> {
-    let line = line_of(alloc, "convert,calls.asn,T,in,--hex,--to,der")?;
+    let line = line_of(alloc, "convert,calls.asn,T,in.hex,--hex,--to,der")?;
     Ok(run_over(alloc, &line, module, input))
 }
 

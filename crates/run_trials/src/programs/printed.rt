@@ -1,8 +1,8 @@
 //! How the tables of runs are read, and what runs print and return.
 //!
 //! A row has the words behind the program's name, the input, the standard output, the standard error and the status.
-//! With `--hex` the input is a text, and else octets; so are those that `convert` writes without it. In rows of long
-//! texts they are octets too.
+//! With `--hex` the input is a text, and else octets, as are those that `convert` then writes. Where texts are long,
+//! octets spell the input and the output of each row.
 
 use crate::rows::{Table, four, lines_of, octets_of, three, two};
 use program::{Line, LineFault, Verb, line, run};

@@ -7,18 +7,18 @@ use std::alloc::Global;
 use std::test::Fail;
 
 const RUNS: &str = "\
-convert,@builtin,BOOLEAN,in,--hex,--to,der      | 01 01 2a       | 0101ff;       || 0
-convert,@builtin,OCTET STRING,in,--hex,--to,der | 0482000141     | 040141;       || 0
-convert,@builtin,INTEGER,in,--hex,--to,der      | 02 02 00 7f    || asn1x: refused 6 Contents after 0 values;  | 1
-convert,@builtin,NULL,in,--hex,--to,der         | 05 0           || asn1x: not hexadecimal;                    | 1
-convert,@builtin,NULL,in,--hex,--to,der         | 05;00;         | 0500;         || 0
-convert,@builtin,OCTET STRING,in,--hex,--to,der | 04 02 AB CD    | 0402abcd;     || 0
-convert,@builtin,BOOLEAN,in,--hex,--to,der      |                |               || 0
-convert,@builtin,BOOLEAN,in,--hex,--to,der      | 0101ff0101ff   | 0101ff0101ff; || 0
-convert,@builtin,BOOLEAN,in,--hex,--to,der      | 01 01 01 01 01 | 0101ff; | asn1x: refused 1 Truncated after 1 values; | 1
-convert,@builtin,REAL,in,--hex,--to,der         | 05 0           || asn1x: no such built-in type; | 64
-convert,@builtin,boolean,in,--hex,--to,der      | 0101ff         || asn1x: no such built-in type; | 64
-convert,@builtin,,in,--hex,--to,der             | 0101ff         || asn1x: no such built-in type; | 64";
+convert,@builtin,BOOLEAN,in.hex,--hex,--to,der      | 01 01 2a       | 0101ff;       || 0
+convert,@builtin,OCTET STRING,in.hex,--hex,--to,der | 0482000141     | 040141;       || 0
+convert,@builtin,INTEGER,in.hex,--hex,--to,der      | 02 02 00 7f    || asn1x: refused 6 Contents after 0 values;  | 1
+convert,@builtin,NULL,in.hex,--hex,--to,der         | 05 0           || asn1x: not hexadecimal;                    | 1
+convert,@builtin,NULL,in.hex,--hex,--to,der         | 05;00;         | 0500;         || 0
+convert,@builtin,OCTET STRING,in.hex,--hex,--to,der | 04 02 AB CD    | 0402abcd;     || 0
+convert,@builtin,BOOLEAN,in.hex,--hex,--to,der      |                |               || 0
+convert,@builtin,BOOLEAN,in.hex,--hex,--to,der      | 0101ff0101ff   | 0101ff0101ff; || 0
+convert,@builtin,BOOLEAN,in.hex,--hex,--to,der      | 01 01 01 01 01 | 0101ff; | asn1x: refused 1 Truncated after 1 values; | 1
+convert,@builtin,REAL,in.hex,--hex,--to,der         | 05 0           || asn1x: no such built-in type; | 64
+convert,@builtin,boolean,in.hex,--hex,--to,der      | 0101ff         || asn1x: no such built-in type; | 64
+convert,@builtin,,in.hex,--hex,--to,der             | 0101ff         || asn1x: no such built-in type; | 64";
 
 #[test]
 fn runs(rt: HostRuntime) -> Result<(), Fail> {
@@ -26,11 +26,11 @@ fn runs(rt: HostRuntime) -> Result<(), Fail> {
 }
 
 const TO_CER: &str = "\
-convert,@builtin,OCTET STRING,in,--hex,--to,cer | 04 81 01 41 | 040141; || 0";
+convert,@builtin,OCTET STRING,in.hex,--hex,--to,cer | 04 81 01 41 | 040141; || 0";
 
 // 1001 octets 41: the first 1000, and the last.
 const LONG_TO_CER: &str = "\
-convert,@builtin,OCTET STRING,in,--hex,--to,cer | '048203e9', '41' x1000, '41' | '2480048203e8', '41' x1000, '0401410000', 0A || 0";
+convert,@builtin,OCTET STRING,in.hex,--hex,--to,cer | '048203e9', '41' x1000, '41' | '2480048203e8', '41' x1000, '0401410000', 0A || 0";
 
 #[test]
 fn run_to_cer(rt: HostRuntime) -> Result<(), Fail> {
@@ -39,8 +39,8 @@ fn run_to_cer(rt: HostRuntime) -> Result<(), Fail> {
 }
 
 const FROM_DER: &str = "\
-convert,@builtin,BOOLEAN,in,--hex,--to,der,--from,der | 0101ff | 0101ff; || 0
-convert,@builtin,BOOLEAN,in,--hex,--to,der,--from,der | 01012a || asn1x: refused 12 NotCanonical after 0 values; | 1";
+convert,@builtin,BOOLEAN,in.hex,--hex,--to,der,--from,der | 0101ff | 0101ff; || 0
+convert,@builtin,BOOLEAN,in.hex,--hex,--to,der,--from,der | 01012a || asn1x: refused 12 NotCanonical after 0 values; | 1";
 
 #[test]
 fn run_from_der(rt: HostRuntime) -> Result<(), Fail> {
@@ -48,8 +48,8 @@ fn run_from_der(rt: HostRuntime) -> Result<(), Fail> {
 }
 
 const TOO_LONG: &str = "\
-convert,@builtin,NULL,in,--hex,--to,der | ' ' x4194300, '0500'      | '0500', 0A || 0
-convert,@builtin,NULL,in,--hex,--to,der | ' ' x4194300, '0500', 'x' || asn1x: hexadecimal text too long; | 1";
+convert,@builtin,NULL,in.hex,--hex,--to,der | ' ' x4194300, '0500'      | '0500', 0A || 0
+convert,@builtin,NULL,in.hex,--hex,--to,der | ' ' x4194300, '0500', 'x' || asn1x: hexadecimal text too long; | 1";
 
 #[test]
 fn run_over_too_long_a_text(rt: HostRuntime) -> Result<(), Fail> {
@@ -69,15 +69,15 @@ impl Table for WithRule {
 }
 
 const COMMANDS: &str = "\
-show,@builtin,BOOLEAN,in,--hex             | 01 01 2A 01 01 00 | TRUE;FALSE;   || 0
-show,@builtin,BOOLEAN,in                   | 01 01 2A 01 01 00 | TRUE;FALSE;   || 0
-check,@builtin,BOOLEAN,in,--hex            | 01 01 2A 01 01 00 | ok 2;         || 0
-check,@builtin,BOOLEAN,in                  | 01 01 2A 01 01 00 | ok 2;         || 0
-convert,@builtin,BOOLEAN,in,--hex,--to,der | 01 01 2A 01 01 00 | 0101ff010100; || 0
-show,@builtin,BOOLEAN,in,--hex,--from,der  | 01 01 2A 01 01 00 || asn1x: refused 12 NotCanonical after 0 values; | 1
-show,@builtin,BOOLEAN,in,--from,der        | 01 01 2A 01 01 00 || asn1x: refused 12 NotCanonical after 0 values; | 1
-check,@builtin,BOOLEAN,in,--hex,--from,cer | 01 01 2A 01 01 00 || asn1x: refused 12 NotCanonical after 0 values; | 1
-check,@builtin,BOOLEAN,in,--from,cer       | 01 01 2A 01 01 00 || asn1x: refused 12 NotCanonical after 0 values; | 1";
+show,@builtin,BOOLEAN,in.hex,--hex             | 01 01 2A 01 01 00 | TRUE;FALSE;   || 0
+show,@builtin,BOOLEAN,in.hex                   | 01 01 2A 01 01 00 | TRUE;FALSE;   || 0
+check,@builtin,BOOLEAN,in.hex,--hex            | 01 01 2A 01 01 00 | ok 2;         || 0
+check,@builtin,BOOLEAN,in.hex                  | 01 01 2A 01 01 00 | ok 2;         || 0
+convert,@builtin,BOOLEAN,in.hex,--hex,--to,der | 01 01 2A 01 01 00 | 0101ff010100; || 0
+show,@builtin,BOOLEAN,in.hex,--hex,--from,der  | 01 01 2A 01 01 00 || asn1x: refused 12 NotCanonical after 0 values; | 1
+show,@builtin,BOOLEAN,in.hex,--from,der        | 01 01 2A 01 01 00 || asn1x: refused 12 NotCanonical after 0 values; | 1
+check,@builtin,BOOLEAN,in.hex,--hex,--from,cer | 01 01 2A 01 01 00 || asn1x: refused 12 NotCanonical after 0 values; | 1
+check,@builtin,BOOLEAN,in.hex,--from,cer       | 01 01 2A 01 01 00 || asn1x: refused 12 NotCanonical after 0 values; | 1";
 
 #[test]
 fn runs_of_each_command(rt: HostRuntime) -> Result<(), Fail> {
@@ -85,9 +85,9 @@ fn runs_of_each_command(rt: HostRuntime) -> Result<(), Fail> {
 }
 
 const OVER_OCTETS: &str = "\
-convert,@builtin,OCTET STRING,in,--to,der | 04 81 01, 'A'  | 04 01, 'A' || 0
-convert,@builtin,OCTET STRING,in,--to,der | 04 01, 'A', 04 | 04 01, 'A' | asn1x: refused 1 Truncated after 1 values; | 1
-convert,@builtin,OCTET STRING,in,--to,der | ''             | ''         || 0";
+convert,@builtin,OCTET STRING,in.hex,--to,der | 04 81 01, 'A'  | 04 01, 'A' || 0
+convert,@builtin,OCTET STRING,in.hex,--to,der | 04 01, 'A', 04 | 04 01, 'A' | asn1x: refused 1 Truncated after 1 values; | 1
+convert,@builtin,OCTET STRING,in.hex,--to,der | ''             | ''         || 0";
 
 #[test]
 fn runs_over_octets(rt: HostRuntime) -> Result<(), Fail> {
@@ -95,12 +95,12 @@ fn runs_over_octets(rt: HostRuntime) -> Result<(), Fail> {
 }
 
 const NOTHING_DONE: &str = "\
-check,@builtin,NULL,in,--hex  | 0500 | ok 1; || 0
-check,@builtins,NULL,in,--hex | 0500 || asn1x: module refused 22 Syntax at 1:1; | 2";
+check,@builtin,NULL,in.hex,--hex  | 0500 | ok 1; || 0
+check,@builtins,NULL,in.hex,--hex | 0500 || asn1x: module refused 22 Syntax at 1:1; | 2";
 
 #[test]
 fn runs_of_lines_of_which_nothing_is_done(rt: HostRuntime) -> Result<(), Fail> {
-    let mut line = line_of(rt.alloc(), "convert,@builtin,NULL,in,--hex,--to,der")?;
+    let mut line = line_of(rt.alloc(), "convert,@builtin,NULL,in.hex,--hex,--to,der")?;
     line.to = None;
     let found = run_over(rt.alloc(), &line, &[], b"0500");
     assert!(rt; is_printed(&found, ("", "", 64)));
