@@ -84,14 +84,23 @@ fn take_all<S: Source>(
     Ok(u8::MAX)
 }
 
-// Whether the values of a source are those of a row, and the call after the last one says the same again.
+// Whether the values of a source are those of a row.
 fn is_as_said<S: Source + Drop>(alloc: Global, row: &Row, source: S) -> Result<bool, NoMemory>
     requires { S.failures source ≡ 0 }
 {
     let mut values = Values::new(alloc, &row.ty, row.rule, source);
+    are_as_said(alloc, row, &mut values)
+}
+
+// Whether values are those of a row, and the call after the last one says the same again.
+fn are_as_said<S: Source>(
+    alloc: Global,
+    row: &Row,
+    values: &mut Values<'_, S>,
+) -> Result<bool, NoMemory> {
     let mut texts = Vec::new(alloc);
-    let number = take_all(alloc, &row.ty, &mut values, &mut texts)?;
-    let again = take_all(alloc, &row.ty, &mut values, &mut texts)?;
+    let number = take_all(alloc, &row.ty, values, &mut texts)?;
+    let again = take_all(alloc, &row.ty, values, &mut texts)?;
     let ending = (number, values.done(), values.offset());
     Ok(ending == row.ending && again == number && texts.as_slice() == row.texts.as_bytes())
 }
@@ -116,15 +125,26 @@ fn of_slices_and_of_readers(rt: HostRuntime) -> Result<(), Fail> {
     check::<OfBoth>(rt.alloc(), ROWS)
 }
 
+// The number that stops the values or 0, how many were returned, and how many octets they have.
+fn end_of<S: Source>(
+    alloc: Global,
+    ty: &WellTyped,
+    values: &mut Values<'_, S>,
+) -> Result<(u8, u64, u64), NoMemory> {
+    let mut texts = Vec::new(alloc);
+    let number = take_all(alloc, ty, values, &mut texts)?;
+    Ok((number, values.done(), values.offset()))
+}
+
 // Whether the values of 01 01 01 and 01 01 00 end so, from a reader that fails once so many calls went well.
 fn ends_so(alloc: Global, good_calls: usize, ending: (u8, u64, u64)) -> Result<bool, Fail> {
     let ty = boolean()?;
     let source = FromReader::new(Dripping::new(&[1, 1, 1, 1, 1, 0], good_calls));
     let mut values = Values::new(alloc, &ty, Rule::Ber, source);
-    let mut texts = Vec::new(alloc);
-    let number = take_all(alloc, &ty, &mut values, &mut texts)?;
-    let is_so = ending == (number, values.done(), values.offset());
-    Ok(is_so && values.into_source().failed() == (number == 15))
+    let end = end_of(alloc, &ty, &mut values);
+    let has_failed = values.into_source().failed();
+    let end = end?;
+    Ok(end == ending && has_failed == (end.0 == 15))
 }
 
 struct OfAFailingReader;
