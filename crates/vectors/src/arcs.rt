@@ -1,6 +1,6 @@
 //! Which arcs are values of OBJECT IDENTIFIER and RELATIVE-OID (X.690 8.19 and 8.20).
 
-use crate::tables::{Table, check, is_said, three};
+use crate::tables::{Table, check, is_said, two};
 use convert::{Ty, Value, WellTyped, conforms};
 use std::alloc::Global;
 use std::test::Fail;
@@ -30,7 +30,8 @@ struct WhetherArcs;
 
 impl Table for WhetherArcs {
     fn holds(alloc: Global, _ty: &WellTyped, row: &str) -> Result<bool, Fail> {
-        let (arcs, absolute, relative) = three(row)?;
+        let (arcs, others) = two(row)?;
+        let (absolute, relative) = two(others)?;
         let is_absolute = are_absolute(arcs_of(alloc, arcs)?);
         let is_relative = are_relative(arcs_of(alloc, arcs)?);
         Ok(is_said(is_absolute, absolute)? && is_said(is_relative, relative)?)

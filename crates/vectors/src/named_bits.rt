@@ -2,7 +2,7 @@
 
 use crate::checks::check_table;
 use crate::rows::octets_of;
-use crate::tables::{Table, check, has_fault, is_said, numbers_of, three, two};
+use crate::tables::{Table, check, has_fault, is_said, numbers_of, two};
 use convert::{Bits, Field, NamedBit, Ty, Value, WellTyped, conforms};
 use std::alloc::Global;
 use std::test::Fail;
@@ -137,7 +137,8 @@ struct Untrimmed;
 
 impl Table for Untrimmed {
     fn holds(alloc: Global, _ty: &WellTyped, row: &str) -> Result<bool, Fail> {
-        let (octets, unused, fault) = three(row)?;
+        let (octets, others) = two(row)?;
+        let (unused, fault) = two(others)?;
         let default = bits(alloc, octets, unused)?;
         let field = Field::default(alloc, "f", named_bits(alloc, "0")?, default)?;
         has_fault(alloc, Ty::sequence(vec![in alloc; field]?), fault)
@@ -178,7 +179,8 @@ struct Conforming;
 
 impl Table for Conforming {
     fn holds(alloc: Global, _ty: &WellTyped, row: &str) -> Result<bool, Fail> {
-        let (octets, unused, want) = three(row)?;
+        let (octets, others) = two(row)?;
+        let (unused, want) = two(others)?;
         let bits = bits(alloc, octets, unused)?;
         is_said(conforms(&named_bits(alloc, "0")?, &bits), want)
     }

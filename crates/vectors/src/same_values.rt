@@ -2,7 +2,7 @@
 
 use crate::answers::{convert_by, read_by};
 use crate::rows::octets_of;
-use crate::tables::{Table, check, three};
+use crate::tables::{Table, check, two};
 use canon::{order, same};
 use convert::{Canonical, Rule, Value, WellTyped, conforms};
 use std::alloc::Global;
@@ -104,7 +104,8 @@ struct SameOrOther;
 
 impl Table for SameOrOther {
     fn holds(alloc: Global, ty: &WellTyped, row: &str) -> Result<bool, Fail> {
-        let (first, second, want) = three(row)?;
+        let (first, others) = two(row)?;
+        let (second, want) = two(others)?;
         let first = octets_of(alloc, first)?;
         let second = octets_of(alloc, second)?;
         let octets = (first.as_slice(), second.as_slice());

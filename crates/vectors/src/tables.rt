@@ -38,17 +38,10 @@ pub fn is_no_row(line: &str) -> bool {
     line.is_empty() || line.starts_with('#')
 }
 
-/// The columns of a row of two.
+/// The column in front, and those behind it.
 pub fn two(row: &str) -> Result<(&str, &str), Fail> {
     let (first, second) = row.split_once('|').ok_or("too few columns")?;
     Ok((first.trim(), second.trim()))
-}
-
-/// The columns of a row of three.
-pub fn three(row: &str) -> Result<(&str, &str, &str), Fail> {
-    let (first, others) = two(row)?;
-    let (second, third) = two(others)?;
-    Ok((first, second, third))
 }
 
 /// Whether what was found is what a column says, which is yes or no.
