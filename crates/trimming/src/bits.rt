@@ -4,7 +4,8 @@ use crate::trimmer::{Draft, Trimmer};
 use published::{NamedNumber, Place};
 use std::alloc::{AllocError, Global};
 use syntax::{Expr, NamedBit};
-use trim_rules::{Cause, MAX_PARTS, identifier};
+use trim_rules::MAX_PARTS;
+use trim_sources::{Cause, identifier};
 
 impl<'a> Trimmer<'a> {
     /// Named bits. They are kept: bits 0 at the end mean nothing where there are names (X.690 11.2.2).

@@ -7,7 +7,8 @@ use published::{Alternative as Written, Alternatives, Place};
 use std::alloc::{AllocError, Global};
 use std::mem::drop;
 use syntax::{Alternative, Expr};
-use trim_rules::{Cause, Fault, MAX_PARTS, Section, first_number, identifier, is_automatic};
+use trim_rules::{MAX_PARTS, Section, first_number, is_automatic};
+use trim_sources::{Cause, Fault, identifier};
 
 /// The alternatives of a CHOICE that are made, and what is wrong with the others.
 #[derive(Drop)]

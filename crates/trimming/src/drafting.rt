@@ -5,7 +5,8 @@ use crate::trimmer::{Draft, Trimmer};
 use published::{Form, Place, Reference, Simple, Type};
 use std::alloc::{AllocError, Global};
 use syntax::Expr;
-use trim_rules::{Cause, Root, in_profile, is_left_out_string, name_of_left_out};
+use trim_rules::Root;
+use trim_sources::{Cause, in_profile, is_left_out_string, name_of_left_out};
 
 impl<'a> Trimmer<'a> {
     /// What the type is in the profile. What is wrong with it is noted.

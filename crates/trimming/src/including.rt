@@ -6,7 +6,8 @@ use crate::trimmer::Trimmer;
 use published::{Components, Form, Type};
 use std::alloc::{AllocError, Global};
 use syntax::{Component, Expr, Group};
-use trim_rules::{Cause, Copier, MAX_PARTS, Section, is_automatic, is_written_out};
+use trim_rules::{MAX_PARTS, Section, is_automatic, is_written_out};
+use trim_sources::{Cause, Copier};
 
 /// Where COMPONENTS OF stands.
 #[derive(Clone, Copy)]

@@ -4,7 +4,8 @@ use crate::trimmer::{Draft, Trimmer};
 use published::{Item as Written, Items, Place};
 use std::alloc::{AllocError, Global};
 use syntax::{Expr, Item, SignedNumber};
-use trim_rules::{Cause, MAX_PARTS, Section, identifier, next_free};
+use trim_rules::{MAX_PARTS, Section, next_free};
+use trim_sources::{Cause, identifier};
 
 /// Items with their numbers.
 #[derive(Drop)]

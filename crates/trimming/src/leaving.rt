@@ -3,7 +3,7 @@
 use crate::trimmer::Trimmer;
 use published::Place;
 use std::alloc::{AllocError, Global};
-use trim_rules::{Cause, Kind, MAX_STEPS, Message};
+use trim_sources::{Cause, Kind, MAX_STEPS, Message};
 
 /// How much was noted of a type before a part of it.
 #[derive(Clone, Copy)]

@@ -18,5 +18,5 @@ mod trimmer;
 mod trimming;
 mod walking;
 
-pub use trim_rules::{Given, Kind, Message, Request, Substitute, given_of, with_module};
+pub use trim_sources::{Given, Kind, Message, Request, Substitute, given_of, with_module};
 pub use trimming::{Refusal, Stop, Trimmed, trim};

@@ -13,9 +13,10 @@ use std::alloc::{AllocError, Global};
 use std::mem::drop;
 use syntax::{Component, Expr, Group, Presence, TagClass, TagMode};
 use trim_rules::{
-    Additions, Cause, MAX_PARTS, Section, Standing, first_number, identifier, is_automatic,
-    presence_of, standing_of, standing_of_addition,
+    Additions, MAX_PARTS, Section, Standing, first_number, is_automatic, presence_of, standing_of,
+    standing_of_addition,
 };
+use trim_sources::{Cause, identifier};
 
 /// What a list says of one of its components.
 #[derive(Clone, Copy)]

@@ -4,7 +4,8 @@ use names::Name;
 use published::{Type, Word};
 use std::alloc::Global;
 use syntax::Expr;
-use trim_rules::{Additions, Fault, Message, Root, Spot};
+use trim_rules::{Additions, Root};
+use trim_sources::{Fault, Message, Spot};
 
 /// How far a type is.
 #[derive(Clone, Copy, Debug, PartialEq, Eq)]

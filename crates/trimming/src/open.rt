@@ -4,7 +4,8 @@ use crate::trimmer::{Draft, Trimmer};
 use published::{Place, Reference, Word};
 use std::alloc::{AllocError, Global};
 use syntax::Expr;
-use trim_rules::{Cause, Given, Root, Spot, Substitute, simple_of_words};
+use trim_rules::Root;
+use trim_sources::{Cause, Given, Spot, Substitute, simple_of_words};
 
 impl<'a> Trimmer<'a> {
     /// An open type, or a field of a class: the type that the request gives to its place.

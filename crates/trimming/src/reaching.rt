@@ -4,7 +4,8 @@ use crate::node::{Made, Node, State};
 use crate::trimmer::Trimmer;
 use published::{Reference, Type, Word};
 use std::alloc::{AllocError, Global};
-use trim_rules::{Cause, Root, Spot};
+use trim_rules::Root;
+use trim_sources::{Cause, Spot};
 
 /// The most types that are reached, copies of one that refers to itself counted.
 const MAX_NODES: usize = 4_096;

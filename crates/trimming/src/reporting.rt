@@ -5,7 +5,7 @@ use crate::trimmer::Trimmer;
 use crate::trimming::Refusal;
 use std::alloc::{AllocError, Global};
 use std::mem;
-use trim_rules::{Cause, Kind, Message};
+use trim_sources::{Cause, Kind, Message};
 
 /// Types in the order in which they are found.
 #[derive(Drop)]

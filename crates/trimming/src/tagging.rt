@@ -7,7 +7,8 @@ use crate::trimmer::{Draft, Trimmer};
 use published::{Place, Tag, TagClass as WrittenClass, Type};
 use std::alloc::{AllocError, Global};
 use syntax::{Expr, SignedNumber, Simple, TagClass, TagMode, TagPrefix};
-use trim_rules::{Cause, Keyword, Root, keyword_of};
+use trim_rules::{Keyword, Root, keyword_of};
+use trim_sources::Cause;
 
 /// The greatest tag number of the profile.
 const MAX_TAG_NUMBER: u32 = 268_435_455;

@@ -5,7 +5,7 @@ use published::Place;
 use std::alloc::{AllocError, Global};
 use std::collections::BTreeMap;
 use syntax::{Expr, Simple, Tagging};
-use trim_rules::{Budget, Cause, Fault, Kind, Message, Naming, Request, Sources};
+use trim_sources::{Budget, Cause, Fault, Kind, Message, Naming, Request, Sources};
 
 /// The most types that are looked at.
 const MAX_LOOKS: usize = 262_144;

@@ -7,7 +7,7 @@ use crate::trimmer::Trimmer;
 use notation::{Fault, parse, resolve};
 use published::{Module, Place};
 use std::alloc::{AllocError, AllocFailed, Global};
-use trim_rules::{Cause, Kind, Message, Request, Sources, Spot, put_expr, spelled};
+use trim_sources::{Cause, Kind, Message, Request, Sources, Spot, put_expr, spelled};
 
 /// A module that is trimmed to the profile.
 #[derive(Debug, Drop)]

@@ -1,10 +1,10 @@
 //! Named bits (X.680 clause 22).
 
-use crate::MAX_PARTS;
 use crate::sources::Sources;
 use crate::values::Budget;
 use published::{NamedNumber, Word};
 use std::alloc::{AllocError, Global};
+use trim_rules::MAX_PARTS;
 
 /// The greatest number of a named bit in the profile.
 const MAX_BIT: u32 = 65_535;
