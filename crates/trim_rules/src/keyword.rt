@@ -1,6 +1,6 @@
 //! The keyword of a tag, and which lists are tagged automatically (X.680 clauses 25, 29 and 31).
 
-ghost use Rattle.std.specs.Prelude.{◌≡◌, ◌↔◌, ◌+◌, ◌<◌, ◌^◌, IsTrue, false};
+ghost use Rattle.std.specs.Prelude.{◌≡◌, ◌↔◌, ◌+◌, ◌<◌, ◌^◌, IsTrue, false, Some, None};
 ghost use Rattle.trim_rules.specs.Keyword.{keyword_of, by_default, first_number};
 
 use syntax::{TagMode, Tagging};
@@ -70,5 +70,18 @@ pub fn first_number(section: Section, root: usize, tail: usize) -> usize
         Section::Root => 0,
         Section::Tail => root,
         Section::Additions => root.saturating_add(tail),
+    }
+}
+
+/// The automatic tag of the component at this place of a section, whose first one has this number. None: its
+/// list is not tagged automatically.
+pub fn number_at(is_automatic: bool, first: usize, place: usize) -> Option<usize>
+    ensures automatic { IsTrue is_automatic → first + place < 2 ^ 64 → result ≡ Some (first + place) }
+    ensures other { is_automatic ≡ false → result ≡ None }
+{
+    if is_automatic {
+        Some(first.saturating_add(place))
+    } else {
+        None
     }
 }

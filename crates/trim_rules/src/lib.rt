@@ -6,12 +6,14 @@ mod keyword;
 mod numbering;
 mod root;
 mod standing;
+mod writing;
 
 pub use including::{Additions, is_written_out};
-pub use keyword::{Keyword, Section, first_number, is_automatic, keyword_of};
+pub use keyword::{Keyword, Section, first_number, is_automatic, keyword_of, number_at};
 pub use numbering::next_free;
 pub use root::Root;
-pub use standing::{Standing, presence_of, standing_of, standing_of_addition};
+pub use standing::{Standing, presence_of, standing_in, standing_of, standing_of_addition};
+pub use writing::{mode_of, prefix_of};
 
 /// The most parts of a list in the profile.
 pub const MAX_PARTS: usize = 256;

@@ -3,6 +3,7 @@
 ghost use Rattle.std.specs.Prelude.{◌≡◌, ◌≢◌};
 ghost use Rattle.trim_rules.specs.Standing.{presence_of};
 
+use crate::keyword::Section;
 use published::Presence as WrittenPresence;
 use syntax::{DefaultValue, Presence};
 
@@ -37,6 +38,17 @@ pub fn standing_of_addition(written: Standing) -> Standing
         Standing::Required => Standing::Optional,
         Standing::Optional => Standing::Optional,
         Standing::Default => Standing::Default,
+    }
+}
+
+/// How a component of this section may be absent that is written so.
+pub fn standing_in(section: Section, standing: Standing) -> Standing
+    ensures additions { section ≡ Section.Additions → result ≢ Standing.Required }
+    ensures root { section ≢ Section.Additions → result ≡ standing }
+{
+    match section {
+        Section::Additions => standing_of_addition(standing),
+        Section::Root | Section::Tail => standing,
     }
 }
 

@@ -1,7 +1,5 @@
 //! SEQUENCE and SET (X.680 clauses 25 and 27).
 
-ghost use Rattle.std.specs.Prelude.{◌≡◌, ◌≢◌, ◌+◌, ◌<◌, ◌^◌, IsTrue, false, Some, None};
-
 use crate::including::Inclusion;
 use crate::leaving::Mark;
 use crate::tagging::Label;
@@ -13,8 +11,8 @@ use std::alloc::{AllocError, Global};
 use std::mem::drop;
 use syntax::{Component, Expr, Group, Presence, TagClass, TagMode};
 use trim_rules::{
-    Additions, MAX_PARTS, Section, Standing, first_number, is_automatic, presence_of, standing_of,
-    standing_of_addition,
+    Additions, MAX_PARTS, Section, Standing, first_number, is_automatic, number_at, presence_of,
+    standing_in, standing_of,
 };
 use trim_sources::{Cause, identifier};
 
@@ -99,7 +97,7 @@ impl<'a> Trimmer<'a> {
             };
             let slot = Slot {
                 group: list.group,
-                number: number_in(list, first, place),
+                number: number_at(list.is_automatic, first, place),
                 standing: standing_in(section, standing_of(&written.presence)),
                 is_apart: is_apart(list, section, components, place),
             };
@@ -238,18 +236,6 @@ fn list_of(is_automatic: bool, group: Group, components: &Components) -> List {
     }
 }
 
-// The automatic tag of the component at this place of a section, whose first one has this number.
-fn number_in(list: List, first: usize, place: usize) -> Option<usize>
-    ensures automatic { IsTrue list.is_automatic → first + place < 2 ^ 64 → result ≡ Some (first + place) }
-    ensures other { list.is_automatic ≡ false → result ≡ None }
-{
-    if list.is_automatic {
-        Some(first.saturating_add(place))
-    } else {
-        None
-    }
-}
-
 /// Whether a tag is written in a list, as it stands before COMPONENTS OF is written out (X.680 25.3).
 pub fn has_tags(components: &Components) -> bool {
     has_tag(&components.root) || has_tag(&components.additions) || has_tag(&components.tail)
@@ -274,17 +260,6 @@ fn has_tag(components: &[Written]) -> bool {
 /// Whether the type is written with a tag.
 pub fn is_tagged(ty: &Type) -> bool {
     matches!(&ty.form, Form::Tagged(_, _))
-}
-
-// How a component of this section may be absent that is written so.
-fn standing_in(section: Section, standing: Standing) -> Standing
-    ensures additions { section ≡ Section.Additions → result ≢ Standing.Required }
-    ensures root { section ≢ Section.Additions → result ≡ standing }
-{
-    match section {
-        Section::Additions => standing_of_addition(standing),
-        Section::Root | Section::Tail => standing,
-    }
 }
 
 // Whether an open type here cannot be taken for another component: the last of a SEQUENCE without additions,

@@ -1,13 +1,10 @@
 //! Tags in front of types (X.680 clause 31).
 
-ghost use Rattle.std.specs.Prelude.{◌≡◌};
-ghost use Rattle.trimming.specs.Written.{mode_of};
-
 use crate::trimmer::{Draft, Trimmer};
 use published::{Place, Tag, TagClass as WrittenClass, Type};
 use std::alloc::{AllocError, Global};
-use syntax::{Expr, SignedNumber, Simple, TagClass, TagMode, TagPrefix};
-use trim_rules::{Keyword, Root, keyword_of};
+use syntax::{Expr, SignedNumber, Simple, TagClass, TagMode};
+use trim_rules::{Keyword, Root, keyword_of, prefix_of};
 use trim_sources::Cause;
 
 /// The greatest tag number of the profile.
@@ -86,7 +83,8 @@ impl<'a> Trimmer<'a> {
             (Keyword::Implicit, Root::LeftOutString) => Expr::Simple(Simple::OctetString),
             _ => self.draft(alloc, inner)?.expr,
         };
-        Ok(Draft::whole(Expr::Tagged(prefix_of(label, keyword), Box::new(alloc, inner)?)))
+        let prefix = prefix_of(label.class, label.number, keyword);
+        Ok(Draft::whole(Expr::Tagged(prefix, Box::new(alloc, inner)?)))
     }
 
     // The keyword of a tag in front of a type that is this at its root, or why it has none.
@@ -98,27 +96,6 @@ impl<'a> Trimmer<'a> {
             Some(keyword) => Ok(keyword),
             None => Err(Cause::ImplicitChoice),
         }
-    }
-}
-
-// The tag with this keyword.
-fn prefix_of(label: Label, keyword: Keyword) -> TagPrefix
-    ensures { result ≡ record { class = label.class; number = label.number; mode = mode_of keyword } }
-{
-    TagPrefix {
-        class: label.class,
-        number: label.number,
-        mode: mode_of(keyword),
-    }
-}
-
-// The keyword as it is written, which it always is.
-fn mode_of(keyword: Keyword) -> TagMode
-    ensures { result ≡ mode_of keyword }
-{
-    match keyword {
-        Keyword::Implicit => TagMode::Implicit,
-        Keyword::Explicit => TagMode::Explicit,
     }
 }
 
