@@ -3,13 +3,14 @@
 ghost use Rattle.std.specs.Prelude.{◌≡◌};
 ghost use Rattle.trimmer.specs.Status.{IsStatus, status_of};
 
+use crate::checking::trim;
 use crate::command_line::Line;
 use crate::lines::{print_fault, print_line, print_message};
 use crate::reading::Files;
 use published::{Fault, Module, read};
 use std::alloc::{AllocError, Global};
 use std::io::{ErrorKind, Write};
-use trimming::{Message, Refusal, Stop, Trimmed, trim};
+use trimming::{Message, Refusal, Stop, Trimmed};
 
 /// Reads the files of a command line, and prints the module that it asks for. Returns the exit status: 0
 /// where it is written, 1 where it is refused, 3 where a file cannot be read or the module not be written, 4

@@ -19,4 +19,4 @@ mod trimming;
 mod walking;
 
 pub use trim_sources::{Given, Kind, Message, Request, Substitute, given_of, with_module};
-pub use trimming::{Refusal, Stop, Trimmed, trim};
+pub use trimming::{Drafted, Refusal, Stop, Trimmed, draft_module, refused};

@@ -1,10 +1,6 @@
 //! From modules as they are published to a module of the profile.
 
-ghost use Rattle.std.specs.Prelude.{IfOk, OnOk, string_bytes};
-ghost use Rattle.trimming.specs.Trimmed.{IsTrimmed};
-
 use crate::trimmer::Trimmer;
-use notation::{Fault, parse, resolve};
 use published::{Module, Place};
 use std::alloc::{AllocError, AllocFailed, Global};
 use trim_sources::{Cause, Kind, Message, Request, Sources, Spot, put_expr, spelled};
@@ -18,6 +14,15 @@ pub struct Trimmed {
     pub name: String,
     /// What is narrowed and dropped, in order of place.
     pub messages: Vec<Message>,
+}
+
+/// A module that is trimmed, whose text is not read again yet.
+#[derive(Debug, Drop)]
+pub struct Drafted {
+    /// The module.
+    pub trimmed: Trimmed,
+    /// Where the type stands that was asked for.
+    pub place: Option<Place>,
 }
 
 /// What is not taken.
@@ -50,40 +55,38 @@ impl<T: Drop> From<AllocFailed<T>> for Stop {
     }
 }
 
-/// The module of the profile that has the type that is asked for, and what it reaches.
-pub fn trim<'a>(alloc: Global, modules: &'a [Module], request: &'a Request) -> Result<Trimmed, Stop>
-    ensures { IfOk result (λ trimmed. IsTrimmed (string_bytes trimmed.text) (string_bytes trimmed.name)) }
-{
+/// The module that has the type that is asked for, and what it reaches. Its text is not read again yet.
+pub fn draft_module<'a>(
+    alloc: Global,
+    modules: &'a [Module],
+    request: &'a Request,
+) -> Result<Drafted, Stop> {
     let sources = Sources::new(alloc, modules)?;
     let spot = asked(alloc, &sources, request)?;
     let mut trimmer = Trimmer::new(alloc, sources, request);
-    trimmed_at(alloc, &mut trimmer, request, spot)
+    drafted_at(alloc, &mut trimmer, request, spot)
 }
 
 // The module that has the type that stands there, and what it reaches.
-fn trimmed_at<'a>(
+fn drafted_at<'a>(
     alloc: Global,
     trimmer: &mut Trimmer<'a>,
     request: &'a Request,
     spot: Spot,
-) -> Result<Trimmed, Stop>
-    ensures { IfOk result (λ trimmed. IsTrimmed (string_bytes trimmed.text) (string_bytes trimmed.name)) }
-{
+) -> Result<Drafted, Stop> {
     let root = made(alloc, trimmer, request, spot)?;
     let kept = trimmer.kept(alloc, root)?;
     let messages = trimmer.left_out(alloc, kept.as_slice())?;
     let text = text_of(alloc, trimmer, spot, kept.as_slice())?;
     let name = name_of(alloc, trimmer, root)?;
-    checked(
-        alloc,
-        trimmer,
-        spot,
-        Trimmed {
+    Ok(Drafted {
+        trimmed: Trimmed {
             text,
             name,
             messages,
         },
-    )
+        place: place_of(trimmer, spot),
+    })
 }
 
 // Where the type stands that is asked for.
@@ -206,58 +209,14 @@ fn text_of(
     Ok(text)
 }
 
-// The module, where its text is one of the profile, in which the name means a type.
-fn checked(
-    alloc: Global,
-    trimmer: &Trimmer<'_>,
-    spot: Spot,
-    trimmed: Trimmed,
-) -> Result<Trimmed, Stop>
-    ensures { IfOk result (λ found. IsTrimmed (string_bytes found.text) (string_bytes found.name)) }
-{
-    match check(alloc, trimmed.text.as_str(), trimmed.name.as_str()) {
-        Ok(()) => Ok(trimmed),
-        Err(fault) => Err(not_of_profile(alloc, place_of(trimmer, spot), fault.number)?),
-    }
-}
-
-// Reads the text as asn1x does, and looks the name up in it.
-fn check(alloc: Global, text: &str, name: &str) -> Result<(), Fault>
-    ensures { OnOk result (IsTrimmed text.now name.now) }
-{
-    let parsed = parse(alloc, text)?;
-    let _meant = resolve(alloc, &parsed, name)?;
-    Ok(())
-}
-
-// That the module is none of the profile.
-fn not_of_profile(alloc: Global, place: Option<Place>, number: u32) -> Result<Stop, AllocError> {
-    if number == 33 {
-        return Ok(Stop::NoMemory);
-    }
-    let why = match number {
-        26 => "names that repeat",
-        27 => "numbers that repeat",
-        28 => "tags that are not distinct",
-        29 => "IMPLICIT in front of a CHOICE",
-        30 => "a DEFAULT that is none of its type",
-        31 => "more than the limits of asn1x allow",
-        _ => "what asn1x does not take",
-    };
-    let text = format!(in alloc;
-        "the type as it is trimmed has {why}, which asn1x refuses with {number}"
-    )?;
-    Ok(refused(alloc, place, text))
-}
-
 // Where the type stands that was asked for.
 fn place_of(trimmer: &Trimmer<'_>, spot: Spot) -> Option<Place> {
     let assignment = trimmer.sources.assignment_at(spot)?;
     Some(assignment.name.place)
 }
 
-// One refusal.
-fn refused(alloc: Global, place: Option<Place>, text: String) -> Stop {
+/// One refusal.
+pub fn refused(alloc: Global, place: Option<Place>, text: String) -> Stop {
     let mut messages = Vec::new(alloc);
     let message = Message {
         place,
