@@ -1,10 +1,9 @@
 //! `cut`: a stream of values in files of a process.
 
 ghost use Rattle.std.specs.Prelude.{None};
-ghost use Rattle.view.specs.Status.{IsEnd};
+ghost use Rattle.view_faults.specs.Status.{IsEnd};
 
 use crate::FileSystem;
-use crate::fault::Fault;
 use crate::files::read_piece;
 use cutting::{CutFault, Cutter, Outputs};
 use devices::Failed;
@@ -12,6 +11,7 @@ use program::PrintedPath;
 use std::alloc::Global;
 use std::io::{Read, Write};
 use std::string::String;
+use view_faults::Fault;
 
 // How many octets of the input are read at once.
 const PIECE: usize = 262_144;

@@ -1,10 +1,10 @@
 //! The files of the program, read from their beginnings to their ends.
 
-use crate::fault::Fault;
-use crate::values::{Ended, Unwanted, Values, Visit};
+use crate::values::{Ended, Values, Visit};
 use convert::{HexFault, MAX_HEX_TEXT, unhex};
 use std::alloc::Global;
 use std::io::{ErrorKind, Read};
+use view_faults::{Fault, Unwanted};
 
 // How many octets of a file are read at once.
 const PIECE: usize = 65_536;

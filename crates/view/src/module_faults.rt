@@ -2,9 +2,7 @@
 //!
 //! The text is cut at its assignments, and each is parsed by itself, so that one fault does not hide the next.
 
-use crate::fault_line::FaultLine;
 use crate::fault_places::FaultPlaces;
-use crate::module_fault::words_of_fault;
 use crate::module_text::ModuleText;
 use lexis::{Fault, MAX_TEXT, tokens};
 use notation::{parse, resolve};
@@ -12,6 +10,7 @@ use octets::NoMemory;
 use simdutf8::basic::from_utf8;
 use std::alloc::Global;
 use std::string::String;
+use view_faults::{FaultLine, words_of_fault};
 
 // The most names that are resolved.
 const MOST_RESOLVED: usize = 1_000;

@@ -1,18 +1,19 @@
 //! `types` and `module`.
 
 ghost use Rattle.std.specs.Prelude.{IfOk};
-ghost use Rattle.view.specs.Status.{IsStatus};
+ghost use Rattle.view_faults.specs.Status.{IsStatus};
 
 use crate::FileSystem;
 use crate::assigned_lines::put_names;
 use crate::module_faults::put_faults;
-use crate::module_type::{NoType, module_octets, module_of, print_no_type, resolved};
+use crate::module_type::{module_octets, module_of, resolved};
 use crate::type_lines::put_type;
 use notation::Module;
 use octets::NoMemory;
 use std::alloc::Global;
 use std::io::Write;
 use std::string::String;
+use view_faults::{NoType, print_no_type};
 
 /// Prints the names of a module, or the type that one of them means, and returns the exit status.
 pub fn show_types<D: FileSystem, W: Write, E: Write>(

@@ -1,12 +1,12 @@
 //! The text of a module, cut at its assignments.
 
 use crate::expected::{expected_behind, what_to_do};
-use crate::fault_line::FaultLine;
 use lexis::{Fault, Kind, Token};
 use octets::NoMemory;
 use simdutf8::basic::from_utf8;
 use std::alloc::Global;
 use std::string::String;
+use view_faults::FaultLine;
 
 /// A text and its parts.
 #[derive(Drop)]

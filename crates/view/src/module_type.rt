@@ -1,31 +1,14 @@
 //! The type that a name of a module's file means.
 
-ghost use Rattle.view.specs.Status.{IsStatus};
-
 use crate::FileSystem;
 use crate::assigned_lines::nearest;
-use crate::module_fault::words_of_fault;
-use convert::{fault_name, read_module};
+use convert::read_module;
 use lexis::MAX_TEXT;
 use notation::{Fault, Module, parse, resolve};
-use program::PrintedPath;
 use simdutf8::basic::from_utf8;
 use std::alloc::Global;
-use std::io::{self, ErrorKind, Write};
 use types::WellTyped;
-
-/// Why there is no type.
-#[derive(Debug, Drop)]
-pub enum NoType {
-    /// The file cannot be opened or read.
-    CannotRead(io::Error),
-    /// The module is refused, or the name in it.
-    Module(Fault),
-    /// The name is not assigned, and these names are near it.
-    NotAssigned(Fault, Vec<String>),
-    /// No built-in type has the name.
-    NotBuiltIn,
-}
+use view_faults::NoType;
 
 /// The type that the name means in the module of the file, or of `@builtin`.
 pub fn type_of<D: FileSystem>(
@@ -116,48 +99,4 @@ fn built_in(alloc: Global, name: &str) -> Result<WellTyped, NoType> {
         Ok(module) => resolved(alloc, &module, "T"),
         Err(fault) => Err(NoType::Module(fault)),
     }
-}
-
-/// Prints why there is no type, and returns the exit status.
-pub fn print_no_type<E: Write>(path: &str, name: &str, fault: &NoType, err: &mut E) -> u8
-    ensures { IsStatus result }
-{
-    let path = PrintedPath(path);
-    match fault {
-        NoType::CannotRead(error) if error.kind() == ErrorKind::OutOfMemory => 4,
-        NoType::CannotRead(_) => {
-            let _ = writeln!(err, "{path}: cannot be read");
-            3
-        }
-        NoType::NotBuiltIn => {
-            let _ = writeln!(
-                err,
-                "{path}: {name} is none of BOOLEAN, INTEGER, NULL and OCTET STRING"
-            );
-            64
-        }
-        NoType::Module(fault) => print_module_fault(path, name, fault, err),
-        NoType::NotAssigned(fault, names) => {
-            let status = print_module_fault(path, name, fault, err);
-            for near in names {
-                let _ = writeln!(err, "{name} is near {near}");
-            }
-            status
-        }
-    }
-}
-
-// Prints the line of a module's fault, and returns the exit status.
-fn print_module_fault<E: Write>(path: PrintedPath<'_>, name: &str, fault: &Fault, err: &mut E) -> u8
-    ensures { IsStatus result }
-{
-    let (line, column, number) = (fault.line, fault.column, fault.number);
-    let word = fault_name(number);
-    let words = words_of_fault(number);
-    let colon = if name.is_empty() { "" } else { ": " };
-    let _ = writeln!(
-        err,
-        "{path}:{line}:{column}: {name}{colon}refused {number} {word}: {words}"
-    );
-    if number == 33 { 4 } else { 2 }
 }

@@ -1,6 +1,6 @@
 //! What docs/REFUSALS.md says of each refusal. `bench/refusal_pages.py` makes the table of that page.
 
-ghost use Rattle.view.specs.Status.{IsStatus};
+ghost use Rattle.view_faults.specs.Status.{IsStatus};
 
 use std::io::Write;
 

@@ -1,16 +1,17 @@
 //! The program once its words are judged.
 
-ghost use Rattle.view.specs.Status.{IsStatus};
+ghost use Rattle.view_faults.specs.Status.{IsStatus};
 
 use crate::columns::Columns;
 use crate::cut_files::cut;
 use crate::module_runs::{show_faults, show_types};
-use crate::module_type::{print_no_type, type_of};
+use crate::module_type::type_of;
 use crate::refusal_pages::show_pages;
 use crate::showing_files::Showing;
 use crate::{FileSystem, Form, Line, Reading, Task};
 use std::alloc::Global;
 use std::io::{BufWriter, Write};
+use view_faults::print_no_type;
 
 /// Does what a command line asks, and returns the exit status. Results go to `out`, one line for each fault to `err`.
 pub fn run<D: FileSystem, W: Write + Drop, E: Write>(

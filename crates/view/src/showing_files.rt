@@ -1,9 +1,8 @@
 //! The values of files, one file after another.
 
-ghost use Rattle.view.specs.Status.{IsEnd};
+ghost use Rattle.view_faults.specs.Status.{IsEnd};
 
 use crate::columns::Columns;
-use crate::fault::Fault;
 use crate::files::read_values;
 use crate::found::find;
 use crate::fronts::Fronts;
@@ -17,6 +16,7 @@ use std::alloc::Global;
 use std::io::{Read, Write};
 use std::string::String;
 use types::{Refusal, WellTyped};
+use view_faults::Fault;
 use walking::Walk;
 
 /// What the values of all files are printed by.

@@ -4,13 +4,14 @@ use crate::found::put_lines;
 use crate::fronts::Fronts;
 use crate::json_text::{Layout, put_json};
 use crate::printing::Style;
-use crate::values::{Unwanted, Visit};
+use crate::values::Visit;
 use crate::{Form, Wanted};
 use octets::NoMemory;
 use std::alloc::Global;
 use std::io::Write;
 use std::string::String;
 use types::{Value, WellTyped};
+use view_faults::Unwanted;
 use walking::Walk;
 
 // From so many octets on, what is gathered is written.

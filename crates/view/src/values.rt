@@ -5,20 +5,12 @@ use engine::{Canonical, Rule};
 use std::alloc::Global;
 use strict::read_into;
 use types::{Refusal, Value, WellTyped};
+use view_faults::Unwanted;
 
 /// What is done with each value.
 pub trait Visit {
     /// Takes a value, its octets, and how many octets of the input stand before them. Err where no more is wanted.
     fn value(&mut self, octets: &[u8], at: u64, value: &Value) -> Result<(), Unwanted>;
-}
-
-/// The output takes no more, or memory ran out.
-#[derive(Clone, Copy, Debug, PartialEq, Eq)]
-pub enum Unwanted {
-    /// The output failed, or its reader is gone.
-    Output,
-    /// A growth was refused.
-    NoMemory,
 }
 
 /// Why values end before the input does.

@@ -1,6 +1,6 @@
 //! Why the program stops, and the lines that say so.
 
-use crate::values::Unwanted;
+use crate::Unwanted;
 use octets::NoMemory;
 use program::PrintedPath;
 use std::alloc::AllocError;
@@ -49,7 +49,7 @@ impl From<Unwanted> for Fault {
 
 impl Fault {
     ghost use Rattle.std.specs.Prelude.{◌≡◌, ◌↔◌};
-    ghost use Rattle.view.specs.Status.{IsEnd};
+    ghost use Rattle.view_faults.specs.Status.{IsEnd};
 
     /// Prints the line of a fault of the file. Of refused octets the line says more, and is printed where that is
     /// known; of an output that is gone there is none.

@@ -1,8 +1,7 @@
 //! The line of a module's fault.
 
-use crate::module_fault::words_of_fault;
-use convert::fault_name;
-use lexis::Fault;
+use crate::words_of_fault;
+use lexis::{Fault, fault_name};
 use octets::NoMemory;
 use program::PrintedPath;
 use std::alloc::Global;
