@@ -1,15 +1,14 @@
 //! Assignments (X.680 clause 16, X.681, X.683).
 
 use crate::classes::fields_at;
-use crate::reader::Reader;
 use crate::simple::simple_of;
-use crate::skipping::{skip_brackets, skip_macro, skip_to_assignment, skip_to_word};
-use crate::stop::Stop;
 use crate::tree::{Assignment, Body, LeftOut};
 use crate::types::whole_type_at;
 use crate::values::value_at;
 use lexis::Word as Reserved;
-use published_tokens::{Kind, Symbol};
+use published_tokens::{
+    Kind, Reader, Stop, Symbol, skip_brackets, skip_macro, skip_to_assignment, skip_to_word,
+};
 use std::mem::drop;
 
 /// The assignment that stands in front.

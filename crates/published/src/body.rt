@@ -2,15 +2,11 @@
 
 use crate::MAX_FAULTS;
 use crate::assignments::assignment_at;
-use crate::fault::{Fault, Reason};
-use crate::heads::Head;
 use crate::imports::{imports_at, skip_exports};
 use crate::modules::Published;
-use crate::reader::Reader;
-use crate::stop::Stop;
 use crate::tree::{Assignment, Import, Module};
 use lexis::Word as Reserved;
-use published_tokens::{Kind, MAX_FILE, Symbol};
+use published_tokens::{Fault, Head, Kind, MAX_FILE, Reader, Reason, Stop, Symbol};
 use std::alloc::AllocError;
 
 impl Published {

@@ -1,13 +1,8 @@
 //! Values in braces: names of bits, and object identifiers (X.680 clauses 22 and 32).
 
-use crate::MAX_PARTS;
 use crate::numbers::{ends_list, number_in_parentheses};
-use crate::reader::Reader;
-use crate::skipping::skip_rest;
-use crate::stop::Stop;
-use crate::tree::Word;
 use crate::value::{Arc, ValueForm};
-use published_tokens::{Kind, Symbol};
+use published_tokens::{Kind, MAX_PARTS, Reader, Stop, Symbol, Word, skip_rest};
 
 /// The value in braces, the first of which stands in front. What is neither names nor arcs is left out.
 pub(crate) fn braces_at(reader: &mut Reader) -> Result<ValueForm, Stop> {

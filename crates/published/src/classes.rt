@@ -3,15 +3,10 @@
 ghost use Rattle.std.specs.Prelude.{◌≡◌};
 ghost use Rattle.published.specs.Fields.{is_open_before};
 
-use crate::MAX_PARTS;
-use crate::fault::Reason;
 use crate::numbers::ends_list;
-use crate::reader::Reader;
-use crate::skipping::skip_to_end_of_part;
-use crate::stop::Stop;
 use crate::tree::Field;
 use lexis::Word as Reserved;
-use published_tokens::{Kind, Symbol};
+use published_tokens::{Kind, MAX_PARTS, Reader, Reason, Stop, Symbol, skip_to_end_of_part};
 
 /// The fields in braces, which stand in front. What has no name of a field is passed.
 pub(crate) fn fields_at(reader: &mut Reader) -> Result<Vec<Field>, Stop> {

@@ -1,13 +1,9 @@
 //! ENUMERATED (X.680 clause 20).
 
-use crate::MAX_PARTS;
 use crate::extension::{Extension, Stage};
-use crate::fault::Reason;
 use crate::numbers::number_in_parentheses;
-use crate::reader::Reader;
-use crate::stop::Stop;
 use crate::tree::{Form, Item, Items};
-use published_tokens::{Kind, Symbol};
+use published_tokens::{Kind, MAX_PARTS, Reader, Reason, Stop, Symbol};
 use std::mem::drop;
 
 /// The items in braces, which stand in front.

@@ -3,10 +3,7 @@
 ghost use Rattle.std.specs.Prelude.{◌≡◌, ◌≤◌};
 ghost use Rattle.published.specs.Stages.{stage_of};
 
-use crate::reader::Reader;
-use crate::skipping::skip_to_end_of_part;
-use crate::stop::Stop;
-use published_tokens::{Kind, Place, Symbol};
+use published_tokens::{Kind, Place, Reader, Stop, Symbol, skip_to_end_of_part};
 
 /// The part of a list that a component belongs to.
 #[derive(Clone, Copy, Debug, PartialEq, Eq)]

@@ -1,13 +1,10 @@
 //! EXPORTS and IMPORTS (X.680 clause 13).
 
-use crate::MAX_PARTS;
-use crate::fault::Reason;
-use crate::reader::Reader;
-use crate::skipping::skip_brackets;
-use crate::stop::Stop;
-use crate::tree::{Import, Word};
+use crate::tree::Import;
 use lexis::Word as Reserved;
-use published_tokens::{Kind, MAX_FILE, Symbol};
+use published_tokens::{
+    Kind, MAX_FILE, MAX_PARTS, Reader, Reason, Stop, Symbol, Word, skip_brackets,
+};
 
 /// Passes EXPORTS, if it stands in front.
 pub(crate) fn skip_exports(reader: &mut Reader) -> Result<(), Stop> {

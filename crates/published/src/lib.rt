@@ -1,8 +1,9 @@
 //! Modules of ASN.1 as they are published, as trees (X.680 to X.683).
 //!
-//! A file is prose with modules in it, as the text of an RFC is, or modules alone. All of X.680 that a type
-//! for BER may be made of is kept in the tree; constraints are passed by their parentheses, and objects,
-//! sets, macros and what has parameters by their brackets, with their names and places kept.
+//! A file is prose with modules in it, as the text of an RFC is, or modules alone; `published_tokens` finds their
+//! heads and reads their tokens. All of X.680 that a type for BER may be made of is kept in the tree; constraints
+//! are passed by their parentheses, and objects, sets, macros and what has parameters by their brackets, with
+//! their names and places kept.
 #![tactic(auto)]
 
 mod assignments;
@@ -11,40 +12,28 @@ mod braces;
 mod classes;
 mod enumerated;
 mod extension;
-mod fault;
-mod heads;
 mod imports;
 mod lists;
 mod modules;
 mod numbers;
 mod prefixes;
-mod reader;
 mod references;
 mod simple;
-mod skipping;
-mod stop;
 mod tree;
 mod types;
 mod value;
 mod values;
 mod words;
 
-pub use fault::{Fault, Reason};
 pub use modules::{Published, read};
-pub use published_tokens::{MAX_FILE, Place};
+pub use published_tokens::{Fault, MAX_FILE, MAX_LEVELS, MAX_PARTS, Place, Reason, Word};
 pub use simple::Simple;
 pub use syntax::{Group, SignedNumber, TagMode, Tagging};
 pub use tree::{
     Alternative, Alternatives, Assignment, Body, Component, Components, Field, Form, Import, Item,
-    Items, LeftOut, Module, NamedNumber, Presence, Reference, Tag, TagClass, Type, Word,
+    Items, LeftOut, Module, NamedNumber, Presence, Reference, Tag, TagClass, Type,
 };
 pub use value::{Arc, Number, Value, ValueForm};
-
-/// The most levels of types that nest, and of brackets in what is skipped.
-pub const MAX_LEVELS: u32 = 64;
-
-/// The most parts of a file: types, values and names.
-pub const MAX_PARTS: u32 = 131_072;
 
 /// The most faults of a file that are kept.
 pub const MAX_FAULTS: usize = 100;

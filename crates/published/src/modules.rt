@@ -1,11 +1,7 @@
 //! The modules of a file.
 
-use crate::MAX_PARTS;
-use crate::fault::{Fault, Reason};
-use crate::heads::next_head;
-use crate::reader::Reader;
 use crate::tree::Module;
-use published_tokens::{MAX_FILE, Place, Scanner};
+use published_tokens::{Fault, MAX_FILE, MAX_PARTS, Place, Reader, Reason, Scanner, next_head};
 use std::alloc::{AllocError, Global};
 
 /// What a file has.

@@ -1,13 +1,9 @@
 //! Numbers where they are asked for, and lists of names with numbers.
 
-use crate::MAX_PARTS;
-use crate::fault::Reason;
-use crate::reader::Reader;
 use crate::references::value_name_at;
-use crate::stop::Stop;
 use crate::tree::NamedNumber;
 use crate::value::Number;
-use published_tokens::{Kind, Symbol};
+use published_tokens::{Kind, MAX_PARTS, Reader, Reason, Stop, Symbol};
 use syntax::SignedNumber;
 
 /// A number, with `-` before it or without, or the name of a value.

@@ -4,12 +4,9 @@ ghost use Rattle.std.specs.Prelude.{◌≡◌};
 ghost use Rattle.published.specs.Prefixes.{class_of, mode_of};
 
 use crate::numbers::number_at;
-use crate::reader::Reader;
-use crate::skipping::skip_brackets;
-use crate::stop::Stop;
 use crate::tree::{Tag, TagClass};
 use lexis::Word as Reserved;
-use published_tokens::{Kind, MAX_FILE, Place, Symbol};
+use published_tokens::{Kind, MAX_FILE, Place, Reader, Stop, Symbol, skip_brackets};
 use syntax::TagMode;
 
 /// The tag that stands in front, and the keyword behind it.

@@ -1,11 +1,8 @@
 //! Names that are used, perhaps with their module.
 
-use crate::reader::Reader;
-use crate::skipping::skip_brackets;
-use crate::stop::Stop;
-use crate::tree::{Form, Reference, Word};
+use crate::tree::{Form, Reference};
 use names::Name;
-use published_tokens::{Kind, MAX_FILE, Symbol};
+use published_tokens::{Kind, MAX_FILE, Reader, Stop, Symbol, Word, skip_brackets};
 
 /// What a name means that stands alone.
 fn alone(word: Word) -> Reference {

@@ -3,17 +3,8 @@
 use crate::simple::Simple;
 use crate::value::{Number, Value};
 use names::Name;
-use published_tokens::Place;
+use published_tokens::{Place, Word};
 use syntax::{Group, TagMode, Tagging};
-
-/// A name where it is written.
-#[derive(Debug, Drop)]
-pub struct Word {
-    /// Its spelling. Names of vendors may have `_` in them.
-    pub name: Name,
-    /// Where it begins.
-    pub place: Place,
-}
 
 /// A module.
 #[derive(Debug, Drop)]

@@ -1,17 +1,13 @@
 //! Types (X.680 clauses 17 to 31).
 
 use crate::extension::{Extension, Stage};
-use crate::fault::Reason;
 use crate::prefixes::{skip_constraints, skip_size, tag_at};
-use crate::reader::Reader;
 use crate::references::{named_type_at, part_name_at};
-use crate::stop::Stop;
 use crate::tree::{Alternative, Alternatives, Component, Components, Form, Presence, Type};
 use crate::values::value_at;
 use crate::words::word_type_at;
-use crate::{MAX_LEVELS, MAX_PARTS};
 use lexis::Word as Reserved;
-use published_tokens::{Kind, Place, Symbol};
+use published_tokens::{Kind, MAX_LEVELS, MAX_PARTS, Place, Reader, Reason, Stop, Symbol};
 use std::mem::drop;
 use syntax::Group;
 

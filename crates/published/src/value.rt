@@ -1,8 +1,8 @@
 //! Values, as far as defaults and numbers need them.
 
-use crate::tree::{Reference, Word};
+use crate::tree::Reference;
 use names::Name;
-use published_tokens::Place;
+use published_tokens::{Place, Word};
 use syntax::SignedNumber;
 
 /// A value.

@@ -1,13 +1,10 @@
 //! Values (X.680 clauses 18 to 32), as far as defaults and numbers need them.
 
 use crate::braces::braces_at;
-use crate::reader::Reader;
 use crate::references::value_name_at;
-use crate::skipping::skip_brackets;
-use crate::stop::Stop;
 use crate::value::{Value, ValueForm};
 use lexis::Word as Reserved;
-use published_tokens::{Kind, MAX_FILE, Symbol};
+use published_tokens::{Kind, MAX_FILE, Reader, Stop, Symbol, skip_brackets};
 use syntax::SignedNumber;
 
 /// The value that stands in front.

@@ -2,13 +2,11 @@
 
 use crate::enumerated::enumerated_at;
 use crate::numbers::named_numbers_at;
-use crate::reader::Reader;
 use crate::references::class_at;
 use crate::simple::{Simple, simple_of};
-use crate::stop::Stop;
 use crate::tree::Form;
 use lexis::Word as Reserved;
-use published_tokens::{Kind, Symbol};
+use published_tokens::{Kind, Reader, Stop, Symbol};
 
 /// The type that begins with this reserved word, which stands in front.
 pub(crate) fn word_type_at(reader: &mut Reader, word: Reserved) -> Result<Form, Stop> {

@@ -4,9 +4,9 @@ use Rattle.published_tokens.specs.declared.token.Kind.{Kind}
 use Rattle.published_tokens.specs.declared.token.Kind.TheVariants.{Reserved, Symbol, Upper}
 use Rattle.published_tokens.specs.declared.symbol.Symbol.TheVariants as symbol
 use Rattle.syntax.specs.declared.tree.Tagging.TheVariants.{Explicit, Implicit, Automatic}
-use Rattle.published.specs.declared.heads.Head.{Head}
-use Rattle.published.specs.declared.heads.Stage.{Stage}
-use Rattle.published.specs.declared.heads.Stage.TheVariants as stage
+use Rattle.published_tokens.specs.declared.heads.Head.{Head}
+use Rattle.published_tokens.specs.declared.heads.Stage.{Stage}
+use Rattle.published_tokens.specs.declared.heads.Stage.TheVariants as stage
 
 -- what was read of a head, where nothing of it stands before the token
 abbrev pub stage_anew : Token → Kind → Stage

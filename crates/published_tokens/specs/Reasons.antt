@@ -1,6 +1,6 @@
-use Rattle.published.specs.declared.fault.Reason.{Reason}
-use Rattle.published.specs.declared.fault.Reason.TheVariants.{NoToken, NumberTooGreat, Unexpected}
-use Rattle.published.specs.declared.fault.Reason.TheVariants as reason
+use Rattle.published_tokens.specs.declared.fault.Reason.{Reason}
+use Rattle.published_tokens.specs.declared.fault.Reason.TheVariants.{NoToken, NumberTooGreat, Unexpected}
+use Rattle.published_tokens.specs.declared.fault.Reason.TheVariants as reason
 use Rattle.published_tokens.specs.declared.token.Kind.{Kind}
 use Rattle.published_tokens.specs.declared.token.Kind.TheVariants.{Bad, Unclosed, TooGreat}
 

@@ -4,21 +4,34 @@ ghost use Rattle.std.specs.Prelude.{◌≡◌, ◌+◌, ◌≤◌, length, OnOk,
 ghost use Rattle.lexis.specs.Place.{IsPlace};
 
 use crate::fault::{Fault, Reason, reason_of};
+use crate::place::Place;
+use crate::scanner::Scanner;
 use crate::stop::Stop;
-use crate::tree::Word;
+use crate::symbol::Symbol;
+use crate::token::{Kind, Token};
 use lexis::Word as Reserved;
 use names::Name;
-use published_tokens::{Kind, Place, Scanner, Symbol, Token};
 use std::alloc::Global;
+
+/// A name where it is written.
+#[derive(Debug, Drop)]
+pub struct Word {
+    /// Its spelling. Names of vendors may have `_` in them.
+    pub name: Name,
+    /// Where it begins.
+    pub place: Place,
+}
 
 /// The tokens of a module that are still to come, and how many parts may still be made of them.
 #[derive(Clone, Copy, Debug)]
-pub(crate) struct Reader<'a> {
+pub struct Reader<'a> {
     /// Where memory is taken.
     pub alloc: Global,
     scanner: Scanner<'a>,
-    front: Token,
-    parts: u32,
+    /// The token in front.
+    pub front: Token,
+    /// How many parts may still be made.
+    pub parts: u32,
     ghost span: { front.start ≤ front.end },
     ghost within: { front.end ≤ length scanner.text.now },
     ghost placed: { IsPlace scanner.text.now front.start front.place.line front.place.column },
@@ -26,7 +39,7 @@ pub(crate) struct Reader<'a> {
 
 impl<'a> Reader<'a> {
     /// The tokens behind what the scanner has passed.
-    pub(crate) fn new(alloc: Global, scanner: Scanner<'a>, parts: u32) -> Reader<'a> {
+    pub fn new(alloc: Global, scanner: Scanner<'a>, parts: u32) -> Reader<'a> {
         let mut scanner = scanner;
         let front = scanner.next();
         Reader {
@@ -38,58 +51,58 @@ impl<'a> Reader<'a> {
     }
 
     /// The scanner, which stands behind the token in front.
-    pub(crate) fn scanner(&self) -> Scanner<'a> {
+    pub fn scanner(&self) -> Scanner<'a> {
         self.scanner
     }
 
     /// How many parts may still be made.
-    pub(crate) fn parts(&self) -> u32 {
+    pub fn parts(&self) -> u32 {
         self.parts
     }
 
     /// What the token in front is.
-    pub(crate) fn kind(&self) -> Kind {
+    pub fn kind(&self) -> Kind {
         self.front.kind
     }
 
     /// Where the token in front begins.
-    pub(crate) fn place(&self) -> Place {
+    pub fn place(&self) -> Place {
         self.front.place
     }
 
     /// The octets of the token in front.
-    pub(crate) fn spelling(&self) -> &'a [u8] {
+    pub fn spelling(&self) -> &'a [u8] {
         &self.scanner.text[self.front.start..self.front.end]
     }
 
     /// Whether the token in front is spelled so.
-    pub(crate) fn is_spelled(&self, spelling: &[u8]) -> bool {
+    pub fn is_spelled(&self, spelling: &[u8]) -> bool {
         self.spelling() == spelling
     }
 
     /// What the token behind the one in front is.
-    pub(crate) fn second(&self) -> Kind {
+    pub fn second(&self) -> Kind {
         let mut ahead = self.scanner;
         ahead.next().kind
     }
 
     /// Passes the token in front.
-    pub(crate) fn take(&mut self) {
+    pub fn take(&mut self) {
         self.front = self.scanner.next();
     }
 
     /// Whether the symbol stands in front.
-    pub(crate) fn is_symbol(&self, symbol: Symbol) -> bool {
+    pub fn is_symbol(&self, symbol: Symbol) -> bool {
         self.front.kind == Kind::Symbol(symbol)
     }
 
     /// Whether the reserved word stands in front.
-    pub(crate) fn is_word(&self, word: Reserved) -> bool {
+    pub fn is_word(&self, word: Reserved) -> bool {
         self.front.kind == Kind::Reserved(word)
     }
 
     /// Whether the symbol stood in front, which is passed then.
-    pub(crate) fn passes_symbol(&mut self, symbol: Symbol) -> bool {
+    pub fn passes_symbol(&mut self, symbol: Symbol) -> bool {
         let found = self.is_symbol(symbol);
         if found {
             self.take();
@@ -98,7 +111,7 @@ impl<'a> Reader<'a> {
     }
 
     /// Whether the reserved word stood in front, which is passed then.
-    pub(crate) fn passes_word(&mut self, word: Reserved) -> bool {
+    pub fn passes_word(&mut self, word: Reserved) -> bool {
         let found = self.is_word(word);
         if found {
             self.take();
@@ -107,7 +120,7 @@ impl<'a> Reader<'a> {
     }
 
     /// Passes the symbol, which must stand in front.
-    pub(crate) fn symbol(&mut self, symbol: Symbol) -> Result<(), Stop> {
+    pub fn symbol(&mut self, symbol: Symbol) -> Result<(), Stop> {
         if self.passes_symbol(symbol) {
             Ok(())
         } else {
@@ -116,7 +129,7 @@ impl<'a> Reader<'a> {
     }
 
     /// Passes the reserved word, which must stand in front.
-    pub(crate) fn word(&mut self, word: Reserved) -> Result<(), Stop> {
+    pub fn word(&mut self, word: Reserved) -> Result<(), Stop> {
         if self.passes_word(word) {
             Ok(())
         } else {
@@ -125,7 +138,7 @@ impl<'a> Reader<'a> {
     }
 
     /// A name of this kind, `Kind::Upper`, `Kind::Lower` or `Kind::Field`, which must stand in front.
-    pub(crate) fn name(&mut self, kind: Kind) -> Result<Word, Stop> {
+    pub fn name(&mut self, kind: Kind) -> Result<Word, Stop> {
         if self.front.kind != kind {
             return Err(self.refuse());
         }
@@ -133,7 +146,7 @@ impl<'a> Reader<'a> {
     }
 
     /// The word in front as a name, whatever it is.
-    pub(crate) fn any_name(&mut self) -> Result<Word, Stop> {
+    pub fn any_name(&mut self) -> Result<Word, Stop> {
         self.count()?;
         let place = self.place();
         let name = Name::new(self.alloc, self.text()?)?;
@@ -142,7 +155,7 @@ impl<'a> Reader<'a> {
     }
 
     /// The name that this token is.
-    pub(crate) fn word_at(&mut self, token: Token) -> Result<Word, Stop> {
+    pub fn word_at(&mut self, token: Token) -> Result<Word, Stop> {
         self.count()?;
         let octets = self.scanner.text.get(token.start..token.end).unwrap_or(b"");
         match str::from_utf8(octets) {
@@ -156,7 +169,7 @@ impl<'a> Reader<'a> {
     }
 
     /// The token in front as text.
-    pub(crate) fn text(&self) -> Result<&'a str, Stop> {
+    pub fn text(&self) -> Result<&'a str, Stop> {
         match str::from_utf8(self.spelling()) {
             Ok(text) => Ok(text),
             Err(_) => Err(self.stop(Reason::NoToken)),
@@ -164,7 +177,7 @@ impl<'a> Reader<'a> {
     }
 
     /// Counts a part that is made.
-    pub(crate) fn count(&mut self) -> Result<(), Stop>
+    pub fn count(&mut self) -> Result<(), Stop>
         ensures counted { OnOk result (self.new.parts + 1 ≡ self.old.parts) }
         ensures none { OnErr result (self.old.parts ≡ 0) }
     {
@@ -178,12 +191,12 @@ impl<'a> Reader<'a> {
     }
 
     /// Refuses the token in front, where another must stand.
-    pub(crate) fn refuse(&self) -> Stop {
+    pub fn refuse(&self) -> Stop {
         self.stop(reason_of(self.front.kind))
     }
 
     /// Refuses what begins in front.
-    pub(crate) fn stop(&self, reason: Reason) -> Stop
+    pub fn stop(&self, reason: Reason) -> Stop
         ensures { result ≡ Stop.Refused (record { place = self.now.front.place; reason = reason }) }
     {
         Stop::Refused(Fault {

@@ -2,12 +2,13 @@
 
 ghost use Rattle.std.specs.Prelude.{◌≡◌, [], ◌∷◌, ◌++◌, OnOk};
 
-use crate::MAX_LEVELS;
 use crate::fault::Reason;
 use crate::reader::Reader;
 use crate::stop::Stop;
+use crate::symbol::Symbol;
+use crate::token::Kind;
+use crate::{MAX_FILE, MAX_LEVELS};
 use lexis::Word as Reserved;
-use published_tokens::{Kind, MAX_FILE, Symbol};
 
 /// The brackets that are open.
 #[derive(Debug, Drop)]
@@ -73,13 +74,13 @@ impl Brackets {
 }
 
 /// Passes the bracket in front and all up to the one that closes it. Another token is refused.
-pub(crate) fn skip_brackets(reader: &mut Reader, symbol: Symbol) -> Result<(), Stop> {
+pub fn skip_brackets(reader: &mut Reader, symbol: Symbol) -> Result<(), Stop> {
     reader.symbol(symbol)?;
     skip_rest(reader, symbol)
 }
 
 /// Passes all up to the bracket that closes this one, behind which the token in front stands.
-pub(crate) fn skip_rest(reader: &mut Reader, symbol: Symbol) -> Result<(), Stop> {
+pub fn skip_rest(reader: &mut Reader, symbol: Symbol) -> Result<(), Stop> {
     let mut brackets = Brackets {
         open: Vec::new(reader.alloc),
     };
@@ -94,7 +95,7 @@ pub(crate) fn skip_rest(reader: &mut Reader, symbol: Symbol) -> Result<(), Stop>
 }
 
 /// Passes all up to `::=` outside brackets.
-pub(crate) fn skip_to_assignment(reader: &mut Reader) -> Result<(), Stop> {
+pub fn skip_to_assignment(reader: &mut Reader) -> Result<(), Stop> {
     let mut brackets = Brackets {
         open: Vec::new(reader.alloc),
     };
@@ -108,7 +109,7 @@ pub(crate) fn skip_to_assignment(reader: &mut Reader) -> Result<(), Stop> {
 }
 
 /// Passes all up to the reserved word outside brackets.
-pub(crate) fn skip_to_word(reader: &mut Reader, word: Reserved) -> Result<(), Stop> {
+pub fn skip_to_word(reader: &mut Reader, word: Reserved) -> Result<(), Stop> {
     let mut brackets = Brackets {
         open: Vec::new(reader.alloc),
     };
@@ -122,7 +123,7 @@ pub(crate) fn skip_to_word(reader: &mut Reader, word: Reserved) -> Result<(), St
 }
 
 /// Passes all up to what ends a component outside brackets: `,`, `}` or `]]`.
-pub(crate) fn skip_to_end_of_part(reader: &mut Reader) -> Result<(), Stop> {
+pub fn skip_to_end_of_part(reader: &mut Reader) -> Result<(), Stop> {
     let mut brackets = Brackets {
         open: Vec::new(reader.alloc),
     };
@@ -146,7 +147,7 @@ fn ends_part(kind: Kind) -> bool {
 }
 
 /// Passes all up to the word `END` and the word itself.
-pub(crate) fn skip_macro(reader: &mut Reader) -> Result<(), Stop> {
+pub fn skip_macro(reader: &mut Reader) -> Result<(), Stop> {
     for _turn in 0..=MAX_FILE {
         if reader.passes_word(Reserved::End) {
             return Ok(());

@@ -1,9 +1,10 @@
 //! What is refused, and where.
 
 ghost use Rattle.std.specs.Prelude.{◌≡◌};
-ghost use Rattle.published.specs.Reasons.{reason_of};
+ghost use Rattle.published_tokens.specs.Reasons.{reason_of};
 
-use published_tokens::{Kind, Place};
+use crate::place::Place;
+use crate::token::Kind;
 
 /// What is refused, and where.
 #[derive(Clone, Copy, Debug, PartialEq, Eq)]

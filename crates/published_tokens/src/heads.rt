@@ -1,15 +1,18 @@
 //! The heads of modules (X.680 clause 13), among prose.
 
 ghost use Rattle.std.specs.Prelude.{◌≡◌, true, false};
-ghost use Rattle.published.specs.Heads.{stage_anew, stage_behind};
+ghost use Rattle.published_tokens.specs.Heads.{stage_anew, stage_behind};
 
+use crate::MAX_FILE;
+use crate::scanner::Scanner;
+use crate::symbol::Symbol;
+use crate::token::{Kind, Token};
 use lexis::Word as Reserved;
-use published_tokens::{Kind, MAX_FILE, Scanner, Symbol, Token};
 use syntax::Tagging;
 
 /// The head of a module.
 #[derive(Clone, Copy, Debug, PartialEq, Eq)]
-pub(crate) struct Head {
+pub struct Head {
     /// The module's name.
     pub name: Token,
     /// Its tag default.
@@ -42,7 +45,7 @@ enum Stage {
 }
 
 /// The head of the next module of the text, which the scanner passes.
-pub(crate) fn next_head(scanner: &mut Scanner) -> Option<Head> {
+pub fn next_head(scanner: &mut Scanner) -> Option<Head> {
     let mut stage = Stage::Prose;
     for _turn in 0..=MAX_FILE {
         let token = scanner.next_in_prose(stage != Stage::Prose);
