@@ -6,28 +6,22 @@
 #![tactic(auto)]
 
 mod due;
-mod judging;
 mod line;
 mod note;
 mod noting;
 mod open;
 mod opening;
-mod order;
 mod part;
 mod places;
-mod reason;
 mod showing;
 mod stop;
 mod taking;
-mod times;
-mod type_names;
 mod walk;
 
+pub use judging::{PrintedTag, Reason, name_of, spaced_name_of};
 pub use line::{Line, What};
 pub use note::{NOTES, Note, Notes};
 pub use part::{Part, Step};
-pub use reason::Reason;
 pub use showing::{put_contents, put_string};
 pub use stop::{Stop, Stopped};
-pub use type_names::{PrintedTag, name_of, spaced_name_of};
 pub use walk::Walk;

@@ -1,11 +1,11 @@
 //! What is not canonical at an identifier (X.690 clauses 9 to 11).
 
 use crate::opening::Opening;
-use crate::order::order_tag;
 use crate::walk::behind;
 use crate::{Note, Notes, Walk};
 use cutting::Ends;
 use encoding_parts::{Kind, kind_of};
+use judging::order_tag;
 use octets::Canonical;
 use types::Ty;
 

@@ -1,6 +1,6 @@
 //! Texts of contents octets.
 
-use crate::judging::value_of;
+use judging::value_of;
 use octets::NoMemory;
 use primitives::read_integer;
 use std::alloc::Global;

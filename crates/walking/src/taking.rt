@@ -1,11 +1,11 @@
 //! Encodings that are taken: one that opens, one of a type without parts, a segment.
 
-use crate::judging::{is_spelt_out, value_of, why_no_value};
 use crate::open::{Held, Open};
 use crate::opening::Opening;
 use crate::walk::behind;
 use crate::{Note, Notes, Reason, Stop, Stopped, Walk, What};
 use encoding_parts::{Frame, Kind, kind_of};
+use judging::{is_spelt_out, value_of, why_no_value};
 use octets::NoMemory;
 use primitives::read_bits;
 use types::{Refusal, Value};

@@ -2,12 +2,12 @@
 
 ghost use Rattle.std.specs.Prelude.{◌≤◌};
 
-use crate::judging::{is_string, why_no_value};
 use crate::open::{Held, Open};
 use crate::places::Places;
 use crate::{Line, Notes, Part, Reason, Step, Stop, Stopped, What};
 use berslice::MAX_NESTED;
 use encoding_parts::{Joined, OUTSIDE, contents_refusal, read_end, read_head_tag};
+use judging::{is_string, why_no_value};
 use octets::{Canonical, MAX_ENCODING, NoMemory, Tag};
 use std::alloc::Global;
 use std::string::String;
