@@ -43,7 +43,7 @@ impl Published {
         assignments: &mut Vec<Assignment>,
     ) -> Result<(), AllocError> {
         for _turn in 0..=MAX_FILE {
-            if ends_module(reader.kind()) || reader.parts() == 0 {
+            if ends_module(reader.kind()) || reader.parts == 0 {
                 break;
             }
             match assignment_at(reader) {

@@ -55,11 +55,6 @@ impl<'a> Reader<'a> {
         self.scanner
     }
 
-    /// How many parts may still be made.
-    pub fn parts(&self) -> u32 {
-        self.parts
-    }
-
     /// What the token in front is.
     pub fn kind(&self) -> Kind {
         self.front.kind
