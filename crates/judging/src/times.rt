@@ -19,41 +19,52 @@ pub fn why_no_time<'a>(kind: TimeKind, octets: &[u8]) -> (usize, Reason<'a>) {
         TimeKind::Generalized => 4usize,
     };
     let digits = year + 10;
-    for (place, octet) in octets.iter().take(digits).enumerate() {
-        if !octet.is_ascii_digit() {
-            return (place, Reason::Words("a digit must stand here"));
+    if let Some(place) = other_than_digit(octets, digits) {
+        return (place, Reason::Words("a digit must stand here"));
+    }
+    match wrong_number(octets, year) {
+        Some((place, name, number)) => (place, Reason::Number(name, number)),
+        None => {
+            let (place, words) = why_no_end(kind, digits, octets);
+            (place, Reason::Words(words))
         }
     }
+}
+
+// The first of so many octets that is no digit.
+fn other_than_digit(octets: &[u8], count: usize) -> Option<usize> {
+    for (place, octet) in octets.iter().take(count).enumerate() {
+        if !octet.is_ascii_digit() {
+            return Some(place);
+        }
+    }
+    None
+}
+
+// The first number behind the year that is not within its bounds: its place, its name and the number.
+fn wrong_number(octets: &[u8], year: usize) -> Option<(usize, &'static str, u8)> {
     for (which, (name, least, most)) in NUMBERS.iter().enumerate() {
         let place = year.saturating_add(which.saturating_mul(2));
         let number = number_at(octets, place);
         if number < *least || number > *most {
-            return (place, Reason::Number(*name, number));
+            return Some((place, *name, number));
         }
     }
-    why_no_end(kind, digits, octets)
+    None
 }
 
 // Why the end of a time is none, where the numbers before it are within their bounds.
-fn why_no_end<'a>(kind: TimeKind, digits: usize, octets: &[u8]) -> (usize, Reason<'a>) {
+fn why_no_end(kind: TimeKind, digits: usize, octets: &[u8]) -> (usize, &'static str) {
     let behind = octets.get(digits..).unwrap_or(&[]);
     let day = digits.saturating_sub(8);
     match (kind, behind) {
-        (_, [b'Z']) => (day, Reason::Words("the month does not have this day")),
+        (_, [b'Z']) => (day, "the month does not have this day"),
         (TimeKind::Generalized, [b'.', .., b'Z']) => (
             digits,
-            Reason::Words("a fraction has 1 to 12 digits, and the last is not 0"),
+            "a fraction has 1 to 12 digits, and the last is not 0",
         ),
-        (TimeKind::Generalized, _) => {
-            (
-                digits,
-                Reason::Words("Z, or a point and a fraction, must stand here"),
-            )
-        }
-        (TimeKind::Utc, _) => (
-            digits,
-            Reason::Words("Z must stand here, and nothing behind it"),
-        ),
+        (TimeKind::Generalized, _) => (digits, "Z, or a point and a fraction, must stand here"),
+        (TimeKind::Utc, _) => (digits, "Z must stand here, and nothing behind it"),
     }
 }
 

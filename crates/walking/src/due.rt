@@ -2,7 +2,7 @@
 
 use crate::open::{Due, Held};
 use crate::places::place_behind;
-use crate::{Part, Reason, Step, Stop, Stopped, Walk};
+use crate::{Part, Reason, Step, Stopped, Walk};
 use encoding_parts::{Kind, begins, by_tag, is_node, node_of, not_due, segment_tag};
 use octets::Tag;
 use types::{Refusal, Ty, Value};
@@ -14,19 +14,13 @@ impl<'a> Walk<'a> {
         tag: Tag,
         constructed: bool,
     ) -> Result<Option<&'a Value>, Stopped> {
-        let at = self.taken;
-        let is_bits_end = self.joined.unused != 0;
         let Some(top) = self.open.last_mut() else {
             return self.due_outside(tag);
         };
         if let Held::Segments(kind) = &top.held {
             let kind = *kind;
-            if let Some((refusal, words)) = segment_refused(kind, tag, constructed, is_bits_end) {
-                return Err(self.halt(Stop::outside(refusal, at, Reason::Words(words))));
-            }
-            self.line.part = segment_of(&top.part, tag);
-            self.line.place = None;
-            return Ok(None);
+            let string = top.part.node;
+            return self.due_segment(kind, string, tag, constructed);
         }
         match top.take_due(tag) {
             Ok(due) => {
@@ -35,9 +29,26 @@ impl<'a> Walk<'a> {
             }
             Err(refusal) => {
                 let reason = why_not_due(refusal, tag, top.missing());
-                Err(self.halt(Stop::outside(refusal, at, reason)))
+                Err(self.halt_here(refusal, reason))
             }
         }
+    }
+
+    // Tells the segment of the string that begins with the tag. It has no default.
+    fn due_segment(
+        &mut self,
+        kind: Kind,
+        string: &'a Ty,
+        tag: Tag,
+        constructed: bool,
+    ) -> Result<Option<&'a Value>, Stopped> {
+        let is_bits_end = self.joined.unused != 0;
+        if let Some((refusal, words)) = segment_refused(kind, tag, constructed, is_bits_end) {
+            return Err(self.halt_here(refusal, Reason::Words(words)));
+        }
+        self.line.part = segment_of(string, tag);
+        self.line.place = None;
+        Ok(None)
     }
 
     // Tells the value itself, if it begins with the tag.
@@ -45,8 +56,7 @@ impl<'a> Walk<'a> {
         if !begins(self.ty, tag) {
             let refusal = not_due(tag);
             let reason = why_not_due(refusal, tag, None);
-            let at = self.taken;
-            return Err(self.halt(Stop::outside(refusal, at, reason)));
+            return Err(self.halt_here(refusal, reason));
         }
         let due = Due {
             index: 0,
@@ -94,16 +104,15 @@ impl<'a> Walk<'a> {
         place: Option<usize>,
         tag: Tag,
     ) -> Result<(&'a Ty, Option<usize>), Stopped> {
-        let at = self.taken;
         let Some(node) = node_of(ty, tag) else {
-            return Err(self.halt(Stop::outside(Refusal::Identifier, at, Reason::NotDue(tag))));
+            return Err(self.halt_here(Refusal::Identifier, Reason::NotDue(tag)));
         };
         let Some(which) = which_alternative(ty, tag) else {
             return Ok((node, None));
         };
         match self.places.first_in(place, ty) {
             Ok(first) => Ok((node, place_behind(first, which))),
-            Err(_) => Err(self.halt(Stop::no_memory(at))),
+            Err(_) => Err(self.no_memory()),
         }
     }
 }
@@ -122,11 +131,11 @@ fn which_alternative(ty: &Ty, tag: Tag) -> Option<usize> {
 }
 
 // A segment of the string.
-fn segment_of<'a>(string: &Part<'a>, tag: Tag) -> Part<'a> {
+fn segment_of(string: &Ty, tag: Tag) -> Part<'_> {
     Part {
         step: Step::Whole,
-        ty: string.node,
-        node: string.node,
+        ty: string,
+        node: string,
         tag,
     }
 }

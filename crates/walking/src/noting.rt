@@ -1,12 +1,13 @@
 //! What is not canonical at an identifier (X.690 clauses 9 to 11).
 
+use crate::open::Open;
 use crate::opening::Opening;
 use crate::walk::behind;
 use crate::{Note, Notes, Walk};
 use cutting::Ends;
 use encoding_parts::{Kind, kind_of};
 use judging::order_tag;
-use octets::Canonical;
+use octets::{Canonical, Tag};
 use types::Ty;
 
 // The contents octets of a full segment under CER (X.690 9.2).
@@ -20,28 +21,8 @@ impl<'a> Walk<'a> {
         let rule = self.rule;
         let top = self.open.last_mut()?;
         match top.part.node {
-            Ty::Set(_, _) => {
-                let tag = order_tag(rule, part.ty, part.tag);
-                let last = top.last_tag.replace(tag)?;
-                if tag < last {
-                    Some(Note::SetOrder)
-                } else {
-                    None
-                }
-            }
-            Ty::SetOf(_, _) => {
-                let rest = behind(octets, start);
-                let size = size_of(opening, rest);
-                let (from, to) = top.last_item;
-                top.last_item = (start, start.saturating_add(size));
-                let last = octets.get(from..to).unwrap_or(&[]);
-                let item = rest.get(..size).unwrap_or(rest);
-                if item < last {
-                    Some(Note::ItemOrder)
-                } else {
-                    None
-                }
-            }
+            Ty::Set(_, _) => component_note(top, order_tag(rule, part.ty, part.tag)),
+            Ty::SetOf(_, _) => item_note(top, start, opening, octets),
             _ => None,
         }
     }
@@ -95,6 +76,31 @@ impl<'a> Walk<'a> {
             notes.add(note);
         }
         notes
+    }
+}
+
+// Whether the component that stands in a SET by this tag stands out of order.
+fn component_note(set: &mut Open<'_>, tag: Tag) -> Option<Note> {
+    let last = set.last_tag.replace(tag)?;
+    if tag < last {
+        Some(Note::SetOrder)
+    } else {
+        None
+    }
+}
+
+// Whether the item that begins at this place of the octets is less than the one before it in a SET OF.
+fn item_note(list: &mut Open<'_>, start: usize, opening: &Opening, octets: &[u8]) -> Option<Note> {
+    let rest = behind(octets, start);
+    let size = size_of(opening, rest);
+    let (from, to) = list.last_item;
+    list.last_item = (start, start.saturating_add(size));
+    let last = octets.get(from..to).unwrap_or(&[]);
+    let item = rest.get(..size).unwrap_or(rest);
+    if item < last {
+        Some(Note::ItemOrder)
+    } else {
+        None
     }
 }
 

@@ -1,7 +1,7 @@
 //! Length octets, and whether a part may have them.
 
 use crate::walk::behind;
-use crate::{Reason, Stop, Stopped, Walk};
+use crate::{Reason, Stopped, Walk};
 use berslice::MAX_NESTED;
 use encoding_parts::{Extent, can_have_length, contents_refusal, kind_of, read_extent};
 use octets::{Length, read_length};
@@ -24,6 +24,13 @@ impl Opening {
     /// How many octets stand before the contents octets.
     pub fn head(&self) -> usize {
         self.identifier.saturating_add(self.length)
+    }
+
+    /// The contents octets among those from the identifier octets on; none of the indefinite form.
+    pub fn contents_in<'b>(&self, octets: &'b [u8]) -> &'b [u8] {
+        let start = self.head();
+        let end = start.saturating_add(self.contents.unwrap_or(0));
+        octets.get(start..end).unwrap_or(&[])
     }
 }
 
@@ -48,10 +55,7 @@ impl<'a> Walk<'a> {
         ) {
             Ok(Extent::Definite { octets, used }) => (used, Some(octets)),
             Ok(Extent::Indefinite { used }) => (used, None),
-            Err(refusal) => {
-                let stop = self.why_no_length(refusal, before, lengths);
-                return Err(self.halt(stop));
-            }
+            Err(refusal) => return Err(self.no_length(refusal, before, lengths)),
         };
         let opening = Opening {
             constructed,
@@ -68,48 +72,27 @@ impl<'a> Walk<'a> {
     // Refuses a form that the part cannot have.
     #[inline(never)]
     fn judge_form(&mut self, constructed: bool) -> Result<(), Stopped> {
-        match self.why_not_so_formed(constructed) {
-            Some((refusal, reason)) => {
-                let stop = Stop::of(self.line.part, refusal, self.taken, reason);
-                Err(self.halt(stop))
-            }
-            None => Ok(()),
-        }
-    }
-
-    // Why an encoding of this form is refused.
-    fn why_not_so_formed(&self, constructed: bool) -> Option<(Refusal, Reason<'a>)> {
         let node = self.line.part.node;
-        let can_be = match (constructed, kind_of(node)) {
-            (true, Some(_)) => true,
-            (_, _) => constructed != node.has_no_parts(),
+        let (refusal, reason) = match (constructed, node.has_no_parts()) {
+            (true, true) if kind_of(node).is_none() => (Refusal::Form, Reason::Constructed(node)),
+            (false, false) => (Refusal::Form, Reason::Primitive(node)),
+            (true, _) if self.open.len() >= MAX_NESTED => {
+                let words = "more than 64 constructed encodings nested (the limit is asn1x's own)";
+                (Refusal::TooDeep, Reason::Words(words))
+            }
+            (_, _) => return Ok(()),
         };
-        if !can_be && constructed {
-            return Some((Refusal::Form, Reason::Constructed(node)));
-        }
-        if !can_be {
-            return Some((Refusal::Form, Reason::Primitive(node)));
-        }
-        if constructed && self.open.len() >= MAX_NESTED {
-            let words = "more than 64 constructed encodings nested (the limit is asn1x's own)";
-            return Some((Refusal::TooDeep, Reason::Words(words)));
-        }
-        None
+        Err(self.halt_in_part(refusal, self.taken, reason))
     }
 
-    // Why length octets are refused.
+    // Goes no further, since length octets are refused.
     #[inline(never)]
-    fn why_no_length(&self, refusal: Refusal, at: usize, lengths: &[u8]) -> Stop<'a> {
-        let part = self.line.part;
+    fn no_length(&mut self, refusal: Refusal, at: usize, lengths: &[u8]) -> Stopped {
         if refusal == Refusal::TooLong && !self.is_inside_definite() && !self.is_in_string() {
             if let Length::Definite { octets, .. } = read_length(lengths) {
-                if part.node.has_no_parts() && !can_have_length(part.node, octets) {
-                    return Stop::of(
-                        part,
-                        contents_refusal(part.node),
-                        at,
-                        Reason::Count(part.node, octets),
-                    );
+                let node = self.line.part.node;
+                if node.has_no_parts() && !can_have_length(node, octets) {
+                    return self.no_count(at, octets);
                 }
             }
         }
@@ -119,29 +102,32 @@ impl<'a> Walk<'a> {
             Refusal::TooLong => "more than 1,048,576 octets (the limit is asn1x's own)",
             _ => "malformed length octets, or more than 1,048,576 (the limit is asn1x's own)",
         };
-        Stop::of(part, refusal, at, Reason::Words(words))
+        self.halt_in_part(refusal, at, Reason::Words(words))
+    }
+
+    // Goes no further, since the type of the part that is told cannot have so many contents octets.
+    #[inline(never)]
+    fn no_count(&mut self, at: usize, count: usize) -> Stopped {
+        let node = self.line.part.node;
+        self.halt_in_part(contents_refusal(node), at, Reason::Count(node, count))
     }
 
     // Refuses a primitive encoding whose type cannot have as many contents octets, or that the input cuts.
     #[inline(never)]
     fn judge_count(&mut self, opening: &Opening, rest: &[u8]) -> Result<(), Stopped> {
-        let part = self.line.part;
-        let Some(count) = opening.contents else {
-            return Ok(());
+        let count = match opening.contents {
+            Some(count) if !opening.constructed => count,
+            _ => return Ok(()),
         };
-        if opening.constructed {
-            return Ok(());
-        }
-        let at = self.taken.saturating_add(opening.identifier);
-        if !self.is_in_string() && !can_have_length(part.node, count) {
-            let reason = Reason::Count(part.node, count);
-            return Err(self.halt(Stop::of(part, contents_refusal(part.node), at, reason)));
+        if !self.is_in_string() && !can_have_length(self.line.part.node, count) {
+            let at = self.taken.saturating_add(opening.identifier);
+            return Err(self.no_count(at, count));
         }
         let there = rest.len().saturating_sub(opening.head());
         if count > there {
             let at = self.taken.saturating_add(rest.len());
             let reason = Reason::Missing(count - there);
-            return Err(self.halt(Stop::of(part, Refusal::Truncated, at, reason)));
+            return Err(self.halt_in_part(Refusal::Truncated, at, reason));
         }
         Ok(())
     }

@@ -1,6 +1,6 @@
 //! Where a walk stops, and why.
 
-use crate::{Part, Reason};
+use crate::{Part, Reason, Walk};
 use encoding_parts::refusal_inside;
 use types::Refusal;
 
@@ -44,11 +44,6 @@ impl<'a> Stop<'a> {
         }
     }
 
-    /// The walk itself ran out of memory.
-    pub fn no_memory(at: usize) -> Stop<'a> {
-        Stop::outside(Refusal::NoMemory, at, Reason::Words("memory ran out"))
-    }
-
     /// The stop as it is where an encoding around it has the definite form.
     pub fn inside(self, inside_definite: bool) -> Stop<'a> {
         let refusal = refusal_inside(inside_definite, self.refusal);
@@ -63,5 +58,48 @@ impl<'a> Stop<'a> {
             part: self.part,
             reason,
         }
+    }
+}
+
+impl<'a> Walk<'a> {
+    // Goes no further, for this reason.
+    #[inline(never)]
+    pub(crate) fn halt(&mut self, stop: Stop<'a>) -> Stopped {
+        self.stop = Some(stop);
+        Stopped
+    }
+
+    // Goes no further, for a fault of what stands here, before a part is known.
+    #[inline(never)]
+    pub(crate) fn halt_here(&mut self, refusal: Refusal, reason: Reason<'a>) -> Stopped {
+        self.halt(Stop::outside(refusal, self.taken, reason))
+    }
+
+    // Goes no further, since memory ran out.
+    #[inline(never)]
+    pub(crate) fn no_memory(&mut self) -> Stopped {
+        self.halt_here(Refusal::NoMemory, Reason::Words("memory ran out"))
+    }
+
+    // Goes no further, since the part that is told is refused, for a fault before which so many octets stand.
+    #[inline(never)]
+    pub(crate) fn halt_in_part(
+        &mut self,
+        refusal: Refusal,
+        at: usize,
+        reason: Reason<'a>,
+    ) -> Stopped {
+        self.halt(Stop::of(self.line.part, refusal, at, reason))
+    }
+
+    // Goes no further, for the reason that is known, as it is inside the open encodings.
+    #[inline(never)]
+    pub(crate) fn halt_inside(&mut self) -> Stopped {
+        let inside_definite = self.is_inside_definite();
+        self.stop = match self.stop {
+            Some(stop) => Some(stop.inside(inside_definite)),
+            None => None,
+        };
+        Stopped
     }
 }

@@ -3,7 +3,7 @@
 use crate::open::{Held, Open};
 use crate::opening::Opening;
 use crate::walk::behind;
-use crate::{Note, Notes, Reason, Stop, Stopped, Walk, What};
+use crate::{Note, Notes, Reason, Stopped, Walk, What};
 use encoding_parts::{Frame, Kind, kind_of};
 use judging::{is_spelt_out, value_of, why_no_value};
 use octets::NoMemory;
@@ -18,43 +18,24 @@ impl<'a> Walk<'a> {
         opening: &Opening,
         octets: &[u8],
     ) -> Result<(), Stopped> {
-        let at = self.taken;
         let notes = self.form_notes(self.line.part.node, opening);
         self.tell(opening, What::Parts, notes, octets);
-        let opened = self.opened(default, opening);
-        let Ok(Some(opened)) = opened else {
-            return Err(self.halt(Stop::no_memory(at)));
-        };
-        if self.open.push(opened).is_err() {
-            return Err(self.halt(Stop::no_memory(at)));
+        if self.push_open(default, opening).is_err() {
+            return Err(self.no_memory());
         }
-        self.taken = at.saturating_add(opening.head());
+        self.taken = self.taken.saturating_add(opening.head());
         Ok(())
     }
 
-    // The encoding as it opens.
-    fn opened(
-        &mut self,
-        default: Option<&'a Value>,
-        opening: &Opening,
-    ) -> Result<Option<Open<'a>>, NoMemory> {
+    // Puts the encoding that opens behind those that it stands in.
+    fn push_open(&mut self, default: Option<&'a Value>, opening: &Opening) -> Result<(), NoMemory> {
         let part = self.line.part;
+        let frame = self.frame(opening);
         let first_place = self.places.first_in(self.line.place, part.node)?;
         let Some(held) = Held::of(self.alloc, part.node)? else {
-            return Ok(None);
+            return Err(NoMemory);
         };
-        let start = self.taken.saturating_add(opening.head());
-        let frame = match opening.contents {
-            Some(size) => Frame {
-                definite: true,
-                end: start.saturating_add(size),
-            },
-            None => Frame {
-                definite: false,
-                end: self.end_inside().saturating_sub(2),
-            },
-        };
-        Ok(Some(Open {
+        self.open.push(Open {
             part,
             first_place,
             frame,
@@ -63,7 +44,23 @@ impl<'a> Walk<'a> {
             last_item: (0, 0),
             last_tag: None,
             count: 0,
-        }))
+        })?;
+        Ok(())
+    }
+
+    // Where the encoding that opens ends.
+    fn frame(&self, opening: &Opening) -> Frame {
+        let start = self.taken.saturating_add(opening.head());
+        match opening.contents {
+            Some(size) => Frame {
+                definite: true,
+                end: start.saturating_add(size),
+            },
+            None => Frame {
+                definite: false,
+                end: self.end_inside().saturating_sub(2),
+            },
+        }
     }
 
     // Takes the contents octets of a primitive encoding.
@@ -74,34 +71,36 @@ impl<'a> Walk<'a> {
         octets: &[u8],
         rest: &[u8],
     ) -> Result<(), Stopped> {
-        let start = opening.head();
-        let stop = start.saturating_add(opening.contents.unwrap_or(0));
-        let contents = rest.get(start..stop).unwrap_or(&[]);
+        let contents = opening.contents_in(rest);
         if self.is_in_string() {
             return self.segment(opening, contents, octets);
         }
         let mut notes = self.leaf_notes(self.line.part.node, opening, contents);
-        if default.is_some() || !self.is_taken {
-            let value = self.value(start, contents)?;
-            if is_spelt_out(default, &value) {
-                notes.add(Note::Default);
-            }
+        let is_judged = default.is_some() || !self.is_taken;
+        if is_judged && self.is_default(default, opening.head(), contents)? {
+            notes.add(Note::Default);
         }
         self.tell(opening, What::Leaf, notes, octets);
-        self.taken = self.taken.saturating_add(stop);
+        let size = opening.head().saturating_add(contents.len());
+        self.taken = self.taken.saturating_add(size);
         self.is_over = self.open.is_empty();
         Ok(())
     }
 
-    // The value of the contents octets of the part that is told, whose head has so many octets.
+    // Whether the contents octets of the part that is told, whose head has so many octets, are those of the default.
+    // Refused where they have no value.
     #[inline(never)]
-    fn value(&mut self, head: usize, contents: &[u8]) -> Result<Value, Stopped> {
-        let part = self.line.part;
-        match value_of(self.alloc, part.node, contents) {
-            Ok(value) => Ok(value),
+    fn is_default(
+        &mut self,
+        default: Option<&'a Value>,
+        head: usize,
+        contents: &[u8],
+    ) -> Result<bool, Stopped> {
+        match value_of(self.alloc, self.line.part.node, contents) {
+            Ok(value) => Ok(is_spelt_out(default, &value)),
             Err((refusal, place, reason)) => {
                 let at = self.taken.saturating_add(head).saturating_add(place);
-                Err(self.halt(Stop::of(part, refusal, at, reason)))
+                Err(self.halt_in_part(refusal, at, reason))
             }
         }
     }
@@ -116,10 +115,9 @@ impl<'a> Walk<'a> {
     ) -> Result<(), Stopped> {
         let start = self.taken.saturating_add(opening.head());
         let later = behind(octets, start.saturating_add(contents.len()));
-        let part = self.line.part;
-        let notes = self.segment_notes(part.node, opening, contents, later);
+        let notes = self.segment_notes(self.line.part.node, opening, contents, later);
         if let Err((refusal, reason)) = self.join(contents) {
-            return Err(self.halt(Stop::of(part, refusal, start, reason)));
+            return Err(self.halt_in_part(refusal, start, reason));
         }
         if let Some(top) = self.open.last_mut() {
             top.count = top.count.saturating_add(1);

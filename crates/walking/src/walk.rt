@@ -137,24 +137,6 @@ impl<'a> Walk<'a> {
         Ok(true)
     }
 
-    // Goes no further, for this reason.
-    #[inline(never)]
-    pub(crate) fn halt(&mut self, stop: Stop<'a>) -> Stopped {
-        self.stop = Some(stop);
-        Stopped
-    }
-
-    // Goes no further, for the reason that is known, as it is inside the open encodings.
-    #[inline(never)]
-    fn halt_inside(&mut self) -> Stopped {
-        let inside_definite = self.is_inside_definite();
-        self.stop = match self.stop {
-            Some(stop) => Some(stop.inside(inside_definite)),
-            None => None,
-        };
-        Stopped
-    }
-
     // Goes no further, since the end of an indefinite form is none.
     #[inline(never)]
     fn no_end(&mut self, refusal: Refusal, rest: &[u8]) -> Stopped {
@@ -289,8 +271,7 @@ impl<'a> Walk<'a> {
             _ =>
                 "malformed identifier octets, or a tag number above 268,435,455 (the limit is asn1x's own)",
         };
-        let at = self.taken;
-        self.halt(Stop::outside(refusal, at, Reason::Words(words)))
+        self.halt_here(refusal, Reason::Words(words))
     }
 }
 
