@@ -1,6 +1,6 @@
 //! Tests of the parser.
 
-use crate::rows::{Tells, between, placed};
+use crate::telling::{Tells, between, placed};
 use std::alloc::{AllocError, Global};
 use syntax::parse;
 

@@ -1,10 +1,11 @@
 //! Tests of the types that names mean.
 
-use crate::rows::{Table, between, check, placed, repeated, spelled, three, two};
+use crate::telling::{between, placed, repeated, spelled};
 use notation::{Fault, parse, resolve};
 use outline::outline;
 use std::alloc::{AllocError, Global};
 use std::test::Fail;
+use test_tables::{Table, check, three, two};
 use types::WellTyped;
 
 mod built_bits;

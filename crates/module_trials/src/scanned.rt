@@ -1,9 +1,10 @@
 //! Tests of the scanner.
 
-use crate::rows::{Table, Tells, placed, spelled, text_and_last};
+use crate::telling::{Tells, placed, spelled, text_and_last};
 use lexis::{Token, tokens};
 use std::alloc::{AllocError, Global};
 use std::test::Fail;
+use test_tables::Table;
 
 mod faults;
 mod spans;

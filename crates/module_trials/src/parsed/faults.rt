@@ -1,10 +1,11 @@
 //! The numbers and the places of faults.
 
 use super::{told, told_of_type};
-use crate::rows::{Table, around, check, placed, spelled, text_and_last};
+use crate::telling::{around, placed, spelled, text_and_last};
 use lexis::Fault;
 use std::alloc::{AllocError, Global};
 use std::test::Fail;
+use test_tables::{Table, check};
 
 // The text of a module | what is told of it.
 struct Modules;

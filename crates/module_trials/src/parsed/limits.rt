@@ -1,9 +1,10 @@
 //! Limits, each with its two neighbours, and hostile texts.
 
 use super::{Parsed, number_of_type};
-use crate::rows::{Built, Table, check, four, is_told_of_comments, quoted, repeated};
+use crate::telling::{Built, is_told_of_comments, quoted, repeated};
 use std::alloc::Global;
 use std::test::Fail;
+use test_tables::{Table, check, four};
 
 // What holds a type, between `'` | how often | what it holds | the number of the fault.
 struct Levels;

@@ -1,9 +1,10 @@
 //! Reserved words where a name must stand.
 
 use super::told;
-use crate::rows::{Table, between, check, text_and_last};
+use crate::telling::{between, text_and_last};
 use std::alloc::{AllocError, Global};
 use std::test::Fail;
+use test_tables::{Table, check};
 
 // All but `END`, which may stand where an assignment may.
 const OF_PROFILE: &str =

@@ -1,9 +1,10 @@
 //! Modules that are made in code, with named bits that no text has.
 
-use crate::rows::{Table, around, check, two};
+use crate::telling::around;
 use notation::{Assignment, Expr, Module, NamedBit, Tagging, resolve};
 use std::alloc::{AllocError, Global};
 use std::test::Fail;
+use test_tables::{Table, check, two};
 use types::Name;
 
 // The named bit of this name and number.

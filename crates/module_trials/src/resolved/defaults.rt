@@ -1,8 +1,8 @@
 //! Values behind DEFAULT.
 
 use super::{Around, Whole, Within};
-use crate::rows::check;
 use std::test::Fail;
+use test_tables::check;
 
 /// A component of T, and the ENUMERATED of some defaults.
 const COMPONENT: Around<'static> = Around {

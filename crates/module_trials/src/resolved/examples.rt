@@ -1,8 +1,8 @@
 //! Modules that users bring, trimmed to the profile.
 
 use super::Names;
-use crate::rows::check;
 use std::test::Fail;
+use test_tables::check;
 
 /// Names and algorithms of certificates (RFC 5280), their open types trimmed.
 const CERTIFICATES: &str = "PKIX1Explicit88 DEFINITIONS EXPLICIT TAGS ::= BEGIN

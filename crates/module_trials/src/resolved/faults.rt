@@ -1,8 +1,8 @@
 //! The numbers and places of faults.
 
 use super::{Around, Assignments, Names, Whole, check_parts};
-use crate::rows::check;
 use std::test::Fail;
+use test_tables::check;
 
 // assignments | tag default | the fault of T, or its type
 const FAULTS: &str = "\

@@ -1,10 +1,11 @@
 //! Modules that are made to be hard.
 
 use super::{Names, told};
-use crate::rows::{Table, between, check, four, prints, quoted, repeated, two};
+use crate::telling::{between, quoted, repeated};
 use notation::{Module, parse, resolve};
 use std::alloc::{AllocError, Global};
 use std::test::Fail;
+use test_tables::{Table, check, four, prints, two};
 
 /// The number of the fault of `parse`, and of `resolve`, which takes what `parse` made: 0 where there is none.
 fn numbers(alloc: Global, text: &str, name: &str) -> (u32, u32) {
@@ -80,7 +81,7 @@ impl Table for Tags {
     fn holds(&self, alloc: Global, row: &str) -> Result<bool, Fail> {
         let (tag, count, body, wanted) = four(row)?;
         let tags = repeated(alloc, "", quoted(tag), count.parse::<usize>()?, " ")?;
-        Ok(prints(alloc, &numbers_of(alloc, tags.as_str(), body)?, wanted)?)
+        prints(alloc, &numbers_of(alloc, tags.as_str(), body)?, wanted)
     }
 }
 

@@ -1,8 +1,8 @@
 //! BIT STRING with named bits.
 
 use super::{Around, Assignments, Whole, Within};
-use crate::rows::check;
 use std::test::Fail;
+use test_tables::check;
 
 // assignments | tag default | the type of T
 const TYPES: &str = "\

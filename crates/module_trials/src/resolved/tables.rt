@@ -1,8 +1,8 @@
 //! Tags and numbers of the types of small modules.
 
 use super::{Around, Assignments, Whole};
-use crate::rows::check;
 use std::test::Fail;
+use test_tables::check;
 
 // assignments | tag default | the type of T
 const TAGS: &str = "\

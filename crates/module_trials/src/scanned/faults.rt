@@ -1,10 +1,11 @@
 //! What no token is, and where it is told.
 
 use super::Texts;
-use crate::rows::{Table, check, placed, spelled, text_and_last};
+use crate::telling::{placed, spelled, text_and_last};
 use lexis::fault_at;
 use std::alloc::{AllocError, Global};
 use std::test::Fail;
+use test_tables::{Table, check};
 
 // text | number, line and column of its fault
 const FAULTS: &str = "\

@@ -1,10 +1,11 @@
 //! Where tokens begin and end, and what stands between them.
 
 use super::{Scanned, Texts};
-use crate::rows::{Built, check, is_told_of_comments};
+use crate::telling::{Built, is_told_of_comments};
 use lexis::tokens;
 use std::alloc::{AllocError, Global};
 use std::test::Fail;
+use test_tables::check;
 
 // text | where its tokens begin and end
 const SPANS: &str = " | []

@@ -1,10 +1,11 @@
 //! What one token is and stands for.
 
 use super::told;
-use crate::rows::{Table, check, prints, text_and_last};
+use crate::telling::text_and_last;
 use lexis::{Kind, lexeme_of, symbol_of, tokens};
-use std::alloc::{AllocError, Global};
+use std::alloc::Global;
 use std::test::Fail;
+use test_tables::{Table, check, prints};
 
 // A text | the kind of its one token.
 struct FirstKinds;
@@ -12,7 +13,7 @@ struct FirstKinds;
 impl Table for FirstKinds {
     fn holds(&self, alloc: Global, row: &str) -> Result<bool, Fail> {
         let (text, wanted) = text_and_last(row)?;
-        Ok(prints(alloc, &first_kind(alloc, text), wanted)?)
+        prints(alloc, &first_kind(alloc, text), wanted)
     }
 }
 
@@ -64,7 +65,7 @@ impl Table for Spellings {
 }
 
 // Whether `Debug` prints the symbol that is spelled so, and whether it stands in the profile, as this text.
-fn is_symbol(alloc: Global, spelling: &str, wanted: &str) -> Result<bool, AllocError> {
+fn is_symbol(alloc: Global, spelling: &str, wanted: &str) -> Result<bool, Fail> {
     match symbol_of(spelling.as_bytes()) {
         Some(symbol) if symbol.text() == spelling => {
             prints(alloc, &(symbol, symbol.is_of_profile()), wanted)
@@ -107,11 +108,11 @@ struct FirstLexemes;
 impl Table for FirstLexemes {
     fn holds(&self, alloc: Global, row: &str) -> Result<bool, Fail> {
         let (text, wanted) = text_and_last(row)?;
-        Ok(is_first(alloc, text, wanted)?)
+        is_first(alloc, text, wanted)
     }
 }
 
-fn is_first(alloc: Global, text: &str, wanted: &str) -> Result<bool, AllocError> {
+fn is_first(alloc: Global, text: &str, wanted: &str) -> Result<bool, Fail> {
     match tokens(alloc, text) {
         Ok(found) => match found.first() {
             Some(token) => prints(alloc, &lexeme_of(text, *token), wanted),

@@ -1,9 +1,10 @@
 //! Reserved words.
 
-use crate::rows::{Table, check, text_and_last};
+use crate::telling::text_and_last;
 use lexis::{Kind, Token, tokens, word_of};
 use std::alloc::Global;
 use std::test::Fail;
+use test_tables::{Table, check};
 
 // words | whether they stand in the profile | how many they are
 const RESERVED: &str = "\

@@ -1,31 +1,12 @@
-//! How the tables are read: a line is a row, with ` | ` between its columns.
+//! Rows that begin with a text, and what is told of texts.
 //!
-//! A text that is scanned or parsed stands there as it is, blanks and bars in it too; `\n` in it is a line feed. What is
-//! compared with the text that `Debug` prints of a result stands there as Rust spells it.
+//! A text that is scanned or parsed stands there as it is, blanks and bars in it too, with ` | ` behind it; `\n` in it
+//! is a line feed.
 
 use lexis::Fault;
 use std::alloc::{AllocError, Global};
-use std::fmt::Debug;
 use std::test::Fail;
-
-/// What a table shows.
-pub trait Table {
-    /// Whether a row of it holds.
-    fn holds(&self, alloc: Global, row: &str) -> Result<bool, Fail>;
-}
-
-/// Fails at the first row that does not hold, and where there is none.
-pub fn check<T: Table>(alloc: Global, table: &T, rows: &str) -> Result<(), Fail> {
-    if rows.is_empty() {
-        return Err(Fail::new("a table without rows"));
-    }
-    for row in rows.lines() {
-        if !table.holds(alloc, row)? {
-            return Err(Fail::new(format_args!("not so: {row}")));
-        }
-    }
-    Ok(())
-}
+use test_tables::{Table, four};
 
 /// The text that a row begins with, as it is, and the last column.
 pub fn text_and_last(row: &str) -> Result<(&str, &str), Fail> {
@@ -38,31 +19,6 @@ pub fn around<'a>(row: &'a str, mark: &str) -> Result<(&'a str, &'a str), Fail> 
         Some(sides) => Ok(sides),
         None => Err(Fail::new(format_args!("no {mark}: {row}"))),
     }
-}
-
-// A column without the blanks at its ends.
-fn bare(column: &str) -> &str {
-    column.trim_matches(' ')
-}
-
-/// The columns of a row of two.
-pub fn two(row: &str) -> Result<(&str, &str), Fail> {
-    let (first, second) = text_and_last(row)?;
-    Ok((bare(first), bare(second)))
-}
-
-/// The columns of a row of three.
-pub fn three(row: &str) -> Result<(&str, &str, &str), Fail> {
-    let (others, third) = text_and_last(row)?;
-    let (first, second) = two(others)?;
-    Ok((first, second, bare(third)))
-}
-
-/// The columns of a row of four.
-pub fn four(row: &str) -> Result<(&str, &str, &str, &str), Fail> {
-    let (others, fourth) = text_and_last(row)?;
-    let (first, second, third) = three(others)?;
-    Ok((first, second, third, bare(fourth)))
 }
 
 /// What a column has between `'`, the blanks at its ends too.
@@ -132,12 +88,6 @@ pub fn is_told_of_comments<T: Tells>(
     let ends = repeated(alloc, "", "*/", 65_536, "")?;
     let text = repeated(alloc, "", "/*", 65_536, ends.as_str())?;
     Ok(teller.told(alloc, text.as_str())?.as_str() == wanted)
-}
-
-/// Whether `Debug` prints what was found as this text.
-pub fn prints<T: Debug>(alloc: Global, found: &T, text: &str) -> Result<bool, AllocError> {
-    let printed = format!(in alloc; "{found:?}")?;
-    Ok(printed.as_str() == text)
 }
 
 /// The number and the place of a fault.

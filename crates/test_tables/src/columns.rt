@@ -1,0 +1,88 @@
+//! The columns of a row, and what they say.
+
+use std::alloc::{AllocError, Global};
+use std::fmt::Debug;
+use std::test::Fail;
+
+/// The column in front, and those behind it.
+pub fn two(row: &str) -> Result<(&str, &str), Fail> {
+    match row.split_once('|') {
+        Some((first, others)) => Ok((first.trim(), others.trim())),
+        None => Err("too few columns".into()),
+    }
+}
+
+/// The two columns in front, and those behind them.
+pub fn three(row: &str) -> Result<(&str, &str, &str), Fail> {
+    let (first, others) = two(row)?;
+    let (second, others) = two(others)?;
+    Ok((first, second, others))
+}
+
+/// The three columns in front, and those behind them.
+pub fn four(row: &str) -> Result<(&str, &str, &str, &str), Fail> {
+    let (first, second, others) = three(row)?;
+    let (third, others) = two(others)?;
+    Ok((first, second, third, others))
+}
+
+/// The two numbers of a column.
+pub fn pair_of(column: &str) -> Result<(usize, usize), Fail> {
+    let (first, second) = column.split_once(' ').ok_or("one number")?;
+    Ok((first.parse::<usize>()?, second.parse::<usize>()?))
+}
+
+/// The numbers of a column, with spaces between them. Two with `..` between them are those from the first to the one
+/// before the second.
+pub fn numbers_of(alloc: Global, column: &str) -> Result<Vec<usize>, Fail> {
+    let mut numbers = Vec::new(alloc);
+    for word in column.split_whitespace() {
+        match word.split_once("..") {
+            Some((first, end)) => put_run(
+                &mut numbers,
+                first.parse::<usize>()?,
+                end.parse::<usize>()?,
+            )?,
+            None => numbers.push(word.parse::<usize>()?)?,
+        }
+    }
+    Ok(numbers)
+}
+
+// Appends the numbers from the first to the one before the end.
+fn put_run(numbers: &mut Vec<usize>, first: usize, end: usize) -> Result<(), AllocError> {
+    for number in first..end {
+        numbers.push(number)?;
+    }
+    Ok(())
+}
+
+/// The lines of a column, in which a semicolon stands for a line feed.
+pub fn lines_of(alloc: Global, column: &str) -> Result<Vec<u8>, AllocError> {
+    let mut lines = Vec::new(alloc);
+    for octet in column.bytes() {
+        lines.push(if octet == b';' { b'\n' } else { octet })?;
+    }
+    Ok(lines)
+}
+
+/// Whether a column says yes; it says yes or no.
+pub fn is_yes(column: &str) -> Result<bool, Fail> {
+    match column {
+        "yes" => Ok(true),
+        "no" => Ok(false),
+        _ => Err("neither yes nor no".into()),
+    }
+}
+
+/// Whether a column says `refused` and this number.
+pub fn is_refused(number: u8, column: &str) -> Result<bool, Fail> {
+    let want = column.strip_prefix("refused ").ok_or("no refusal")?;
+    Ok(number == want.parse::<u8>()?)
+}
+
+/// Whether `Debug` prints what was found as this text, as Rust spells it.
+pub fn prints<T: Debug>(alloc: Global, found: &T, text: &str) -> Result<bool, Fail> {
+    let printed = format!(in alloc; "{found:?}")?;
+    Ok(printed.as_str() == text)
+}
