@@ -10,5 +10,3 @@ mod dripping;
 mod on_devices;
 #[cfg(test)]
 mod programs;
-#[cfg(test)]
-mod rows;

@@ -1,6 +1,7 @@
 //! Tests of the engine, and what they share.
 
 use convert::{Stopped, Tag, Ty, WellTyped};
+use std::io::ErrorKind;
 use std::test::Fail;
 
 mod command_lines;
@@ -25,5 +26,17 @@ pub fn counted(counted: Result<u64, Stopped>) -> (u64, u8) {
     match counted {
         Ok(done) => (done, 0),
         Err(stopped) => (stopped.done, stopped.refusal.number()),
+    }
+}
+
+/// The kind of error of a name.
+pub fn kind_of(name: &str) -> Result<ErrorKind, Fail> {
+    match name {
+        "InvalidData" => Ok(ErrorKind::InvalidData),
+        "IsADirectory" => Ok(ErrorKind::IsADirectory),
+        "NotFound" => Ok(ErrorKind::NotFound),
+        "Other" => Ok(ErrorKind::Other),
+        "OutOfMemory" => Ok(ErrorKind::OutOfMemory),
+        _ => Err("no kind of error".into()),
     }
 }

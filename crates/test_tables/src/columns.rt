@@ -37,21 +37,17 @@ pub fn pair_of(column: &str) -> Result<(usize, usize), Fail> {
 pub fn numbers_of(alloc: Global, column: &str) -> Result<Vec<usize>, Fail> {
     let mut numbers = Vec::new(alloc);
     for word in column.split_whitespace() {
-        match word.split_once("..") {
-            Some((first, end)) => put_run(
-                &mut numbers,
-                first.parse::<usize>()?,
-                end.parse::<usize>()?,
-            )?,
-            None => numbers.push(word.parse::<usize>()?)?,
-        }
+        put_numbers(&mut numbers, word)?;
     }
     Ok(numbers)
 }
 
-// Appends the numbers from the first to the one before the end.
-fn put_run(numbers: &mut Vec<usize>, first: usize, end: usize) -> Result<(), AllocError> {
-    for number in first..end {
+// Appends the number of a word, or those from one to another.
+fn put_numbers(numbers: &mut Vec<usize>, word: &str) -> Result<(), Fail> {
+    let Some((first, end)) = word.split_once("..") else {
+        return Ok(numbers.push(word.parse::<usize>()?)?);
+    };
+    for number in first.parse::<usize>()?..end.parse::<usize>()? {
         numbers.push(number)?;
     }
     Ok(())

@@ -8,5 +8,5 @@ mod rows;
 mod spelling;
 
 pub use columns::{four, is_refused, is_yes, lines_of, numbers_of, pair_of, prints, three, two};
-pub use rows::{Table, check, check_row, is_row, not_so};
+pub use rows::{Table, check, is_row, not_so, rows_of};
 pub use spelling::{arcs_of, octets_of, times_of};

@@ -1,6 +1,7 @@
 //! The rows of a table, and the loop over them.
 
 use std::alloc::Global;
+use std::str::Lines;
 use std::test::Fail;
 
 /// What a table shows.
@@ -11,21 +12,22 @@ pub trait Table {
 
 /// Fails at the first row that does not hold, and where there is none.
 pub fn check<T: Table>(alloc: Global, table: &T, rows: &str) -> Result<(), Fail> {
-    if !has_rows(rows) {
-        return Err("a table without rows".into());
-    }
-    for line in rows.lines() {
-        check_row(alloc, table, line)?;
+    for line in rows_of(rows)? {
+        if is_row(line) && !table.holds(alloc, line)? {
+            return Err(not_so(line));
+        }
     }
     Ok(())
 }
 
-/// Fails where a line is a row that does not hold.
-pub fn check_row<T: Table>(alloc: Global, table: &T, line: &str) -> Result<(), Fail> {
-    if !is_row(line) || table.holds(alloc, line)? {
-        return Ok(());
+/// The lines of a table, of which some are rows.
+pub fn rows_of(table: &str) -> Result<Lines<'_>, Fail> {
+    for line in table.lines() {
+        if is_row(line) {
+            return Ok(table.lines());
+        }
     }
-    Err(not_so(line))
+    Err("a table without rows".into())
 }
 
 /// Whether a line is a row: it is not empty, and no remark.
@@ -36,13 +38,4 @@ pub fn is_row(line: &str) -> bool {
 /// The failure at a row that does not hold.
 pub fn not_so(row: &str) -> Fail {
     Fail::new(format_args!("not so: {row}"))
-}
-
-fn has_rows(rows: &str) -> bool {
-    for line in rows.lines() {
-        if is_row(line) {
-            return true;
-        }
-    }
-    false
 }

@@ -1,10 +1,10 @@
 //! Pieces of a source, and parts of what is written.
 
 use crate::dripping::Dripping;
-use crate::rows::{Table, check, numbers_of, three, two};
 use devices::{Failed, FromReader, FromSlice, Piece, Source, whole_parts};
 use std::alloc::{AllocError, Global};
 use std::test::Fail;
+use test_tables::{Table, check, numbers_of, three, two};
 
 // So many octets, no two neighbours of them equal.
 fn counted(alloc: Global, count: usize) -> Result<Vec<u8>, AllocError> {
@@ -42,7 +42,7 @@ fn has_pieces(alloc: Global, octets: &[u8], sizes: &[usize]) -> Result<bool, All
 struct Pieces;
 
 impl Table for Pieces {
-    fn holds(alloc: Global, row: &str) -> Result<bool, Fail> {
+    fn holds(&self, alloc: Global, row: &str) -> Result<bool, Fail> {
         let (size, sizes) = two(row)?;
         let octets = counted(alloc, size.parse::<usize>()?)?;
         let sizes = numbers_of(alloc, sizes)?;
@@ -61,7 +61,7 @@ const PIECES: &str = "\
 
 #[test]
 fn pieces_of_a_slice(rt: HostRuntime) -> Result<(), Fail> {
-    check::<Pieces>(rt.alloc(), PIECES)
+    check(rt.alloc(), &Pieces, PIECES)
 }
 
 // Whether a read into a piece is answered so, and the source has failed only where it is refused.
@@ -85,7 +85,7 @@ fn pieces_of_a_reader_that_fails(rt: HostRuntime) {
 struct WholeParts;
 
 impl Table for WholeParts {
-    fn holds(alloc: Global, row: &str) -> Result<bool, Fail> {
+    fn holds(&self, alloc: Global, row: &str) -> Result<bool, Fail> {
         let (lengths, at, count) = three(row)?;
         let lengths = numbers_of(alloc, lengths)?;
         let found = whole_parts(lengths.as_slice(), at.parse::<usize>()?);
@@ -109,5 +109,5 @@ const PARTS: &str = "\
 
 #[test]
 fn parts_that_are_whole(rt: HostRuntime) -> Result<(), Fail> {
-    check::<WholeParts>(rt.alloc(), PARTS)
+    check(rt.alloc(), &WholeParts, PARTS)
 }

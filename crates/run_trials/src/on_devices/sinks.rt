@@ -1,11 +1,11 @@
 //! What sinks take, and when they fail.
 
 use crate::dripping::Filling;
-use crate::rows::{Table, check, four, prints};
 use devices::{Failed, Sink, ToVec, ToWriter, write_all};
 use std::alloc::Global;
 use std::io::ErrorKind;
 use std::test::Fail;
+use test_tables::{Table, check, four, prints};
 
 // Whether a sink takes octets, and its vector then has these.
 fn takes(sink: &mut ToVec, octets: &[u8], want: &[u8]) -> bool {
@@ -61,7 +61,7 @@ fn is_written(alloc: Global, row: &str, then: ErrorKind) -> Result<bool, Fail> {
 struct FailingWriters;
 
 impl Table for FailingWriters {
-    fn holds(alloc: Global, row: &str) -> Result<bool, Fail> {
+    fn holds(&self, alloc: Global, row: &str) -> Result<bool, Fail> {
         let is_full = is_written(alloc, row, ErrorKind::StorageFull)?;
         Ok(is_full && is_written(alloc, row, ErrorKind::Interrupted)?)
     }
@@ -82,7 +82,7 @@ const FAILING_WRITERS: &str = "\
 
 #[test]
 fn writers_that_fail(rt: HostRuntime) -> Result<(), Fail> {
-    check::<FailingWriters>(rt.alloc(), FAILING_WRITERS)
+    check(rt.alloc(), &FailingWriters, FAILING_WRITERS)
 }
 
 #[test]

@@ -1,11 +1,11 @@
 //! What sources give, and when they fail.
 
 use crate::dripping::Dripping;
-use crate::rows::{Table, check, octets_of, prints, three};
 use devices::{Failed, FromReader, FromSlice, Source};
 use std::alloc::{AllocError, Global};
 use std::io::ErrorKind;
 use std::test::Fail;
+use test_tables::{Table, check, octets_of, prints, three};
 
 // Reads three octets at a time, up to the end or a failure, and returns how many octets came last.
 fn read_on<S: Source>(source: &mut S, out: &mut Vec<u8>) -> Result<Option<usize>, AllocError> {
@@ -30,7 +30,7 @@ fn read_on<S: Source>(source: &mut S, out: &mut Vec<u8>) -> Result<Option<usize>
 struct WholeSlices;
 
 impl Table for WholeSlices {
-    fn holds(alloc: Global, row: &str) -> Result<bool, Fail> {
+    fn holds(&self, alloc: Global, row: &str) -> Result<bool, Fail> {
         let octets = octets_of(alloc, row)?;
         let mut source = FromSlice::new(octets.as_slice());
         let mut out = Vec::new(alloc);
@@ -48,7 +48,7 @@ const SLICES: &str = "\
 
 #[test]
 fn slices(rt: HostRuntime) -> Result<(), Fail> {
-    check::<WholeSlices>(rt.alloc(), SLICES)
+    check(rt.alloc(), &WholeSlices, SLICES)
 }
 
 #[test]
@@ -79,7 +79,7 @@ fn is_read(alloc: Global, row: &str, then: ErrorKind) -> Result<bool, Fail> {
 struct FailingReaders;
 
 impl Table for FailingReaders {
-    fn holds(alloc: Global, row: &str) -> Result<bool, Fail> {
+    fn holds(&self, alloc: Global, row: &str) -> Result<bool, Fail> {
         let is_other = is_read(alloc, row, ErrorKind::Other)?;
         Ok(is_other && is_read(alloc, row, ErrorKind::Interrupted)?)
     }
@@ -95,7 +95,7 @@ const FAILING_READERS: &str = "\
 
 #[test]
 fn readers_that_fail(rt: HostRuntime) -> Result<(), Fail> {
-    check::<FailingReaders>(rt.alloc(), FAILING_READERS)
+    check(rt.alloc(), &FailingReaders, FAILING_READERS)
 }
 
 #[test]

@@ -1,11 +1,12 @@
 //! Which words are a command line, and what they say.
 
+use super::kind_of;
 use super::printed::{judged, line_of};
-use crate::rows::{Table, check, kind_of, prints, two};
 use program::{CommandLine, Line};
 use std::alloc::Global;
 use std::io;
 use std::test::Fail;
+use test_tables::{Table, check, prints, two};
 
 // words | what is asked, the rules to read and to write by, and whether the input is hexadecimal
 const COMMAND_LINES: &str = "\
@@ -21,7 +22,7 @@ convert,--hex,--to,der,--,m,T,in   | (Convert, Ber, Some(Der), true)";
 struct CommandLines;
 
 impl Table for CommandLines {
-    fn holds(alloc: Global, row: &str) -> Result<bool, Fail> {
+    fn holds(&self, alloc: Global, row: &str) -> Result<bool, Fail> {
         let (words, want) = two(row)?;
         let line = line_of(alloc, words)?;
         let asked = (line.verb, line.from, line.to, line.hex);
@@ -36,7 +37,7 @@ fn has_names(line: &Line) -> bool {
 
 #[test]
 fn command_lines(rt: HostRuntime) -> Result<(), Fail> {
-    check::<CommandLines>(rt.alloc(), COMMAND_LINES)
+    check(rt.alloc(), &CommandLines, COMMAND_LINES)
 }
 
 // words, the program's name first | the exit status
@@ -61,7 +62,7 @@ asn1x,--version                          | 0";
 struct WrongWords;
 
 impl Table for WrongWords {
-    fn holds(alloc: Global, row: &str) -> Result<bool, Fail> {
+    fn holds(&self, alloc: Global, row: &str) -> Result<bool, Fail> {
         let (words, want) = two(row)?;
         Ok(status_of(alloc, words) == want.parse::<u8>()?)
     }
@@ -77,7 +78,7 @@ fn status_of(alloc: Global, words: &str) -> u8 {
 
 #[test]
 fn wrong_words(rt: HostRuntime) -> Result<(), Fail> {
-    check::<WrongWords>(rt.alloc(), WRONG_WORDS)
+    check(rt.alloc(), &WrongWords, WRONG_WORDS)
 }
 
 // why the system gives no words | the exit status
@@ -88,7 +89,7 @@ InvalidData | 64";
 struct NoWords;
 
 impl Table for NoWords {
-    fn holds(alloc: Global, row: &str) -> Result<bool, Fail> {
+    fn holds(&self, alloc: Global, row: &str) -> Result<bool, Fail> {
         let (kind, want) = two(row)?;
         let fault = Line::no_words(alloc, &io::Error::from(kind_of(kind)?));
         Ok(fault.status() == want.parse::<u8>()?)
@@ -97,5 +98,5 @@ impl Table for NoWords {
 
 #[test]
 fn words_that_the_system_does_not_give(rt: HostRuntime) -> Result<(), Fail> {
-    check::<NoWords>(rt.alloc(), NO_WORDS)
+    check(rt.alloc(), &NoWords, NO_WORDS)
 }

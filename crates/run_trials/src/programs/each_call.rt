@@ -2,10 +2,10 @@
 
 use super::printed::{Printed, input_of, line_of, out_of};
 use crate::dripping::{Dripping, Filling};
-use crate::rows::{Table, check, four, lines_of, three, two};
 use program::{Line, run};
 use std::alloc::Global;
 use std::test::Fail;
+use test_tables::{Table, check, four, lines_of, three, two};
 
 // An OCTET STRING of one octet in a segment, and one of none.
 const OCTETS: [u8; 9] = [0x24, 0x80, 0x04, 0x01, 0x41, 0x00, 0x00, 0x04, 0x00];
@@ -68,7 +68,7 @@ fn is_cut(
 struct FailingReaders;
 
 impl Table for FailingReaders {
-    fn holds(alloc: Global, row: &str) -> Result<bool, Fail> {
+    fn holds(&self, alloc: Global, row: &str) -> Result<bool, Fail> {
         let (words, out, columns) = three(row)?;
         let (ends, rest) = two(columns)?;
         let line = line_of(alloc, words)?;
@@ -113,13 +113,13 @@ convert,@builtin,OCTET STRING,in.hex,--to,cer | 04 01 41 04 00 | 3 5  |";
 
 #[test]
 fn reader_that_fails_at_each_call(rt: HostRuntime) -> Result<(), Fail> {
-    check::<FailingReaders>(rt.alloc(), READERS)
+    check(rt.alloc(), &FailingReaders, READERS)
 }
 
 struct FailingWriters;
 
 impl Table for FailingWriters {
-    fn holds(alloc: Global, row: &str) -> Result<bool, Fail> {
+    fn holds(&self, alloc: Global, row: &str) -> Result<bool, Fail> {
         let (words, input, out, columns) = four(row)?;
         let (ends, err, status) = three(columns)?;
         let line = line_of(alloc, words)?;
@@ -164,10 +164,10 @@ check,@builtin,OCTET STRING,in.hex                  | 24 80 04 01 41 00 00 04 00
 check,@builtin,OCTET STRING,in.hex,--hex            | 24 80 04 01 41 00 00 04 00 | ok 2;          | 0 0  | | 0
 convert,@builtin,OCTET STRING,in.hex,--to,der       | 24 80 04 01 41 00 00 04 00 | 04 01 41 04 00 | 3 5  | | 0
 convert,@builtin,OCTET STRING,in.hex,--hex,--to,der | 24 80 04 01 41 00 00 04 00 | 0401410400;    | 6 10 | | 0
-# the line feed is written before the refusal
+// the line feed is written before the refusal
 convert,@builtin,OCTET STRING,in.hex,--hex,--to,der | 0401410400 05 | 0401410400; | 6 10 | asn1x: refused 2 Identifier after 2 values; | 1";
 
 #[test]
 fn writer_that_fails_at_each_call(rt: HostRuntime) -> Result<(), Fail> {
-    check::<FailingWriters>(rt.alloc(), WRITERS)
+    check(rt.alloc(), &FailingWriters, WRITERS)
 }

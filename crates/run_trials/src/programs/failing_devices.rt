@@ -1,12 +1,13 @@
 //! Files, readers and writers that fail.
 
+use super::kind_of;
 use super::printed::line_of;
-use crate::rows::{Table, check, four, kind_of, lines_of, octets_of, three, two};
 use program::{cannot_open, run};
 use std::alloc::Global;
 use std::io;
 use std::io::{ErrorKind, Read, Write};
 use std::test::Fail;
+use test_tables::{Table, check, four, lines_of, octets_of, three, two};
 
 // A device whose every call fails.
 #[derive(Drop)]
@@ -37,7 +38,7 @@ OutOfMemory  | asn1x: refused 17 NoMemory after 0 values; | 4";
 struct FailingReaders;
 
 impl Table for FailingReaders {
-    fn holds(alloc: Global, row: &str) -> Result<bool, Fail> {
+    fn holds(&self, alloc: Global, row: &str) -> Result<bool, Fail> {
         let (kind, err, status) = three(row)?;
         let want = (
             Vec::new(alloc),
@@ -56,7 +57,7 @@ impl Table for FailingReaders {
 
 #[test]
 fn run_over_a_failing_reader(rt: HostRuntime) -> Result<(), Fail> {
-    check::<FailingReaders>(rt.alloc(), READERS)
+    check(rt.alloc(), &FailingReaders, READERS)
 }
 
 // A device that takes this many octets, and then fails.
@@ -84,14 +85,14 @@ impl Write for Filling {
 const WRITERS: &str = "\
 0 | asn1x: refused 16 SinkFault after 0 values; | 3
 3 | asn1x: refused 16 SinkFault after 0 values; | 3
-# all but the line feed behind the value
+// all but the line feed behind the value
 4 | asn1x: refused 16 SinkFault after 1 values; | 3
 5 |                                             | 0";
 
 struct FailingWriters;
 
 impl Table for FailingWriters {
-    fn holds(alloc: Global, row: &str) -> Result<bool, Fail> {
+    fn holds(&self, alloc: Global, row: &str) -> Result<bool, Fail> {
         let (room, err, status) = three(row)?;
         let want = (lines_of(alloc, err)?, status.parse::<u8>()?);
         let line = line_of(alloc, "convert,@builtin,NULL,in.hex,--hex,--to,der")?;
@@ -106,7 +107,7 @@ impl Table for FailingWriters {
 
 #[test]
 fn run_over_a_failing_writer(rt: HostRuntime) -> Result<(), Fail> {
-    check::<FailingWriters>(rt.alloc(), WRITERS)
+    check(rt.alloc(), &FailingWriters, WRITERS)
 }
 
 // words | the input | the standard output | the status
@@ -118,7 +119,7 @@ convert,@builtin,REAL,in.hex,--hex,--to,der | 0500       |       | 64";
 struct FailingErrorWriters;
 
 impl Table for FailingErrorWriters {
-    fn holds(alloc: Global, row: &str) -> Result<bool, Fail> {
+    fn holds(&self, alloc: Global, row: &str) -> Result<bool, Fail> {
         let (words, input, out, status) = four(row)?;
         let want = (lines_of(alloc, out)?, status.parse::<u8>()?);
         let line = line_of(alloc, words)?;
@@ -132,7 +133,7 @@ impl Table for FailingErrorWriters {
 
 #[test]
 fn run_over_a_failing_error_writer(rt: HostRuntime) -> Result<(), Fail> {
-    check::<FailingErrorWriters>(rt.alloc(), ERROR_WRITERS)
+    check(rt.alloc(), &FailingErrorWriters, ERROR_WRITERS)
 }
 
 // the path | the line that is printed
@@ -146,7 +147,7 @@ const PATHS: &str = "\
 struct Paths;
 
 impl Table for Paths {
-    fn holds(alloc: Global, row: &str) -> Result<bool, Fail> {
+    fn holds(&self, alloc: Global, row: &str) -> Result<bool, Fail> {
         let (path, want) = two(row)?;
         let path = String::from_utf8(octets_of(alloc, path)?)?;
         let mut err = Vec::new(alloc);
@@ -157,7 +158,7 @@ impl Table for Paths {
 
 #[test]
 fn file_that_cannot_be_opened(rt: HostRuntime) -> Result<(), Fail> {
-    check::<Paths>(rt.alloc(), PATHS)?;
+    check(rt.alloc(), &Paths, PATHS)?;
     let mut err = Failing(ErrorKind::BrokenPipe);
     assert_eq!(rt; cannot_open(rt.alloc(), "no/such file", &mut err), 3);
     Ok(())

@@ -1,9 +1,9 @@
 //! Hexadecimal text.
 
-use crate::rows::{Table, check, octets_of, prints, two};
 use convert::{HexFault, unhex};
 use std::alloc::Global;
 use std::test::Fail;
+use test_tables::{Table, check, octets_of, prints, two};
 
 // a text | the octets that it spells, or its fault
 const TEXTS: &str = "\
@@ -26,7 +26,7 @@ const TEXTS: &str = "\
 struct Texts;
 
 impl Table for Texts {
-    fn holds(alloc: Global, row: &str) -> Result<bool, Fail> {
+    fn holds(&self, alloc: Global, row: &str) -> Result<bool, Fail> {
         let (text, want) = two(row)?;
         let text = octets_of(alloc, text)?;
         match unhex(alloc, text.as_slice()) {
@@ -38,19 +38,19 @@ impl Table for Texts {
 
 #[test]
 fn hexadecimal_text(rt: HostRuntime) -> Result<(), Fail> {
-    check::<Texts>(rt.alloc(), TEXTS)
+    check(rt.alloc(), &Texts, TEXTS)
 }
 
 // a long text | how many octets it spells, or the fault
 const LONG_TEXTS: &str = "\
-' ' x4194304      | Ok(0)
-' ' x4194305      | Err(TooLong)
-' ' x4194305, 'x' | Err(TooLong)";
+' '*4194304      | Ok(0)
+' '*4194305      | Err(TooLong)
+' '*4194305, 'x' | Err(TooLong)";
 
 struct LongTexts;
 
 impl Table for LongTexts {
-    fn holds(alloc: Global, row: &str) -> Result<bool, Fail> {
+    fn holds(&self, alloc: Global, row: &str) -> Result<bool, Fail> {
         let (text, want) = two(row)?;
         let text = octets_of(alloc, text)?;
         prints(alloc, &count_of(alloc, text.as_slice()), want)
@@ -64,5 +64,5 @@ fn count_of(alloc: Global, text: &[u8]) -> Result<usize, HexFault> {
 
 #[test]
 fn longest_hexadecimal_text(rt: HostRuntime) -> Result<(), Fail> {
-    check::<LongTexts>(rt.alloc(), LONG_TEXTS)
+    check(rt.alloc(), &LongTexts, LONG_TEXTS)
 }

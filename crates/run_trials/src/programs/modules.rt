@@ -1,13 +1,14 @@
 //! Runs over the types of modules.
 
+use super::kind_of;
 use super::printed::{Printed, is_printed, is_so, line_of, run_over};
 use crate::dripping::Dripping;
-use crate::rows::{Table, check, four, kind_of, lines_of, octets_of, three, two};
 use convert::read_module;
 use program::cannot_read_module;
 use std::alloc::Global;
 use std::io;
 use std::test::Fail;
+use test_tables::{Table, check, four, lines_of, octets_of, three, two};
 
 // A call between two numbers.
 const CALLS: &str = "Calls DEFINITIONS IMPLICIT TAGS ::= BEGIN
@@ -24,7 +25,7 @@ END
 struct CallRuns;
 
 impl Table for CallRuns {
-    fn holds(alloc: Global, row: &str) -> Result<bool, Fail> {
+    fn holds(&self, alloc: Global, row: &str) -> Result<bool, Fail> {
         let (words, columns) = two(row)?;
         let line = line_of(alloc, words)?;
         is_so(alloc, &line, CALLS, columns)
@@ -40,7 +41,7 @@ check,calls.asn,Call,in.hex,--hex            | 30 80 62 80 04 01 35 04 01 36 00 
 
 #[test]
 fn runs_of_each_command_with_a_module(rt: HostRuntime) -> Result<(), Fail> {
-    check::<CallRuns>(rt.alloc(), TWO_CALLS)
+    check(rt.alloc(), &CallRuns, TWO_CALLS)
 }
 
 const WRONG_NUMBER: &str = "\
@@ -48,7 +49,7 @@ convert,calls.asn,Number,in.hex,--hex,--to,der | 42 01 35 42 01 41 | 420135; | a
 
 #[test]
 fn runs_of_a_module_over_wrong_octets(rt: HostRuntime) -> Result<(), Fail> {
-    check::<CallRuns>(rt.alloc(), WRONG_NUMBER)
+    check(rt.alloc(), &CallRuns, WRONG_NUMBER)
 }
 
 // What a run over the type `T` of a module prints and returns.
@@ -61,7 +62,7 @@ fn run_of(alloc: Global, module: &[u8], input: &[u8]) -> Result<Printed, Fail> {
 struct RefusedModules;
 
 impl Table for RefusedModules {
-    fn holds(alloc: Global, row: &str) -> Result<bool, Fail> {
+    fn holds(&self, alloc: Global, row: &str) -> Result<bool, Fail> {
         let (module, fault) = two(row)?;
         let module = lines_of(alloc, module)?;
         let found = run_of(alloc, module.as_slice(), b"05 0")?;
@@ -89,14 +90,14 @@ M DEFINITIONS ::= BEGIN T ::= INTEGER (5) END                          | 32 NotI
 
 #[test]
 fn modules_that_are_refused(rt: HostRuntime) -> Result<(), Fail> {
-    check::<RefusedModules>(rt.alloc(), REFUSED_MODULES)
+    check(rt.alloc(), &RefusedModules, REFUSED_MODULES)
 }
 
 // Modules that are octets.
 struct OctetModules;
 
 impl Table for OctetModules {
-    fn holds(alloc: Global, row: &str) -> Result<bool, Fail> {
+    fn holds(&self, alloc: Global, row: &str) -> Result<bool, Fail> {
         let (module, input, out, columns) = four(row)?;
         let (err, status) = two(columns)?;
         let module = octets_of(alloc, module)?;
@@ -112,13 +113,13 @@ impl Table for OctetModules {
 // octets of a module | the input | the standard output | the standard error | the status
 const OCTET_MODULES: &str = "\
 'M', 0A FF || | asn1x: module refused 21 Token at 1:1; | 2
-# 262,144 octets, and one more
-' ' x262106, 'M DEFINITIONS ::= BEGIN T ::= NULL END' | 05 00 | 0500; || 0
-' ' x262106, 'M DEFINITIONS ::= BEGIN T ::= NULL END', FF || | asn1x: module refused 31 TooLarge at 1:1; | 2";
+// 262,144 octets, and one more
+' '*262106, 'M DEFINITIONS ::= BEGIN T ::= NULL END' | 05 00 | 0500; || 0
+' '*262106, 'M DEFINITIONS ::= BEGIN T ::= NULL END', FF || | asn1x: module refused 31 TooLarge at 1:1; | 2";
 
 #[test]
 fn modules_that_are_no_text(rt: HostRuntime) -> Result<(), Fail> {
-    check::<OctetModules>(rt.alloc(), OCTET_MODULES)
+    check(rt.alloc(), &OctetModules, OCTET_MODULES)
 }
 
 // What is read of a module's file.
@@ -135,7 +136,7 @@ fn files_of_modules(rt: HostRuntime) -> Result<(), Fail> {
     let octets = read_of(rt.alloc(), CALLS.as_bytes())?;
     assert!(rt; octets.as_slice() == CALLS.as_bytes());
     // one octet more than a text may have is enough to refuse it
-    let long = octets_of(rt.alloc(), "' ' x262150")?;
+    let long = octets_of(rt.alloc(), "' '*262150")?;
     assert!(rt; read_of(rt.alloc(), long.as_slice())?.len() == 262_145);
     let cut = read_module(rt.alloc(), &mut Dripping::new(b"M DEFINITIONS", 5));
     assert!(rt; cut.is_err());
@@ -145,7 +146,7 @@ fn files_of_modules(rt: HostRuntime) -> Result<(), Fail> {
 struct UnreadModules;
 
 impl Table for UnreadModules {
-    fn holds(alloc: Global, row: &str) -> Result<bool, Fail> {
+    fn holds(&self, alloc: Global, row: &str) -> Result<bool, Fail> {
         let (kind, want, want_status) = three(row)?;
         let error = io::Error::from(kind_of(kind)?);
         let mut err = Vec::new(alloc);
@@ -162,5 +163,5 @@ OutOfMemory  | asn1x: module refused 33 NoMemory at 1:1; | 4";
 
 #[test]
 fn files_of_modules_that_cannot_be_read(rt: HostRuntime) -> Result<(), Fail> {
-    check::<UnreadModules>(rt.alloc(), UNREAD_MODULES)
+    check(rt.alloc(), &UnreadModules, UNREAD_MODULES)
 }

@@ -4,10 +4,10 @@
 //! With `--hex` the input is a text, and else octets, as are those that `convert` then writes. Where texts are long,
 //! octets spell the input and the output of each row.
 
-use crate::rows::{Table, four, lines_of, octets_of, three, two};
 use program::{Line, LineFault, Verb, line, run};
 use std::alloc::Global;
 use std::test::Fail;
+use test_tables::{Table, four, lines_of, octets_of, three, two};
 
 /// The standard output, the standard error and the status.
 pub type Printed = (Vec<u8>, Vec<u8>, u8);
@@ -79,7 +79,7 @@ pub fn is_so(alloc: Global, line: &Line, module: &str, columns: &str) -> Result<
 pub struct Runs;
 
 impl Table for Runs {
-    fn holds(alloc: Global, row: &str) -> Result<bool, Fail> {
+    fn holds(&self, alloc: Global, row: &str) -> Result<bool, Fail> {
         let (words, columns) = two(row)?;
         let line = line_of(alloc, words)?;
         is_so(alloc, &line, "", columns)
@@ -90,7 +90,7 @@ impl Table for Runs {
 pub struct LongRuns;
 
 impl Table for LongRuns {
-    fn holds(alloc: Global, row: &str) -> Result<bool, Fail> {
+    fn holds(&self, alloc: Global, row: &str) -> Result<bool, Fail> {
         let (words, input, out, columns) = four(row)?;
         let (err, status) = two(columns)?;
         let line = line_of(alloc, words)?;

@@ -1,10 +1,10 @@
 //! What a run prints and returns over devices that do not fail.
 
 use super::printed::{LongRuns, Runs, is_printed, is_so, line_of, run_over};
-use crate::rows::{Table, check, two};
 use convert::Canonical;
 use std::alloc::Global;
 use std::test::Fail;
+use test_tables::{Table, check, two};
 
 const RUNS: &str = "\
 convert,@builtin,BOOLEAN,in.hex,--hex,--to,der      | 01 01 2a       | 0101ff;       || 0
@@ -22,7 +22,7 @@ convert,@builtin,,in.hex,--hex,--to,der             | 0101ff         || asn1x: n
 
 #[test]
 fn runs(rt: HostRuntime) -> Result<(), Fail> {
-    check::<Runs>(rt.alloc(), RUNS)
+    check(rt.alloc(), &Runs, RUNS)
 }
 
 const TO_CER: &str = "\
@@ -30,12 +30,12 @@ convert,@builtin,OCTET STRING,in.hex,--hex,--to,cer | 04 81 01 41 | 040141; || 0
 
 // 1001 octets 41: the first 1000, and the last.
 const LONG_TO_CER: &str = "\
-convert,@builtin,OCTET STRING,in.hex,--hex,--to,cer | '048203e9', '41' x1000, '41' | '2480048203e8', '41' x1000, '0401410000', 0A || 0";
+convert,@builtin,OCTET STRING,in.hex,--hex,--to,cer | '048203e9', '41'*1000, '41' | '2480048203e8', '41'*1000, '0401410000', 0A || 0";
 
 #[test]
 fn run_to_cer(rt: HostRuntime) -> Result<(), Fail> {
-    check::<Runs>(rt.alloc(), TO_CER)?;
-    check::<LongRuns>(rt.alloc(), LONG_TO_CER)
+    check(rt.alloc(), &Runs, TO_CER)?;
+    check(rt.alloc(), &LongRuns, LONG_TO_CER)
 }
 
 const FROM_DER: &str = "\
@@ -44,23 +44,23 @@ convert,@builtin,BOOLEAN,in.hex,--hex,--to,der,--from,der | 01012a || asn1x: ref
 
 #[test]
 fn run_from_der(rt: HostRuntime) -> Result<(), Fail> {
-    check::<Runs>(rt.alloc(), FROM_DER)
+    check(rt.alloc(), &Runs, FROM_DER)
 }
 
 const TOO_LONG: &str = "\
-convert,@builtin,NULL,in.hex,--hex,--to,der | ' ' x4194300, '0500'      | '0500', 0A || 0
-convert,@builtin,NULL,in.hex,--hex,--to,der | ' ' x4194300, '0500', 'x' || asn1x: hexadecimal text too long; | 1";
+convert,@builtin,NULL,in.hex,--hex,--to,der | ' '*4194300, '0500'      | '0500', 0A || 0
+convert,@builtin,NULL,in.hex,--hex,--to,der | ' '*4194300, '0500', 'x' | '' | asn1x: hexadecimal text too long; | 1";
 
 #[test]
 fn run_over_too_long_a_text(rt: HostRuntime) -> Result<(), Fail> {
-    check::<LongRuns>(rt.alloc(), TOO_LONG)
+    check(rt.alloc(), &LongRuns, TOO_LONG)
 }
 
 // Runs of command lines that have a rule to write by, whatever their command.
 struct WithRule;
 
 impl Table for WithRule {
-    fn holds(alloc: Global, row: &str) -> Result<bool, Fail> {
+    fn holds(&self, alloc: Global, row: &str) -> Result<bool, Fail> {
         let (words, columns) = two(row)?;
         let mut line = line_of(alloc, words)?;
         line.to = Some(Canonical::Der);
@@ -81,7 +81,7 @@ check,@builtin,BOOLEAN,in.hex,--from,cer       | 01 01 2A 01 01 00 || asn1x: ref
 
 #[test]
 fn runs_of_each_command(rt: HostRuntime) -> Result<(), Fail> {
-    check::<WithRule>(rt.alloc(), COMMANDS)
+    check(rt.alloc(), &WithRule, COMMANDS)
 }
 
 const OVER_OCTETS: &str = "\
@@ -91,7 +91,7 @@ convert,@builtin,OCTET STRING,in.hex,--to,der | ''             | ''         || 0
 
 #[test]
 fn runs_over_octets(rt: HostRuntime) -> Result<(), Fail> {
-    check::<Runs>(rt.alloc(), OVER_OCTETS)
+    check(rt.alloc(), &Runs, OVER_OCTETS)
 }
 
 const NOTHING_DONE: &str = "\
@@ -104,5 +104,5 @@ fn runs_of_lines_of_which_nothing_is_done(rt: HostRuntime) -> Result<(), Fail> {
     line.to = None;
     let found = run_over(rt.alloc(), &line, &[], b"0500");
     assert!(rt; is_printed(&found, ("", "", 64)));
-    check::<Runs>(rt.alloc(), NOTHING_DONE)
+    check(rt.alloc(), &Runs, NOTHING_DONE)
 }

@@ -5,15 +5,15 @@ ghost use Rattle.std.specs.Prelude.{◌≡◌};
 use super::boolean;
 use super::letters::names_of;
 use crate::dripping::Dripping;
-use crate::rows::{Table, check, four, octets_of, three, two};
 use convert::{FromReader, FromSlice, NoMemory, Rule, Source, Values, WellTyped, conforms, show};
 use std::alloc::Global;
 use std::test::Fail;
+use test_tables::{Table, check, four, octets_of, three, two};
 
 // the rule and the type by their letters | octets | the values' texts | the number of the refusal or 0 | how many values
 // were returned | how many octets they have
 const ROWS: &str = "\
-b b |                                  |                  | 0  | 0 | 0
+b b | ''                               |                  | 0  | 0 | 0
 b b | 01 01 2a 01 01 00                | TRUE;FALSE;      | 0  | 2 | 6
 b b | 01 01 00 01 81 01 00 01          | FALSE;FALSE;     | 1  | 2 | 7
 b b | 01 01 00 01 02 00 00 01 01 00    | FALSE;           | 6  | 1 | 3
@@ -109,7 +109,7 @@ fn are_as_said<S: Source>(
 struct OfBoth;
 
 impl Table for OfBoth {
-    fn holds(alloc: Global, row: &str) -> Result<bool, Fail> {
+    fn holds(&self, alloc: Global, row: &str) -> Result<bool, Fail> {
         let row = row_of(alloc, row)?;
         let octets = row.octets.as_slice();
         let dripping = Dripping::new(octets, octets.len() + 1);
@@ -122,7 +122,7 @@ impl Table for OfBoth {
 
 #[test]
 fn of_slices_and_of_readers(rt: HostRuntime) -> Result<(), Fail> {
-    check::<OfBoth>(rt.alloc(), ROWS)
+    check(rt.alloc(), &OfBoth, ROWS)
 }
 
 // The number that stops the values or 0, how many were returned, and how many octets they have.
@@ -150,7 +150,7 @@ fn ends_so(alloc: Global, good_calls: usize, ending: (u8, u64, u64)) -> Result<b
 struct OfAFailingReader;
 
 impl Table for OfAFailingReader {
-    fn holds(alloc: Global, row: &str) -> Result<bool, Fail> {
+    fn holds(&self, alloc: Global, row: &str) -> Result<bool, Fail> {
         let (good_calls, ending) = two(row)?;
         ends_so(alloc, good_calls.parse::<usize>()?, ending_of(ending)?)
     }
@@ -167,5 +167,5 @@ const FAILING_READERS: &str = "\
 
 #[test]
 fn of_a_reader_that_fails(rt: HostRuntime) -> Result<(), Fail> {
-    check::<OfAFailingReader>(rt.alloc(), FAILING_READERS)
+    check(rt.alloc(), &OfAFailingReader, FAILING_READERS)
 }
