@@ -1,8 +1,8 @@
 //! Tests of the crates that have, read and write values, of each by itself, through what it offers: `octets`
 //! (`identifiers_and_lengths`), `primitives` (`primitive`), `strings` (`strings_and_times`), `types` (`typed`),
 //! `encoding_parts` (`one_encoding`), `berslice` (`whole_values`), `berreader` (`reading`), `canon` (`writing`),
-//! `strict` (`canonical`) and `texts` (`shown`). Their tables are texts (`rows`), in which types (`type_notation`) and
-//! values (`value_notation`) have a short notation.
+//! `strict` (`canonical`) and `texts` (`shown`). In their tables types (`type_notation`) and values
+//! (`value_notation`) have a short notation.
 //!
 //! They stand here and not in those crates, since the check of a crate's tests proves the crate once more.
 #![tactic(auto)]
@@ -17,8 +17,6 @@ mod one_encoding;
 mod primitive;
 #[cfg(test)]
 mod reading;
-#[cfg(test)]
-mod rows;
 #[cfg(test)]
 mod shown;
 #[cfg(test)]

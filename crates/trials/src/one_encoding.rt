@@ -4,17 +4,18 @@ mod alternatives;
 mod held_parts;
 mod leaves;
 
-use crate::rows::{Table, check, four, numbered, octets_of, pair_of, prints};
+use crate::value_notation::numbered;
 use encoding_parts::{Frame, not_due, read_end, read_head_tag, read_opening, refusal_inside};
 use octets::{MAX_ENCODING, Tag};
 use std::alloc::Global;
 use std::test::Fail;
+use test_tables::{Table, check, four, octets_of, pair_of, prints};
 use types::Refusal;
 
 struct Read;
 
 impl Table for Read {
-    fn holds(alloc: Global, row: &str) -> Result<bool, Fail> {
+    fn holds(&self, alloc: Global, row: &str) -> Result<bool, Fail> {
         let (what, place, octets, want) = four(row)?;
         let (end, taken) = pair_of(place)?;
         let octets = octets_of(alloc, octets)?;
@@ -48,7 +49,7 @@ tag            | 10 5 | 1F 81 80 80 80 | Err(2)";
 
 #[test]
 fn any_tags(rt: HostRuntime) -> Result<(), Fail> {
-    check::<Read>(rt.alloc(), TAGS)
+    check(rt.alloc(), &Read, TAGS)
 }
 
 // what is read | the end of what holds it, and how many octets stand before it | octets |
@@ -66,7 +67,7 @@ opening        | 10 5 | FF             | Err(4)";
 
 #[test]
 fn openings(rt: HostRuntime) -> Result<(), Fail> {
-    check::<Read>(rt.alloc(), OPENINGS)
+    check(rt.alloc(), &Read, OPENINGS)
 }
 
 // what is read | the end of what holds it, and how many octets stand before it | octets | how many octets the end has
@@ -83,7 +84,7 @@ indefinite end | 9 5  | 04 00          | Ok(None)";
 
 #[test]
 fn ends(rt: HostRuntime) -> Result<(), Fail> {
-    check::<Read>(rt.alloc(), ENDS)
+    check(rt.alloc(), &Read, ENDS)
 }
 
 #[test]

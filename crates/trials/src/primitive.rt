@@ -1,6 +1,5 @@
 //! Contents octets of the types without parts, as BER reads them.
 
-use crate::rows::{Table, check, four, octets_of};
 use crate::value_notation::is_value;
 use primitives::{
     Bits, Fault, put_bits, put_boolean, put_integer, put_null, put_oid, put_relative_oid,
@@ -8,6 +7,7 @@ use primitives::{
 };
 use std::alloc::Global;
 use std::test::Fail;
+use test_tables::{Table, check, four, octets_of};
 use types::Value;
 
 // Reads contents octets of a type whose values take no memory, and writes the value; none where they have none.
@@ -94,7 +94,7 @@ fn is_done(
 struct Contents;
 
 impl Table for Contents {
-    fn holds(alloc: Global, row: &str) -> Result<bool, Fail> {
+    fn holds(&self, alloc: Global, row: &str) -> Result<bool, Fail> {
         let (name, contents, value, written) = four(row)?;
         let contents = octets_of(alloc, contents)?;
         let mut out = Vec::from_slice(alloc, &[0x07])?;
@@ -121,7 +121,7 @@ NULL | 00 | none | -";
 
 #[test]
 fn boolean_and_null_contents(rt: HostRuntime) -> Result<(), Fail> {
-    check::<Contents>(rt.alloc(), BOOLEANS_AND_NULL)
+    check(rt.alloc(), &Contents, BOOLEANS_AND_NULL)
 }
 
 // type | contents octets | the value, or `none` | the contents octets that are written of it
@@ -138,14 +138,14 @@ INTEGER | 00 7F | none | -
 INTEGER | 00 01 | none | -
 INTEGER | FF 80 | none | -
 INTEGER | FF FF | none | -
-INTEGER | 80 00*15 | -170141183460469231731687303715884105728 | 80 00*15
-INTEGER | 7F FF*15 | 170141183460469231731687303715884105727 | 7F FF*15
-INTEGER | 00 80 00*15 | none | -
-INTEGER | FF 7F FF*15 | none | -";
+INTEGER | 80, 00*15 | -170141183460469231731687303715884105728 | 80, 00*15
+INTEGER | 7F, FF*15 | 170141183460469231731687303715884105727 | 7F, FF*15
+INTEGER | 00 80, 00*15 | none | -
+INTEGER | FF 7F, FF*15 | none | -";
 
 #[test]
 fn integer_contents(rt: HostRuntime) -> Result<(), Fail> {
-    check::<Contents>(rt.alloc(), INTEGERS)
+    check(rt.alloc(), &Contents, INTEGERS)
 }
 
 // type | contents octets | the value, or `none` | the contents octets that are written of it
@@ -161,19 +161,19 @@ OID | 78 | oid:2.40 | 78
 OID | 2A 86 48 86 F7 0D | oid:1.2.840.113549 | 2A 86 48 86 F7 0D
 OID | 7F 81 00 | oid:2.47.128 | 7F 81 00
 OID | 01*128 | oid:0.1*128 | 01*128
-OID | 83 FF*17 7F | oid:2.340282366920938463463374607431768211375 | 83 FF*17 7F
+OID | 83, FF*17, 7F | oid:2.340282366920938463463374607431768211375 | 83, FF*17, 7F
 OID | '' | none | -
 OID | 81 | none | -
 OID | 80 | none | -
 OID | 80 01 | none | -
 OID | 2A 81 | none | -
 OID | 80 81 34 03 | none | -
-OID | 84 80*17 00 | none | -
+OID | 84, 80*17, 00 | none | -
 OID | 01*129 | none | -";
 
 #[test]
 fn oid_contents(rt: HostRuntime) -> Result<(), Fail> {
-    check::<Contents>(rt.alloc(), OIDS)
+    check(rt.alloc(), &Contents, OIDS)
 }
 
 // type | contents octets | the value, or `none` | the contents octets that are written of it
@@ -189,19 +189,19 @@ RELATIVE-OID | 78 | relative:120 | 78
 RELATIVE-OID | 2A 86 48 86 F7 0D | relative:42.840.113549 | 2A 86 48 86 F7 0D
 RELATIVE-OID | 7F 81 00 | relative:127.128 | 7F 81 00
 RELATIVE-OID | 01*128 | relative:1*128 | 01*128
-RELATIVE-OID | 83 FF*17 7F | relative:340282366920938463463374607431768211455 | 83 FF*17 7F
+RELATIVE-OID | 83, FF*17, 7F | relative:340282366920938463463374607431768211455 | 83, FF*17, 7F
 RELATIVE-OID | '' | none | -
 RELATIVE-OID | 81 | none | -
 RELATIVE-OID | 80 | none | -
 RELATIVE-OID | 80 01 | none | -
 RELATIVE-OID | 2A 81 | none | -
 RELATIVE-OID | 80 81 34 03 | none | -
-RELATIVE-OID | 84 80*17 00 | none | -
+RELATIVE-OID | 84, 80*17, 00 | none | -
 RELATIVE-OID | 01*129 | none | -";
 
 #[test]
 fn relative_oid_contents(rt: HostRuntime) -> Result<(), Fail> {
-    check::<Contents>(rt.alloc(), RELATIVE_OIDS)
+    check(rt.alloc(), &Contents, RELATIVE_OIDS)
 }
 
 // type | contents octets | the value, or `none` | the contents octets that are written of it
@@ -224,7 +224,7 @@ BITS | FF 00 | none | -";
 
 #[test]
 fn bit_string_contents(rt: HostRuntime) -> Result<(), Fail> {
-    check::<Contents>(rt.alloc(), BIT_STRINGS)?;
+    check(rt.alloc(), &Contents, BIT_STRINGS)?;
     assert!(rt; Bits::new(Vec::new(rt.alloc()), 1).is_none());
     Ok(())
 }

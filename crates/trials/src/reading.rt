@@ -2,13 +2,13 @@
 
 ghost use Rattle.std.specs.Prelude.{◌≤◌};
 
-use crate::rows::{not_so, numbered, octets_of, prints, rows_of, three};
-use crate::type_notation::{OctetsTable, check_octets, typed};
-use crate::value_notation::comes_to;
+use crate::type_notation::{OctetsTable, OfOctets, typed};
+use crate::value_notation::{comes_to, numbered};
 use berreader::{Reader, Step, read};
 use std::alloc::Global;
 use std::iter::once;
 use std::test::Fail;
+use test_tables::{check, not_so, octets_of, prints, rows_of, three};
 use types::{Refusal, Value, WellTyped};
 
 // What is read: a value and how many octets it has, or the refusal.
@@ -95,7 +95,13 @@ fn is_the_same(alloc: Global, ty: &WellTyped, octets: &[u8], read: &Read) -> boo
 struct Cut;
 
 impl OctetsTable for Cut {
-    fn holds(alloc: Global, ty: &WellTyped, octets: &[u8], others: &str) -> Result<bool, Fail> {
+    fn holds(
+        &self,
+        alloc: Global,
+        ty: &WellTyped,
+        octets: &[u8],
+        others: &str,
+    ) -> Result<bool, Fail> {
         let read = read(alloc, ty, octets);
         Ok(is_the_same(alloc, ty, octets, &read) && comes_to(alloc, &read, others)?)
     }
@@ -112,7 +118,7 @@ VisibleString | 3A 80 04 01 4A 24 80 04 01 6F 00 00 00 00 | 14 text:'Jo'";
 
 #[test]
 fn values_in_pieces_of_each_size(rt: HostRuntime) -> Result<(), Fail> {
-    check_octets::<Cut>(rt.alloc(), VALUES)
+    check(rt.alloc(), &OfOctets(Cut), VALUES)
 }
 
 // type | octets | the refusal of the last one
@@ -129,7 +135,7 @@ OCTETS | 24 80 04 01 41 04 83 0F FF F5 | refused 11";
 
 #[test]
 fn refusals_in_strings_that_pieces_cut(rt: HostRuntime) -> Result<(), Fail> {
-    check_octets::<Cut>(rt.alloc(), REFUSED_AT_LAST)
+    check(rt.alloc(), &OfOctets(Cut), REFUSED_AT_LAST)
 }
 
 // Whether a row of a table of pieces holds.

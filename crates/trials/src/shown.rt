@@ -1,20 +1,26 @@
 //! Texts of values that are longer than any encoding.
 
-use crate::rows::octets_of;
-use crate::value_notation::{ValuesTable, check_values};
+use crate::value_notation::{OfValues, ValuesTable};
 use std::alloc::Global;
 use std::test::Fail;
+use test_tables::{check, octets_of};
 use texts::show;
 use types::{Value, WellTyped, conforms};
 
 // type | a value whose encodings are longer than the longest that is read or written | the octets of its text
 const LONG: &str = "\
-OCTETS | octets:AB*1048577 | 27 4142*1048577 27 48";
+OCTETS | octets:AB*1048577 | 27, 4142*1048577, 27 48";
 
 struct Shown;
 
 impl ValuesTable for Shown {
-    fn holds(alloc: Global, ty: &WellTyped, value: &Value, others: &str) -> Result<bool, Fail> {
+    fn holds(
+        &self,
+        alloc: Global,
+        ty: &WellTyped,
+        value: &Value,
+        others: &str,
+    ) -> Result<bool, Fail> {
         if !conforms(ty.as_type(), value) {
             return Ok(false);
         }
@@ -25,5 +31,5 @@ impl ValuesTable for Shown {
 
 #[test]
 fn a_value_of_any_length(rt: HostRuntime) -> Result<(), Fail> {
-    check_values::<Shown>(rt.alloc(), LONG)
+    check(rt.alloc(), &OfValues(Shown), LONG)
 }

@@ -8,13 +8,13 @@
 //! where that is its default; `_` stands there for a space. A word that ends with `*` and a number stands there as many
 //! times.
 
-use crate::rows::{not_so, octets_of, rows_of, tag_of, three, times_of};
 use crate::strings_and_times::kind_of;
 use crate::value_notation::value_between;
-use octets::Tag;
+use octets::{Class, Tag};
 use std::alloc::Global;
 use std::test::Fail;
 use strings::TimeKind;
+use test_tables::{Table, octets_of, three, times_of};
 use types::{Alternative, Field, Item, Presence, Ty, WellTyped};
 
 /// The type of a notation, which keeps the rules.
@@ -25,24 +25,25 @@ pub fn typed(alloc: Global, text: &str) -> Result<WellTyped, Fail> {
 /// What a table shows whose rows begin with a type and octets.
 pub trait OctetsTable {
     /// Whether a row holds of this type, of these octets and of the columns behind them.
-    fn holds(alloc: Global, ty: &WellTyped, octets: &[u8], others: &str) -> Result<bool, Fail>;
+    fn holds(
+        &self,
+        alloc: Global,
+        ty: &WellTyped,
+        octets: &[u8],
+        others: &str,
+    ) -> Result<bool, Fail>;
 }
 
-/// Fails at the first row that does not hold, and where there is none.
-pub fn check_octets<T: OctetsTable>(alloc: Global, table: &str) -> Result<(), Fail> {
-    for row in rows_of(table)? {
-        if !row_holds::<T>(alloc, row)? {
-            return Err(not_so(row));
-        }
+/// Rows that begin with a type and octets.
+pub struct OfOctets<T>(pub T);
+
+impl<T: OctetsTable> Table for OfOctets<T> {
+    fn holds(&self, alloc: Global, row: &str) -> Result<bool, Fail> {
+        let (ty, octets, others) = three(row)?;
+        let ty = typed(alloc, ty)?;
+        let octets = octets_of(alloc, octets)?;
+        self.0.holds(alloc, &ty, &octets, others)
     }
-    Ok(())
-}
-
-fn row_holds<T: OctetsTable>(alloc: Global, row: &str) -> Result<bool, Fail> {
-    let (ty, octets, others) = three(row)?;
-    let ty = typed(alloc, ty)?;
-    let octets = octets_of(alloc, octets)?;
-    T::holds(alloc, &ty, &octets, others)
 }
 
 /// The type of a notation. All components, alternatives and items have one name.
@@ -189,4 +190,19 @@ fn items_of(alloc: Global, numbers: &str) -> Result<Vec<Item>, Fail> {
         items.push(Item::new(alloc, "a", number.parse::<i128>()?)?)?;
     }
     Ok(items)
+}
+
+/// The tag that a column spells: class and number with a point between them, or the number of one that is
+/// context-specific.
+pub fn tag_of(column: &str) -> Result<Tag, Fail> {
+    let (class, number) = column.split_once('.').unwrap_or(("CONTEXT", column));
+    let class = match class {
+        "UNIVERSAL" => Class::Universal,
+        "APPLICATION" => Class::Application,
+        "CONTEXT" => Class::Context,
+        "PRIVATE" => Class::Private,
+        _ => return Err("a class without a name".into()),
+    };
+    let number = number.parse::<u32>()?;
+    Ok(Tag { class, number })
 }

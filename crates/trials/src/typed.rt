@@ -6,10 +6,10 @@ mod good_defaults;
 mod limits;
 mod refusals;
 
-use crate::rows::{Table, two};
 use crate::type_notation::ty_of;
 use std::alloc::Global;
 use std::test::Fail;
+use test_tables::{Table, two};
 use types::{Ty, WellTyped};
 
 // The name of the fault of a type, `none` where it keeps the rules.
@@ -24,7 +24,7 @@ fn fault_of(ty: Ty) -> &'static str {
 struct Faults;
 
 impl Table for Faults {
-    fn holds(alloc: Global, row: &str) -> Result<bool, Fail> {
+    fn holds(&self, alloc: Global, row: &str) -> Result<bool, Fail> {
         let (ty, want) = two(row)?;
         Ok(fault_of(ty_of(alloc, ty)?) == want)
     }

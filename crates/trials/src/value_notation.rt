@@ -6,11 +6,11 @@
 //! and the word `)`: `fields(`, in which `-` is a component that has no value, `items(` or, for an alternative, its
 //! number, as `0(`.
 
-use crate::rows::{arcs_of, is_refused, not_so, octets_of, rows_of, three};
 use crate::type_notation::typed;
 use primitives::Bits;
 use std::alloc::Global;
 use std::test::Fail;
+use test_tables::{Table, arcs_of, is_refused, octets_of, three};
 use types::{Refusal, Value, WellTyped};
 
 /// The value of a notation.
@@ -50,31 +50,40 @@ pub fn comes_to(
 ) -> Result<bool, Fail> {
     match read {
         Ok((value, used)) => is_read_as(alloc, value, *used, column),
-        Err(refusal) => is_refused(*refusal, column),
+        Err(refusal) => is_refused(refusal.number(), column),
+    }
+}
+
+/// What was read, or the refusal's number.
+pub fn numbered<T>(read: Result<T, Refusal>) -> Result<T, u8> {
+    match read {
+        Ok(found) => Ok(found),
+        Err(refusal) => Err(refusal.number()),
     }
 }
 
 /// What a table shows whose rows begin with a type and a value.
 pub trait ValuesTable {
     /// Whether a row holds of this type, of this value and of the columns behind them.
-    fn holds(alloc: Global, ty: &WellTyped, value: &Value, others: &str) -> Result<bool, Fail>;
+    fn holds(
+        &self,
+        alloc: Global,
+        ty: &WellTyped,
+        value: &Value,
+        others: &str,
+    ) -> Result<bool, Fail>;
 }
 
-/// Fails at the first row that does not hold, and where there is none.
-pub fn check_values<T: ValuesTable>(alloc: Global, table: &str) -> Result<(), Fail> {
-    for row in rows_of(table)? {
-        if !row_holds::<T>(alloc, row)? {
-            return Err(not_so(row));
-        }
+/// Rows that begin with a type and a value.
+pub struct OfValues<T>(pub T);
+
+impl<T: ValuesTable> Table for OfValues<T> {
+    fn holds(&self, alloc: Global, row: &str) -> Result<bool, Fail> {
+        let (ty, value, others) = three(row)?;
+        let ty = typed(alloc, ty)?;
+        let value = value_of(alloc, value)?;
+        self.0.holds(alloc, &ty, &value, others)
     }
-    Ok(())
-}
-
-fn row_holds<T: ValuesTable>(alloc: Global, row: &str) -> Result<bool, Fail> {
-    let (ty, value, others) = three(row)?;
-    let ty = typed(alloc, ty)?;
-    let value = value_of(alloc, value)?;
-    T::holds(alloc, &ty, &value, others)
 }
 
 // Takes a word: `slots` are those of all values that are open, and `open` has of each the word that it begins with and

@@ -1,10 +1,11 @@
 //! Which encodings are read at once, as what, and which are left to be read step by step.
 
-use crate::type_notation::{OctetsTable, check_octets};
+use crate::type_notation::{OctetsTable, OfOctets};
 use crate::value_notation::is_read_as;
 use berslice::read_whole;
 use std::alloc::Global;
 use std::test::Fail;
+use test_tables::check;
 use types::{Value, WellTyped};
 
 // What is read at once, and how many octets it has.
@@ -29,7 +30,13 @@ fn reads_no_front(alloc: Global, ty: &WellTyped, octets: &[u8], used: usize) -> 
 struct AtOnce;
 
 impl OctetsTable for AtOnce {
-    fn holds(alloc: Global, ty: &WellTyped, octets: &[u8], others: &str) -> Result<bool, Fail> {
+    fn holds(
+        &self,
+        alloc: Global,
+        ty: &WellTyped,
+        octets: &[u8],
+        others: &str,
+    ) -> Result<bool, Fail> {
         match at_once(alloc, ty, octets) {
             Some((value, used)) => {
                 let no_front = reads_no_front(alloc, ty, octets, used);
@@ -68,7 +75,7 @@ UTCTime | 17 0D 32 36 30 31 30 31 30 30 30 30 30 30 5A 00 00 | 15 text:'26010100
 
 #[test]
 fn values_without_parts(rt: HostRuntime) -> Result<(), Fail> {
-    check_octets::<AtOnce>(rt.alloc(), WITHOUT_PARTS)
+    check(rt.alloc(), &OfOctets(AtOnce), WITHOUT_PARTS)
 }
 
 // type | an encoding, and two octets behind it | how many octets are read at once, where no fewer are, and the value
@@ -102,7 +109,7 @@ CHOICE{ INTEGER CHOICE{ BOOLEAN SEQUENCE-OF{ INTEGER } } } | 30 80 02 01 09 00 0
 
 #[test]
 fn values_with_parts(rt: HostRuntime) -> Result<(), Fail> {
-    check_octets::<AtOnce>(rt.alloc(), WITH_PARTS)
+    check(rt.alloc(), &OfOctets(AtOnce), WITH_PARTS)
 }
 
 // type | octets | none: why they are not read at once
@@ -141,15 +148,15 @@ SEQUENCE-OF{ INTEGER } | 30 05 02 01 07 00 00 | none: octets that are no end";
 
 #[test]
 fn what_is_not_read(rt: HostRuntime) -> Result<(), Fail> {
-    check_octets::<AtOnce>(rt.alloc(), NOT_READ)
+    check(rt.alloc(), &OfOctets(AtOnce), NOT_READ)
 }
 
 // type | octets | how many of them are read at once, and the value, or none and why
 const LONGEST: &str = "\
-OCTETS | 04 83 0F FF FB 41*1048571 00 00 | 1048576 octets:41*1048571
-OCTETS | 04 83 0F FF FC 41*1048572 | none: longer than any that is read at once";
+OCTETS | 04 83 0F FF FB, 41*1048571, 00 00 | 1048576 octets:41*1048571
+OCTETS | 04 83 0F FF FC, 41*1048572 | none: longer than any that is read at once";
 
 #[test]
 fn the_limit(rt: HostRuntime) -> Result<(), Fail> {
-    check_octets::<AtOnce>(rt.alloc(), LONGEST)
+    check(rt.alloc(), &OfOctets(AtOnce), LONGEST)
 }

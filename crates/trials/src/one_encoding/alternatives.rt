@@ -1,12 +1,12 @@
 //! Alternatives of a CHOICE, by the tag that an encoding begins with.
 
-use crate::rows::{Table, check, tag_of, three};
-use crate::type_notation::typed;
+use crate::type_notation::{tag_of, typed};
 use crate::value_notation::value_of;
 use encoding_parts::{begins, is_node, node_of, node_within, wrap};
 use octets::Tag;
 use std::alloc::Global;
 use std::test::Fail;
+use test_tables::{Table, check, three};
 use types::{Ty, WellTyped};
 
 // Whether the node of the encodings that begin with the tag is found, and is no CHOICE.
@@ -42,7 +42,7 @@ UNIVERSAL.0 | none      | none";
 struct Nodes;
 
 impl Table for Nodes {
-    fn holds(alloc: Global, row: &str) -> Result<bool, Fail> {
+    fn holds(&self, alloc: Global, row: &str) -> Result<bool, Fail> {
         let (tag, value, want) = three(row)?;
         let tag = tag_of(tag)?;
         let ty = typed(alloc, "CHOICE{ NULL CHOICE{ OCTETS BOOLEAN } }")?;
@@ -58,5 +58,5 @@ impl Table for Nodes {
 
 #[test]
 fn nodes_and_wrapped_values(rt: HostRuntime) -> Result<(), Fail> {
-    check::<Nodes>(rt.alloc(), NODES)
+    check(rt.alloc(), &Nodes, NODES)
 }

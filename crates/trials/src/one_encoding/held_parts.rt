@@ -1,11 +1,11 @@
 //! What open encodings hold of their parts.
 
-use crate::rows::{Table, check, four, is_refused, is_yes, tag_of};
-use crate::type_notation::ty_of;
+use crate::type_notation::{tag_of, ty_of};
 use crate::value_notation::{is_value, value_of};
 use encoding_parts::{HeldParts, held_parts_of};
 use std::alloc::Global;
 use std::test::Fail;
+use test_tables::{Table, check, four, is_refused, is_yes};
 use types::Refusal;
 
 // Puts the parts of a column into what holds them, to the first that is refused.
@@ -30,18 +30,18 @@ fn put_parts(
 struct Parts;
 
 impl Table for Parts {
-    fn holds(alloc: Global, row: &str) -> Result<bool, Fail> {
+    fn holds(&self, alloc: Global, row: &str) -> Result<bool, Fail> {
         let (ty, parts, definite, want) = four(row)?;
         let definite = is_yes(definite)?;
         let ty = ty_of(alloc, ty)?;
         let mut held = held_parts_of(alloc, &ty)?.ok_or("a type without parts")?;
         if let Some(refusal) = put_parts(alloc, &mut held, parts)? {
-            return is_refused(refusal, want);
+            return is_refused(refusal.number(), want);
         }
         // a list is the same whether it is fitted or not
         match held.into_value(definite, definite) {
             Ok(value) => is_value(alloc, &value, want),
-            Err(refusal) => is_refused(refusal, want),
+            Err(refusal) => is_refused(refusal.number(), want),
         }
     }
 }
@@ -68,7 +68,7 @@ SEQUENCE{ [0]INTEGER [1]INTEGER? [2]INTEGER=5 } | 0=7 2=7 | yes | fields( 7 - 7 
 
 #[test]
 fn sequences(rt: HostRuntime) -> Result<(), Fail> {
-    check::<Parts>(rt.alloc(), SEQUENCES)
+    check(rt.alloc(), &Parts, SEQUENCES)
 }
 
 // type | the tags of the parts that come, each with its value | whether the form is definite | the value or the refusal
@@ -90,7 +90,7 @@ SET{ [0]INTEGER? [1]INTEGER=5 [2]INTEGER } | 1=7 2=5 | yes | fields( - 7 5 )";
 
 #[test]
 fn sets(rt: HostRuntime) -> Result<(), Fail> {
-    check::<Parts>(rt.alloc(), SETS)
+    check(rt.alloc(), &Parts, SETS)
 }
 
 // type | the tags of the parts that come, each with its value | whether the form is definite | the value or the refusal
@@ -109,5 +109,5 @@ SET-OF{ [1]INTEGER } | 1=5 UNIVERSAL.0=7 | no | refused 5
 
 #[test]
 fn items_and_explicit_tags(rt: HostRuntime) -> Result<(), Fail> {
-    check::<Parts>(rt.alloc(), OTHERS)
+    check(rt.alloc(), &Parts, OTHERS)
 }

@@ -5,13 +5,13 @@ ghost use Rattle.types.specs.View.{ty_view};
 ghost use Rattle.encoding_parts.specs.Joined.{IsStringOf};
 ghost use Rattle.encoding_parts.specs.Segments.{IsSound};
 
-use crate::rows::{pair_of, two};
-use crate::type_notation::{OctetsTable, check_octets};
+use crate::type_notation::{OctetsTable, OfOctets};
 use crate::value_notation::comes_to;
 use encoding_parts::{Kind, Segments, begin_string, not_due, read_head_tag, read_leaf};
 use octets::MAX_ENCODING;
 use std::alloc::Global;
 use std::test::Fail;
+use test_tables::{check, pair_of, two};
 use types::{Refusal, Ty, Value, WellTyped};
 
 // The value of the string that the octets complete, and how many they are.
@@ -69,7 +69,13 @@ fn part(
 struct Leaf;
 
 impl OctetsTable for Leaf {
-    fn holds(alloc: Global, ty: &WellTyped, octets: &[u8], others: &str) -> Result<bool, Fail> {
+    fn holds(
+        &self,
+        alloc: Global,
+        ty: &WellTyped,
+        octets: &[u8],
+        others: &str,
+    ) -> Result<bool, Fail> {
         let (place, want) = two(others)?;
         let (levels, place) = place.split_once(' ').ok_or("one number")?;
         let (end, taken) = pair_of(place)?;
@@ -106,7 +112,7 @@ BOOLEAN | 21 00          | 0 8 5  | refused 3";
 
 #[test]
 fn parts(rt: HostRuntime) -> Result<(), Fail> {
-    check_octets::<Leaf>(rt.alloc(), PARTS)
+    check(rt.alloc(), &OfOctets(Leaf), PARTS)
 }
 
 // type | octets | levels, end, and octets before | how many octets the part has and its value, or the refusal
@@ -117,5 +123,5 @@ VisibleString | 3A 06 04 01 4A 04 01 6F | 64 1048576 0 | 8 text:'Jo'";
 
 #[test]
 fn joined_segments(rt: HostRuntime) -> Result<(), Fail> {
-    check_octets::<Leaf>(rt.alloc(), SEGMENTS)
+    check(rt.alloc(), &OfOctets(Leaf), SEGMENTS)
 }

@@ -1,15 +1,21 @@
 //! Which values a type has.
 
-use crate::rows::is_yes;
-use crate::value_notation::{ValuesTable, check_values};
+use crate::value_notation::{OfValues, ValuesTable};
 use std::alloc::Global;
 use std::test::Fail;
+use test_tables::{check, is_yes};
 use types::{Value, WellTyped, conforms};
 
 struct Conforming;
 
 impl ValuesTable for Conforming {
-    fn holds(_alloc: Global, ty: &WellTyped, value: &Value, others: &str) -> Result<bool, Fail> {
+    fn holds(
+        &self,
+        _alloc: Global,
+        ty: &WellTyped,
+        value: &Value,
+        others: &str,
+    ) -> Result<bool, Fail> {
         Ok(conforms(ty.as_type(), value) == is_yes(others)?)
     }
 }
@@ -42,7 +48,7 @@ SET-OF{ INTEGER } | items( TRUE 2 ) | no";
 
 #[test]
 fn values_with_parts(rt: HostRuntime) -> Result<(), Fail> {
-    check_values::<Conforming>(rt.alloc(), WITH_PARTS)
+    check(rt.alloc(), &OfValues(Conforming), WITH_PARTS)
 }
 
 // type | value | whether it is one of the type
@@ -107,5 +113,5 @@ UTCTime | text:'20240229120000Z' | no";
 
 #[test]
 fn values_without_parts(rt: HostRuntime) -> Result<(), Fail> {
-    check_values::<Conforming>(rt.alloc(), WITHOUT_PARTS)
+    check(rt.alloc(), &OfValues(Conforming), WITHOUT_PARTS)
 }

@@ -1,10 +1,10 @@
 //! The tags that tell the parts of a type apart (X.680 25.6, 27.3 and 29.3).
 
 use super::Faults;
-use crate::rows::{Table, check, prints, two};
 use crate::type_notation::ty_of;
 use std::alloc::Global;
 use std::test::Fail;
+use test_tables::{Table, check, prints, two};
 
 // type | fault
 const RUNS: &str = "\
@@ -45,9 +45,9 @@ SEQUENCE-OF{ [UNIVERSAL.0]{ NULL } } | TagsNotDistinct
 
 #[test]
 fn tags_that_must_differ(rt: HostRuntime) -> Result<(), Fail> {
-    check::<Faults>(rt.alloc(), RUNS)?;
-    check::<Faults>(rt.alloc(), PARTS)?;
-    check::<Faults>(rt.alloc(), UNIVERSAL_0)
+    check(rt.alloc(), &Faults, RUNS)?;
+    check(rt.alloc(), &Faults, PARTS)?;
+    check(rt.alloc(), &Faults, UNIVERSAL_0)
 }
 
 // type | the tag that each encoding begins with
@@ -62,7 +62,7 @@ CHOICE{ NULL } | None";
 struct FirstTags;
 
 impl Table for FirstTags {
-    fn holds(alloc: Global, row: &str) -> Result<bool, Fail> {
+    fn holds(&self, alloc: Global, row: &str) -> Result<bool, Fail> {
         let (ty, want) = two(row)?;
         prints(alloc, &ty_of(alloc, ty)?.tag(), want)
     }
@@ -70,5 +70,5 @@ impl Table for FirstTags {
 
 #[test]
 fn first_tag(rt: HostRuntime) -> Result<(), Fail> {
-    check::<FirstTags>(rt.alloc(), FIRST_TAGS)
+    check(rt.alloc(), &FirstTags, FIRST_TAGS)
 }

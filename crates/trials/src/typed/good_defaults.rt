@@ -1,8 +1,8 @@
 //! Which types take a default, and which defaults they take.
 
 use super::Faults;
-use crate::rows::check;
 use std::test::Fail;
+use test_tables::check;
 
 // type | fault. The first six bad defaults are values of their type, which takes none; the others are not
 const DEFAULTS: &str = "\
@@ -27,5 +27,5 @@ SET-OF{ SET{ [0]{ INTEGER }=TRUE } } | BadDefault";
 
 #[test]
 fn defaults(rt: HostRuntime) -> Result<(), Fail> {
-    check::<Faults>(rt.alloc(), DEFAULTS)
+    check(rt.alloc(), &Faults, DEFAULTS)
 }

@@ -1,10 +1,10 @@
 //! The limits on types.
 
 use super::{Faults, fault_of};
-use crate::rows::{Table, check, two};
 use octets::{Class, Tag};
 use std::alloc::Global;
 use std::test::Fail;
+use test_tables::{Table, check, two};
 use types::{Alternative, Item, Ty};
 
 // type | fault
@@ -20,7 +20,7 @@ const LEVELS: &str = "\
 
 #[test]
 fn levels(rt: HostRuntime) -> Result<(), Fail> {
-    check::<Faults>(rt.alloc(), LEVELS)
+    check(rt.alloc(), &Faults, LEVELS)
 }
 
 // type | fault: of 4,095, 4,096 and 4,097 nodes, of which 3,858 are those of a SEQUENCE, of 15 parts and of the last
@@ -44,7 +44,7 @@ SEQUENCE{ \
 
 #[test]
 fn nodes(rt: HostRuntime) -> Result<(), Fail> {
-    check::<Faults>(rt.alloc(), NODES)
+    check(rt.alloc(), &Faults, NODES)
 }
 
 // type | fault
@@ -57,7 +57,7 @@ SET{ NULL*257 } | TooLarge";
 
 #[test]
 fn components(rt: HostRuntime) -> Result<(), Fail> {
-    check::<Faults>(rt.alloc(), COMPONENTS)
+    check(rt.alloc(), &Faults, COMPONENTS)
 }
 
 // type | fault; of the last two, which of several faults is named
@@ -77,7 +77,7 @@ CHOICE{ ENUMERATED(1,1) [268435456]NULL } | TooLarge";
 
 #[test]
 fn numbers_of_tags_and_items(rt: HostRuntime) -> Result<(), Fail> {
-    check::<Faults>(rt.alloc(), NUMBERS)
+    check(rt.alloc(), &Faults, NUMBERS)
 }
 
 // So many alternatives `[0] NULL`, `[1] NULL` and so on.
@@ -110,7 +110,7 @@ const LISTS: &str = "\
 struct Lists;
 
 impl Table for Lists {
-    fn holds(alloc: Global, row: &str) -> Result<bool, Fail> {
+    fn holds(&self, alloc: Global, row: &str) -> Result<bool, Fail> {
         let (count, want) = two(row)?;
         let count = count.parse::<u32>()?;
         let choice = Ty::sequence_of(alloc, Ty::choice(alternatives(alloc, count)?))?;
@@ -121,5 +121,5 @@ impl Table for Lists {
 
 #[test]
 fn alternatives_and_items(rt: HostRuntime) -> Result<(), Fail> {
-    check::<Lists>(rt.alloc(), LISTS)
+    check(rt.alloc(), &Lists, LISTS)
 }

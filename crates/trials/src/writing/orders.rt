@@ -1,11 +1,11 @@
 //! Values that are the same, and values in order.
 
-use crate::rows::{is_yes, two};
-use crate::value_notation::{ValuesTable, check_values, is_value, value_of};
+use crate::value_notation::{OfValues, ValuesTable, is_value, value_of};
 use canon::{order, same};
 use octets::NoMemory;
 use std::alloc::Global;
 use std::test::Fail;
+use test_tables::{check, is_yes, two};
 use types::{Value, WellTyped, conforms};
 
 // Whether two values, which conform to the type, are the same, and whether they are equal in order.
@@ -41,7 +41,13 @@ BITS | bits:F0/4 | bits:E0/4 | no";
 struct Same;
 
 impl ValuesTable for Same {
-    fn holds(alloc: Global, ty: &WellTyped, value: &Value, others: &str) -> Result<bool, Fail> {
+    fn holds(
+        &self,
+        alloc: Global,
+        ty: &WellTyped,
+        value: &Value,
+        others: &str,
+    ) -> Result<bool, Fail> {
         let (other, want) = two(others)?;
         let want = is_yes(want)?;
         let other = value_of(alloc, other)?;
@@ -51,7 +57,7 @@ impl ValuesTable for Same {
 
 #[test]
 fn the_order_of_a_set_of_does_not_matter(rt: HostRuntime) -> Result<(), Fail> {
-    check_values::<Same>(rt.alloc(), SAME)
+    check(rt.alloc(), &OfValues(Same), SAME)
 }
 
 // type | a value | the same in order. The encoding 02 01 FF stands before 02 02 01 00
@@ -73,7 +79,13 @@ CHOICE{ NULL [0]{ SET-OF{ OCTETS } } } | 1( items( octets:0000 octets:FF ) ) | 1
 struct Ordered;
 
 impl ValuesTable for Ordered {
-    fn holds(alloc: Global, ty: &WellTyped, value: &Value, others: &str) -> Result<bool, Fail> {
+    fn holds(
+        &self,
+        alloc: Global,
+        ty: &WellTyped,
+        value: &Value,
+        others: &str,
+    ) -> Result<bool, Fail> {
         if !conforms(ty.as_type(), value) {
             return Ok(false);
         }
@@ -83,5 +95,5 @@ impl ValuesTable for Ordered {
 
 #[test]
 fn items_are_put_in_order(rt: HostRuntime) -> Result<(), Fail> {
-    check_values::<Ordered>(rt.alloc(), ORDERED)
+    check(rt.alloc(), &OfValues(Ordered), ORDERED)
 }

@@ -1,10 +1,10 @@
 //! Encodings at the limit of 1,048,576 octets and past it.
 
-use crate::rows::two;
-use crate::value_notation::{ValuesTable, check_values};
+use crate::value_notation::{OfValues, ValuesTable};
 use canon::{Canon, Cer, Der};
 use std::alloc::Global;
 use std::test::Fail;
+use test_tables::{check, two};
 use types::{Refusal, Value, WellTyped, conforms};
 
 // type | value | how many octets DER writes, or `refused` past the limit | how many CER writes
@@ -51,7 +51,13 @@ fn is_written_by<C: Canon>(
 struct Longest;
 
 impl ValuesTable for Longest {
-    fn holds(alloc: Global, ty: &WellTyped, value: &Value, others: &str) -> Result<bool, Fail> {
+    fn holds(
+        &self,
+        alloc: Global,
+        ty: &WellTyped,
+        value: &Value,
+        others: &str,
+    ) -> Result<bool, Fail> {
         let (der, cer) = two(others)?;
         Ok(
             is_written_by(alloc, &Der, ty, value, der)?
@@ -62,5 +68,5 @@ impl ValuesTable for Longest {
 
 #[test]
 fn the_longest_is_written_and_no_longer_one(rt: HostRuntime) -> Result<(), Fail> {
-    check_values::<Longest>(rt.alloc(), ROWS)
+    check(rt.alloc(), &OfValues(Longest), ROWS)
 }
