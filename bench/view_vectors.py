@@ -44,7 +44,7 @@ def rows_of(path):
         for line in table.replace('\\"', '"').split("\n"):
             if line.endswith(":"):
                 module = module_of(line[:-1])
-            elif "|" in line and not line.startswith("#"):
+            elif "|" in line and not line.startswith("//"):
                 octets = octets_of(line.split("|")[0])
                 if octets is not None:
                     yield module, octets, line
@@ -64,8 +64,8 @@ def octets_of(column):
     """The octets that a column spells; None where it spells none."""
     octets = b""
     for part in column.split(","):
-        once, _, times = part.partition(" x")
-        text = re.search(r"'(.*)'", once)
+        once, times = re.match(r"(.*?)(?:\*(\d+))?$", part.strip()).groups()
+        text = re.match(r"'(.*)'$", once)
         try:
             once = text.group(1).encode() if text else bytes.fromhex(once)
             octets += once * int(times or 1)

@@ -2,11 +2,11 @@
 //! as under DER.
 
 use crate::checks::check_table;
-use crate::rows::octets_of;
 use crate::types_by_name::type_of;
 use convert::{Canonical, Rule, transcode};
 use std::alloc::Global;
 use std::test::Fail;
+use test_tables::octets_of;
 
 // octets | under DER | under CER | text
 const SHORT: &str = "
@@ -35,48 +35,48 @@ UTCTime:
 // octets | under DER | under CER | text
 const CUT: &str = "
 OCTET STRING:
-04 82 03 E8, 41 x1000            | kept                  | kept
-04 82 03 E9, 41 x1001            | kept                  | 24 80, 04 82 03 E8, 41 x1000, 04 01 41, 00 00
-04 82 07 D0, 41 x2000            | kept                  | 24 80, 04 82 03 E8, 41 x1000, 04 82 03 E8, 41 x1000, 00 00
-04 82 08 50, 41 x2128            | kept                  | 24 80, 04 82 03 E8, 41 x1000, 04 82 03 E8, 41 x1000, 04 81 80, 41 x128, 00 00
-24 80, 04 82 01 F4, 41 x500, 24 80, 04 82 01 F5, 41 x501, 00 00 x2 | 04 82 03 E9, 41 x1001 | 24 80, 04 82 03 E8, 41 x1000, 04 01 41, 00 00
+04 82 03 E8, 41*1000             | kept                  | kept
+04 82 03 E9, 41*1001             | kept                  | 24 80, 04 82 03 E8, 41*1000, 04 01 41, 00 00
+04 82 07 D0, 41*2000             | kept                  | 24 80, 04 82 03 E8, 41*1000, 04 82 03 E8, 41*1000, 00 00
+04 82 08 50, 41*2128             | kept                  | 24 80, 04 82 03 E8, 41*1000, 04 82 03 E8, 41*1000, 04 81 80, 41*128, 00 00
+24 80, 04 82 01 F4, 41*500, 24 80, 04 82 01 F5, 41*501, 00 00*2 | 04 82 03 E9, 41*1001 | 24 80, 04 82 03 E8, 41*1000, 04 01 41, 00 00
 UTF8String:
-0C 82 03 E8, 41 x1000            | kept | kept
-0C 82 03 E9, 41 x1001            | kept | 2C 80, 04 82 03 E8, 41 x1000, 04 01 41, 00 00
-# The cut is between octets, here those of one character.
-0C 82 03 E9, 41 x999, C3 A9      | kept | 2C 80, 04 82 03 E8, 41 x999, C3, 04 01 A9, 00 00
+0C 82 03 E8, 41*1000             | kept | kept
+0C 82 03 E9, 41*1001             | kept | 2C 80, 04 82 03 E8, 41*1000, 04 01 41, 00 00
+// The cut is between octets, here those of one character.
+0C 82 03 E9, 41*999, C3 A9       | kept | 2C 80, 04 82 03 E8, 41*999, C3, 04 01 A9, 00 00
 [0] OCTET STRING:
-80 82 03 E9, 41 x1001            | kept | A0 80, 04 82 03 E8, 41 x1000, 04 01 41, 00 00
+80 82 03 E9, 41*1001             | kept | A0 80, 04 82 03 E8, 41*1000, 04 01 41, 00 00
 ";
 
 // octets | under DER | under CER | text
 const CUT_BITS: &str = "
 BIT STRING:
-03 82 03 E8 00, 41 x999          | kept | kept
-03 82 03 E9 00, 41 x1000         | kept | 23 80, 03 82 03 E8 00, 41 x999, 03 02 00 41, 00 00
-03 82 07 CF 00, 41 x1998         | kept | 23 80, 03 82 03 E8 00, 41 x999, 03 82 03 E8 00, 41 x999, 00 00
-# 7,993 bits, the last 1.
-03 82 03 E9 07, 41 x999, 80      | kept                        | 23 80, 03 82 03 E8 00, 41 x999, 03 02 07 80, 00 00
-03 82 03 E9 07, 41 x999, FF      | 03 82 03 E9 07, 41 x999, 80 | 23 80, 03 82 03 E8 00, 41 x999, 03 02 07 80, 00 00
-23 82 03 F5, 03 82 01 F5 00, 41 x500, 03 82 01 F4 00, 41 x499, 03 02 07 FF | 03 82 03 E9 07, 41 x999, 80 | 23 80, 03 82 03 E8 00, 41 x999, 03 02 07 80, 00 00
+03 82 03 E8 00, 41*999           | kept | kept
+03 82 03 E9 00, 41*1000          | kept | 23 80, 03 82 03 E8 00, 41*999, 03 02 00 41, 00 00
+03 82 07 CF 00, 41*1998          | kept | 23 80, 03 82 03 E8 00, 41*999, 03 82 03 E8 00, 41*999, 00 00
+// 7,993 bits, the last 1.
+03 82 03 E9 07, 41*999, 80       | kept                        | 23 80, 03 82 03 E8 00, 41*999, 03 02 07 80, 00 00
+03 82 03 E9 07, 41*999, FF       | 03 82 03 E9 07, 41*999, 80  | 23 80, 03 82 03 E8 00, 41*999, 03 02 07 80, 00 00
+23 82 03 F5, 03 82 01 F5 00, 41*500, 03 82 01 F4 00, 41*499, 03 02 07 FF | 03 82 03 E9 07, 41*999, 80 | 23 80, 03 82 03 E8 00, 41*999, 03 02 07 80, 00 00
 [0] BIT STRING:
-80 82 03 E9 00, 41 x1000         | kept | A0 80, 03 82 03 E8 00, 41 x999, 03 02 00 41, 00 00
+80 82 03 E9 00, 41*1000          | kept | A0 80, 03 82 03 E8 00, 41*999, 03 02 00 41, 00 00
 ";
 
 // octets | under DER | under CER | text
 const ALREADY_CUT: &str = "
 OCTET STRING:
-24 80, 04 82 03 E8, 41 x1000, 04 01 41, 00 00 | 04 82 03 E9, 41 x1001 | kept
-24 80, 04 82 03 E7, 41 x999, 04 02 41 41, 00 00 | 04 82 03 E9, 41 x1001 | 24 80, 04 82 03 E8, 41 x1000, 04 01 41, 00 00
+24 80, 04 82 03 E8, 41*1000, 04 01 41, 00 00 | 04 82 03 E9, 41*1001 | kept
+24 80, 04 82 03 E7, 41*999, 04 02 41 41, 00 00 | 04 82 03 E9, 41*1001 | 24 80, 04 82 03 E8, 41*1000, 04 01 41, 00 00
 24 80 04 01 AA 00 00              | 04 01 AA | 04 01 AA | 'AA'H
 BIT STRING:
-23 80, 03 82 03 E8 00, 41 x999, 03 02 00 41, 00 00 | 03 82 03 E9 00, 41 x1000 | kept
+23 80, 03 82 03 E8 00, 41*999, 03 02 00 41, 00 00 | 03 82 03 E9 00, 41*1000 | kept
 ";
 
 // octets | under DER | under CER | text
 const LONGEST: &str = "
 OCTET STRING:
-04 83 0F EF A9, 41 x1044393 | kept | refused 14
+04 83 0F EF A9, 41*1044393 | kept | refused 14
 ";
 
 #[test]
@@ -110,7 +110,7 @@ fn cer_length(alloc: Global, octets: &str) -> Result<usize, Fail> {
 #[test]
 fn longest_octet_string(rt: HostRuntime) -> Result<(), Fail> {
     // 1,044 full segments of 1,004 octets, and 396 octets for the last.
-    let length = cer_length(rt.alloc(), "04 83 0F EF A8, 41 x1044392")?;
+    let length = cer_length(rt.alloc(), "04 83 0F EF A8, 41*1044392")?;
     assert_eq!(rt; length, 1_048_576);
     check_table(rt.alloc(), LONGEST)
 }

@@ -6,7 +6,7 @@ use crate::changed::check_changed;
 use crate::pieces::check_pieces;
 use crate::rows::{Becomes, Row, row_of};
 use crate::streamed::{check_one_number, check_stopped};
-use crate::tables::{Table, check};
+use crate::tables::{TypedTable, check_typed};
 use convert::{Canonical, Refusal, Rule, WellTyped};
 use std::alloc::Global;
 use std::test::Fail;
@@ -16,13 +16,13 @@ pub const RULES: [Rule; 3] = [Rule::Ber, Rule::Cer, Rule::Der];
 
 /// Checks what the rows of a table become.
 pub fn check_table(alloc: Global, table: &str) -> Result<(), Fail> {
-    check::<Encodings>(alloc, table)
+    check_typed(alloc, &Encodings, table)
 }
 
 struct Encodings;
 
-impl Table for Encodings {
-    fn holds(alloc: Global, ty: &WellTyped, line: &str) -> Result<bool, Fail> {
+impl TypedTable for Encodings {
+    fn holds(&self, alloc: Global, ty: &WellTyped, line: &str) -> Result<bool, Fail> {
         check_line(alloc, ty, line)?;
         Ok(true)
     }

@@ -1,10 +1,11 @@
 //! ENUMERATED (X.690 8.4), whose contents octets are those of an item's number.
 
 use crate::checks::check_table;
-use crate::tables::{Table, check, has_fault, is_said, numbers_of, two};
-use convert::{Item, Ty, Value, WellTyped, conforms};
+use crate::tables::has_fault;
+use convert::{Item, Ty, Value, conforms};
 use std::alloc::Global;
 use std::test::Fail;
+use test_tables::{Table, check, is_yes, numbers_of, two};
 
 // octets | under DER | under CER | text
 const ROWS: &str = "
@@ -15,7 +16,7 @@ ENUMERATED { a(1), b, c(0), d }:
 0A 01 02                 | kept        | kept | b
 0A 81 01 03              | 0A 01 03    | 0A 01 03 | d
 0A 01 00                 | kept        | kept | c
-                         | refused 1
+''                       | refused 1
 02 01 02                 | refused 2
 2A 03 0A 01 02           | refused 3
 0A 01 04                 | refused 6
@@ -32,7 +33,7 @@ M DEFINITIONS ::= BEGIN T ::= ENUMERATED { a(1), b, c(0), d } END:
 fn enumerated(alloc: Global, numbers: &str) -> Result<Ty, Fail> {
     let mut items = Vec::new(alloc);
     for number in numbers_of(alloc, numbers)? {
-        items.push(Item::new(alloc, "i", i128::from(number))?)?;
+        items.push(Item::new(alloc, "i", number as i128)?)?;
     }
     Ok(Ty::enumerated(items))
 }
@@ -51,7 +52,7 @@ const ITEMS: &str = "\
 struct ItemFaults;
 
 impl Table for ItemFaults {
-    fn holds(alloc: Global, _ty: &WellTyped, row: &str) -> Result<bool, Fail> {
+    fn holds(&self, alloc: Global, row: &str) -> Result<bool, Fail> {
         let (numbers, fault) = two(row)?;
         has_fault(alloc, enumerated(alloc, numbers)?, fault)
     }
@@ -69,10 +70,10 @@ INTEGER 3    | no
 struct Conforming;
 
 impl Table for Conforming {
-    fn holds(alloc: Global, _ty: &WellTyped, row: &str) -> Result<bool, Fail> {
+    fn holds(&self, alloc: Global, row: &str) -> Result<bool, Fail> {
         let (value, want) = two(row)?;
         let value = value_of(value)?;
-        is_said(conforms(&enumerated(alloc, "1 3")?, &value), want)
+        Ok(conforms(&enumerated(alloc, "1 3")?, &value) == is_yes(want)?)
     }
 }
 
@@ -93,10 +94,10 @@ fn encodings(rt: HostRuntime) -> Result<(), Fail> {
 
 #[test]
 fn items(rt: HostRuntime) -> Result<(), Fail> {
-    check::<ItemFaults>(rt.alloc(), ITEMS)
+    check(rt.alloc(), &ItemFaults, ITEMS)
 }
 
 #[test]
 fn values(rt: HostRuntime) -> Result<(), Fail> {
-    check::<Conforming>(rt.alloc(), VALUES)
+    check(rt.alloc(), &Conforming, VALUES)
 }

@@ -1,11 +1,11 @@
 //! BIT STRING with named bits (X.680 clause 22), whose bits 0 at the end mean nothing (X.690 11.2.2).
 
 use crate::checks::check_table;
-use crate::rows::octets_of;
-use crate::tables::{Table, check, has_fault, is_said, numbers_of, two};
-use convert::{Bits, Field, NamedBit, Ty, Value, WellTyped, conforms};
+use crate::tables::has_fault;
+use convert::{Bits, Field, NamedBit, Ty, Value, conforms};
 use std::alloc::Global;
 use std::test::Fail;
+use test_tables::{Table, check, is_yes, numbers_of, octets_of, two};
 
 // octets | under DER | under CER | text
 const ROWS: &str = "
@@ -19,20 +19,20 @@ BIT STRING { a(0), b(7) }:
 03 03 00 80 00           | 03 02 07 80 | 03 02 07 80 | '1'B
 03 04 06 80 00 3F        | 03 02 07 80 | 03 02 07 80 | '1'B
 03 03 06 80 40           | kept        | kept        | '1000000001'B
-# a bit that no name is given to
+// a bit that no name is given to
 03 03 05 80 20           | kept        | kept        | '10000000001'B
-# no bit, or none but bits 0
+// no bit, or none but bits 0
 03 01 00                 | kept        | kept        | ''B
 03 02 00 00              | 03 01 00    | 03 01 00    | ''B
 03 02 07 7F              | 03 01 00    | 03 01 00    | ''B
 03 04 03 00 00 07        | 03 01 00    | 03 01 00    | ''B
-# the bits of all segments are joined before those at the end are dropped
+// the bits of all segments are joined before those at the end are dropped
 23 08 03 02 00 A0 03 02 00 00          | 03 02 05 A0    | 03 02 05 A0    | '101'B
 23 08 03 02 00 00 03 02 05 A0          | 03 03 05 00 A0 | 03 03 05 00 A0 | '00000000101'B
 23 80 23 80 03 02 00 A0 00 00 03 02 04 00 00 00 | 03 02 05 A0 | 03 02 05 A0 | '101'B
 23 00                    | 03 01 00    | 03 01 00    | ''B
 23 80 03 01 00 00 00     | 03 01 00    | 03 01 00    | ''B
-                         | refused 1
+''                       | refused 1
 03 02 05                 | refused 1
 23 06 03 02 00 A0        | refused 1
 04 01 00                 | refused 2
@@ -42,11 +42,11 @@ BIT STRING { a(0), b(7) }:
 03 01 01                 | refused 6
 03 02 08 00              | refused 6
 23 09 03 03 04 AA B0 03 02 00 F0 | refused 6
-# without a list each bit counts
+// without a list each bit counts
 BIT STRING:
 23 08 03 02 00 A0 03 02 00 00 | 03 03 00 A0 00 | 03 03 00 A0 00 | '1010000000000000'B
 03 03 00 80 00           | kept        | kept        | '1000000000000000'B
-# through a reference, and under tags
+// through a reference, and under tags
 U U ::= BIT STRING { a(0) }:
 03 02 00 80              | 03 02 07 80 | 03 02 07 80 | '1'B
 [5] U U ::= BIT STRING { a(0) }:
@@ -54,7 +54,7 @@ U U ::= BIT STRING { a(0) }:
 03 02 07 80              | refused 2
 EXPLICIT TAGS [5] BIT STRING { a(0) }:
 A5 04 03 02 00 80        | A5 04 03 02 07 80 | A5 80 03 02 07 80 00 00 | '1'B
-# a set is ordered by the encodings of its trimmed elements
+// a set is ordered by the encodings of its trimmed elements
 SET OF BIT STRING { a(0) }:
 31 09 03 02 07 80 03 03 00 40 00 | 31 08 03 02 06 40 03 02 07 80 | 31 80 03 02 06 40 03 02 07 80 00 00 | { '01'B, '1'B }
 ";
@@ -70,16 +70,16 @@ AUTOMATIC TAGS SEQUENCE { f BIT STRING { a(0) } DEFAULT '100'B }:
 30 0A A0 08 03 02 00 80 03 02 00 00 | 30 00     | 30 80 00 00                | { }
 30 04 80 02 05 A0        | kept                 | 30 80 80 02 05 A0 00 00    | { f '101'B }
 30 08 80 02 00 80 80 02 00 80 | refused 2
-# the same default in other words, through references and a tag
+// the same default in other words, through references and a tag
 AUTOMATIC TAGS SEQUENCE { f U DEFAULT '8000'H } U ::= [3] V V ::= BIT STRING { a(0) }:
 30 04 80 02 00 80        | 30 00                | 30 80 00 00                | { }
 30 04 80 02 06 40        | kept                 | 30 80 80 02 06 40 00 00    | { f '01'B }
-# a default of no bits
+// a default of no bits
 AUTOMATIC TAGS SEQUENCE { f BIT STRING { a(0) } DEFAULT '00'B }:
 30 03 80 01 00           | 30 00                | 30 80 00 00                | { }
 30 05 80 03 00 00 00     | 30 00                | 30 80 00 00                | { }
 30 04 80 02 07 80        | kept                 | 30 80 80 02 07 80 00 00    | { f '1'B }
-# without a list the bits 0 at the end count
+// without a list the bits 0 at the end count
 AUTOMATIC TAGS SEQUENCE { f BIT STRING DEFAULT '100'B }:
 30 04 80 02 05 80        | 30 00                | 30 80 00 00                | { }
 30 04 80 02 07 80        | kept                 | 30 80 80 02 07 80 00 00    | { f '1'B }
@@ -88,12 +88,12 @@ AUTOMATIC TAGS SEQUENCE { f BIT STRING DEFAULT '100'B }:
 // octets | under DER | under CER | text
 const CUT: &str = "
 BIT STRING { a(0) }:
-03 82 03 E8 00, 41 x999         | kept                    | kept
-03 82 03 E9 00, 41 x999, 00     | 03 82 03 E8 00, 41 x999 | 03 82 03 E8 00, 41 x999
-03 82 03 E9 00, 41 x1000        | kept                    | 23 80, 03 82 03 E8 00, 41 x999, 03 02 00 41, 00 00
-03 82 03 EA 00, 41 x1000, 00    | 03 82 03 E9 00, 41 x1000 | 23 80, 03 82 03 E8 00, 41 x999, 03 02 00 41, 00 00
-03 82 03 EA 00, 41 x999, 80, 00 | 03 82 03 E9 07, 41 x999, 80 | 23 80, 03 82 03 E8 00, 41 x999, 03 02 07 80, 00 00
-03 82 07 D1 00, 80, 00 x1999    | 03 02 07 80             | 03 02 07 80
+03 82 03 E8 00, 41*999          | kept                    | kept
+03 82 03 E9 00, 41*999, 00      | 03 82 03 E8 00, 41*999  | 03 82 03 E8 00, 41*999
+03 82 03 E9 00, 41*1000         | kept                    | 23 80, 03 82 03 E8 00, 41*999, 03 02 00 41, 00 00
+03 82 03 EA 00, 41*1000, 00     | 03 82 03 E9 00, 41*1000 | 23 80, 03 82 03 E8 00, 41*999, 03 02 00 41, 00 00
+03 82 03 EA 00, 41*999, 80, 00  | 03 82 03 E9 07, 41*999, 80 | 23 80, 03 82 03 E8 00, 41*999, 03 02 07 80, 00 00
+03 82 07 D1 00, 80, 00*1999     | 03 02 07 80             | 03 02 07 80
 ";
 
 #[test]
@@ -115,7 +115,7 @@ fn cut_by_cer(rt: HostRuntime) -> Result<(), Fail> {
 fn named_bits(alloc: Global, numbers: &str) -> Result<Ty, Fail> {
     let mut bits = Vec::new(alloc);
     for number in numbers_of(alloc, numbers)? {
-        bits.push(NamedBit::new(alloc, "i", number)?)?;
+        bits.push(NamedBit::new(alloc, "i", u32::try_from(number)?)?)?;
     }
     Ok(Ty::named_bits(bits))
 }
@@ -136,7 +136,7 @@ const UNTRIMMED: &str = "\
 struct Untrimmed;
 
 impl Table for Untrimmed {
-    fn holds(alloc: Global, _ty: &WellTyped, row: &str) -> Result<bool, Fail> {
+    fn holds(&self, alloc: Global, row: &str) -> Result<bool, Fail> {
         let (octets, others) = two(row)?;
         let (unused, fault) = two(others)?;
         let default = bits(alloc, octets, unused)?;
@@ -159,7 +159,7 @@ const NUMBERS: &str = "\
 struct NumberFaults;
 
 impl Table for NumberFaults {
-    fn holds(alloc: Global, _ty: &WellTyped, row: &str) -> Result<bool, Fail> {
+    fn holds(&self, alloc: Global, row: &str) -> Result<bool, Fail> {
         let (numbers, fault) = two(row)?;
         has_fault(alloc, named_bits(alloc, numbers)?, fault)
     }
@@ -167,8 +167,8 @@ impl Table for NumberFaults {
 
 // octets | unused bits | whether the bits are a value of a BIT STRING with named bits
 const VALUES: &str = "\
-# no octets
-      | 0 | yes
+// no octets
+''    | 0 | yes
 A0    | 5 | yes
 A0    | 4 | no
 01    | 0 | yes
@@ -178,25 +178,25 @@ A0    | 4 | no
 struct Conforming;
 
 impl Table for Conforming {
-    fn holds(alloc: Global, _ty: &WellTyped, row: &str) -> Result<bool, Fail> {
+    fn holds(&self, alloc: Global, row: &str) -> Result<bool, Fail> {
         let (octets, others) = two(row)?;
         let (unused, want) = two(others)?;
         let bits = bits(alloc, octets, unused)?;
-        is_said(conforms(&named_bits(alloc, "0")?, &bits), want)
+        Ok(conforms(&named_bits(alloc, "0")?, &bits) == is_yes(want)?)
     }
 }
 
 #[test]
 fn no_untrimmed_default(rt: HostRuntime) -> Result<(), Fail> {
-    check::<Untrimmed>(rt.alloc(), UNTRIMMED)
+    check(rt.alloc(), &Untrimmed, UNTRIMMED)
 }
 
 #[test]
 fn numbers(rt: HostRuntime) -> Result<(), Fail> {
-    check::<NumberFaults>(rt.alloc(), NUMBERS)
+    check(rt.alloc(), &NumberFaults, NUMBERS)
 }
 
 #[test]
 fn values(rt: HostRuntime) -> Result<(), Fail> {
-    check::<Conforming>(rt.alloc(), VALUES)
+    check(rt.alloc(), &Conforming, VALUES)
 }

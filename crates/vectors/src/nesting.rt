@@ -3,26 +3,26 @@
 
 use crate::answers::convert_by;
 use crate::checks::{check_line, check_table};
-use crate::rows::octets_of;
-use crate::tables::{Table, check, two};
+use crate::tables::{TypedTable, check_typed};
 use crate::types_by_name::type_of;
 use convert::{Canonical, Refusal, Rule, WellTyped};
 use std::alloc::Global;
 use std::test::Fail;
+use test_tables::{is_refused, octets_of, two};
 
 // octets | under DER | under CER | text
 const LEVELS: &str = "
 OCTET STRING:
 24 80, 04 01 AA, 00 00                    | 04 01 AA | 04 01 AA | 'AA'H
-24 80 x63, 04 01 AA, 00 00 x63            | 04 01 AA | 04 01 AA | 'AA'H
-24 80 x64, 04 01 AA, 00 00 x64            | 04 01 AA | 04 01 AA | 'AA'H
-24 80 x65, 04 01 AA, 00 00 x65            | refused 10
-24 80 x64                                 | refused 1
-24 80 x64, 24                             | refused 10
-24 80 x64, 24 FF                          | refused 10
-24 80 x64, 24 00, 00 00 x64               | refused 10
-# 65 encodings beside each other in one
-24 80, 24 80 00 00 x65, 00 00             | 04 00 | 04 00 | ''H
+24 80*63, 04 01 AA, 00 00*63              | 04 01 AA | 04 01 AA | 'AA'H
+24 80*64, 04 01 AA, 00 00*64              | 04 01 AA | 04 01 AA | 'AA'H
+24 80*65, 04 01 AA, 00 00*65              | refused 10
+24 80*64                                  | refused 1
+24 80*64, 24                              | refused 10
+24 80*64, 24 FF                           | refused 10
+24 80*64, 24 00, 00 00*64                 | refused 10
+// 65 encodings beside each other in one
+24 80, 24 80 00 00*65, 00 00              | 04 00 | 04 00 | ''H
 ";
 
 // octets | under DER | under CER | text; 63 levels, of 127 contents octets down to 3, by themselves and in others
@@ -37,13 +37,13 @@ OCTET STRING:
 // octets | under DER | under CER | text
 const LENGTHS: &str = "
 OCTET STRING:
-# 126 digits, of which the first 125 are 00: outside, inside, and both
-04 FE, 00 x125, 01 AA                     | 04 01 AA | 04 01 AA | 'AA'H
-24 FE, 00 x125, 03 04 01 AA               | 04 01 AA | 04 01 AA | 'AA'H
-24 80 04 FE, 00 x125, 01 AA 00 00         | 04 01 AA | 04 01 AA | 'AA'H
-24 FE, 00 x125, 81 04 FE, 00 x125, 01 AA  | 04 01 AA | 04 01 AA | 'AA'H
-24 FF, 00 x126, 03 04 01 AA               | refused 4
-24 80 04 FF, 00 x126, 01 AA 00 00         | refused 4
+// 126 digits, of which the first 125 are 00: outside, inside, and both
+04 FE, 00*125, 01 AA                      | 04 01 AA | 04 01 AA | 'AA'H
+24 FE, 00*125, 03 04 01 AA                | 04 01 AA | 04 01 AA | 'AA'H
+24 80 04 FE, 00*125, 01 AA 00 00          | 04 01 AA | 04 01 AA | 'AA'H
+24 FE, 00*125, 81 04 FE, 00*125, 01 AA    | 04 01 AA | 04 01 AA | 'AA'H
+24 FF, 00*126, 03 04 01 AA                | refused 4
+24 80 04 FF, 00*126, 01 AA 00 00          | refused 4
 24 83 10 00 01                            | refused 4
 24 80 04 83 10 00 01                      | refused 4
 24 80 24 83 10 00 01                      | refused 4
@@ -52,7 +52,7 @@ OCTET STRING:
 24 80 24 83 0F FF FA                      | refused 11
 24 83 0F FF FC                            | refused 11
 24 80 04 83 0F FF FA                      | refused 11
-# no room for end-of-contents octets, within the limit or a definite encoding
+// no room for end-of-contents octets, within the limit or a definite encoding
 24 80 04 83 0F FF F7                      | refused 1
 24 80 04 83 0F FF F8                      | refused 11
 24 80 24 80 04 83 0F FF F4                | refused 11
@@ -85,16 +85,16 @@ fn lengths(rt: HostRuntime) -> Result<(), Fail> {
 // the segment behind 255 of 4,096 octets 41 | what all of them become under DER
 const LAST_SEGMENTS: &str = "\
 OCTET STRING:
-04 82 0B FB, 41 x3067    | 04 83 0F FB FB, 41 x1047547
-04 82 0B FC, 41 x3068    | 04 83 0F FB FC, 41 x1047548
-04 82 0B FD, 41 x3069    | refused 11
-04 83 00 0B FC, 41 x3068 | refused 11
+04 82 0B FB, 41*3067     | 04 83 0F FB FB, 41*1047547
+04 82 0B FC, 41*3068     | 04 83 0F FB FC, 41*1047548
+04 82 0B FD, 41*3069     | refused 11
+04 83 00 0B FC, 41*3068  | refused 11
 ";
 
 struct LastSegments;
 
-impl Table for LastSegments {
-    fn holds(alloc: Global, ty: &WellTyped, row: &str) -> Result<bool, Fail> {
+impl TypedTable for LastSegments {
+    fn holds(&self, alloc: Global, ty: &WellTyped, row: &str) -> Result<bool, Fail> {
         let (last, becomes) = two(row)?;
         let octets = segments_before(alloc, last)?;
         let rules = (Rule::Ber, Canonical::Der);
@@ -107,7 +107,7 @@ impl Table for LastSegments {
 }
 
 fn segments_before(alloc: Global, last: &str) -> Result<Vec<u8>, Fail> {
-    let segments = ", 04 82 10 00, 41 x4096".repeat(alloc, 255)?;
+    let segments = ", 04 82 10 00, 41*4096".repeat(alloc, 255)?;
     let octets = format!(in alloc; "24 80{segments}, {last}, 00 00")?;
     octets_of(alloc, octets.as_str())
 }
@@ -115,16 +115,11 @@ fn segments_before(alloc: Global, last: &str) -> Result<Vec<u8>, Fail> {
 fn is_what(alloc: Global, found: Result<Vec<u8>, Refusal>, becomes: &str) -> Result<bool, Fail> {
     match found {
         Ok(octets) => Ok(octets == octets_of(alloc, becomes)?),
-        Err(refusal) => is_refused(refusal, becomes),
+        Err(refusal) => is_refused(refusal.number(), becomes),
     }
-}
-
-fn is_refused(refusal: Refusal, becomes: &str) -> Result<bool, Fail> {
-    let number = becomes.strip_prefix("refused ").ok_or("no refusal")?;
-    Ok(refusal.number() == number.parse::<u8>()?)
 }
 
 #[test]
 fn longest_strings(rt: HostRuntime) -> Result<(), Fail> {
-    check::<LastSegments>(rt.alloc(), LAST_SEGMENTS)
+    check_typed(rt.alloc(), &LastSegments, LAST_SEGMENTS)
 }

@@ -1,9 +1,9 @@
 //! Types printed in the notation of X.680, and read again.
 
-use crate::tables::{Table, check};
-use convert::{WellTyped, type_from};
+use convert::type_from;
 use std::alloc::Global;
 use std::test::Fail;
+use test_tables::{Table, check};
 
 // Types in a notation that says each tag and keyword, as they are printed.
 const PRINTED: &str = "\
@@ -43,12 +43,12 @@ fn printed(alloc: Global, text: &str) -> Result<String, Fail> {
 struct PrintedAgain;
 
 impl Table for PrintedAgain {
-    fn holds(alloc: Global, _ty: &WellTyped, row: &str) -> Result<bool, Fail> {
+    fn holds(&self, alloc: Global, row: &str) -> Result<bool, Fail> {
         Ok(printed(alloc, row)?.as_str() == row)
     }
 }
 
 #[test]
 fn are_printed_as_they_are_written(rt: HostRuntime) -> Result<(), Fail> {
-    check::<PrintedAgain>(rt.alloc(), PRINTED)
+    check(rt.alloc(), &PrintedAgain, PRINTED)
 }

@@ -1,20 +1,18 @@
-//! How the tables of octets are read.
+//! How the tables of octets are read, whose rows stand below types (`tables`).
 //!
-//! They are walked as `tables` says. A row has octets, what they become under DER, what under CER, and the text of
-//! their value, with bars between. All columns but the first may be empty, and the last ones missing. What octets
-//! become is octets, `kept` for the same ones, `refused` and a number, or `left over` where a value ends before the
-//! octets do. What a reader refuses stands in the second column alone, and `refused 14` means one writer.
+//! A row has octets, what they become under DER, what under CER, and the text of their value, with bars between. All
+//! columns but the first may be empty, and the last ones missing. What octets become is octets, `kept` for the same
+//! ones, `refused` and a number, or `left over` where a value ends before the octets do. What a reader refuses stands in
+//! the second column alone, and `refused 14` means one writer.
 //!
 //! The columns are X.690's, by a converter that shares nothing with these crates. A row that is taken has all of
 //! them, but for texts of a thousand characters and more: `show` returns what `IsShown` says, by its own clause, and
 //! shorter rows of the same types hold that definition to literals.
-//!
-//! Octets are parts with commas between them: hexadecimal digits, or characters between `'`. A part that
-//! ends with `x` and a number stands there as many times.
 
-use convert::{WellTyped, unhex};
+use convert::WellTyped;
 use std::alloc::Global;
 use std::test::Fail;
+use test_tables::octets_of;
 
 /// A row of a table.
 #[derive(Drop)]
@@ -72,25 +70,4 @@ fn outcome_of(alloc: Global, octets: &[u8], column: &str) -> Result<Becomes, Fai
         "kept" => Becomes::Octets(Vec::from_slice(alloc, octets)?),
         _ => Becomes::Octets(octets_of(alloc, column)?),
     })
-}
-
-/// The octets that a column spells.
-pub fn octets_of(alloc: Global, column: &str) -> Result<Vec<u8>, Fail> {
-    let mut octets = Vec::new(alloc);
-    for part in column.split(',') {
-        let (once, times) = part.split_once(" x").unwrap_or((part, "1"));
-        let once = octets_of_part(alloc, once.trim())?;
-        for _ in 0..times.trim().parse::<usize>()? {
-            octets.extend_from_slice(once.as_slice())?;
-        }
-    }
-    Ok(octets)
-}
-
-// The octets of one part: those of the characters between `'`, or those that digits spell.
-fn octets_of_part(alloc: Global, part: &str) -> Result<Vec<u8>, Fail> {
-    match part.split_once('\'') {
-        Some((_, text)) => Ok(Vec::from_slice(alloc, text.trim_end_matches('\'').as_bytes())?),
-        None => Ok(unhex(alloc, part.as_bytes())?),
-    }
 }

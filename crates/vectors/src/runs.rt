@@ -6,11 +6,10 @@
 //! it. In printed lines a semicolon stands for a line feed.
 
 use crate::answers::{Printed, line_of, run_over};
-use crate::rows::octets_of;
-use crate::tables::is_no_row;
 use program::Line;
 use std::alloc::Global;
 use std::test::Fail;
+use test_tables::{is_row, lines_of, octets_of, rows_of};
 
 // Each command, over two values.
 const COMMANDS: &str = "
@@ -48,11 +47,11 @@ show,m,V,in,--hex              | 0603803403 || asn1x: refused 6 Contents after 0
 
 // Streams of no value, of many, and that end within one or have other octets between them.
 const STREAMS: &str = "
-convert,@builtin,BOOLEAN,in,--to,der            |||| 0
-show,@builtin,BOOLEAN,in                        |||| 0
-check,@builtin,BOOLEAN,in                       || ok 0; || 0
+convert,@builtin,BOOLEAN,in,--to,der            | '' | '' || 0
+show,@builtin,BOOLEAN,in                        | '' ||| 0
+check,@builtin,BOOLEAN,in                       | '' | ok 0; || 0
 check,@builtin,BOOLEAN,in,--hex                 || ok 0; || 0
-convert,@builtin,BOOLEAN,in,--to,der,--from,der |||| 0
+convert,@builtin,BOOLEAN,in,--to,der,--from,der | '' | '' || 0
 convert,@builtin,BOOLEAN,in,--to,der,--hex      | 01 01 01 01 01 | 0101ff; | asn1x: refused 1 Truncated after 1 values; | 1
 convert,@builtin,BOOLEAN,in,--to,der            | 01 01 01 01 01 | 01 01 FF | asn1x: refused 1 Truncated after 1 values; | 1
 show,@builtin,BOOLEAN,in                        | 01 01 01 01 | TRUE; | asn1x: refused 1 Truncated after 1 values; | 1
@@ -62,21 +61,21 @@ convert,@builtin,BOOLEAN,in,--to,der            | 01 01 FF 02 | 01 01 FF | asn1x
 convert,@builtin,BOOLEAN,in,--to,der            | 01 01 FF 00 00 01 01 00 | 01 01 FF | asn1x: refused 5 EndOfContents after 1 values; | 1
 show,@builtin,BOOLEAN,in                        | 01 01 FF 0A 01 01 00 | TRUE; | asn1x: refused 2 Identifier after 1 values; | 1
 show,@builtin,BOOLEAN,in,--from,der             | 01 01 FF 02 | TRUE; | asn1x: refused 2 Identifier after 1 values; | 1
-# more octets than a piece has
-convert,@builtin,BOOLEAN,in,--to,der            | 01 01 2A x3000 | 01 01 FF x3000 || 0
-check,@builtin,BOOLEAN,in                       | 01 01 2A x3000 | ok 3000; || 0
-convert,@builtin,BOOLEAN,in,--to,der            | 01 01 2A x3000, 01 01 | 01 01 FF x3000 | asn1x: refused 1 Truncated after 3000 values; | 1
-convert,@builtin,BOOLEAN,in,--to,cer,--from,der | 01 01 FF x3000, 01 01 2A | 01 01 FF x3000 | asn1x: refused 12 NotCanonical after 3000 values; | 1
-convert,@builtin,OCTET STRING,in,--to,cer       | 04 82 03 E9, 41 x1001 | 24 80, 04 82 03 E8, 41 x1000, 04 01 41, 00 00 || 0
-convert,@builtin,OCTET STRING,in,--to,der,--from,cer | 24 80, 04 82 03 E8, 41 x1000, 04 01 41, 00 00 | 04 82 03 E9, 41 x1001 || 0
-check,@builtin,OCTET STRING,in,--from,cer       | 04 82 03 E9, 41 x1001 || asn1x: refused 12 NotCanonical after 0 values; | 1
-check,@builtin,OCTET STRING,in                  | 24 80 x65 || asn1x: refused 10 TooDeep after 0 values; | 1
+// more octets than a piece has
+convert,@builtin,BOOLEAN,in,--to,der            | 01 01 2A*3000  | 01 01 FF*3000 || 0
+check,@builtin,BOOLEAN,in                       | 01 01 2A*3000  | ok 3000; || 0
+convert,@builtin,BOOLEAN,in,--to,der            | 01 01 2A*3000, 01 01  | 01 01 FF*3000 | asn1x: refused 1 Truncated after 3000 values; | 1
+convert,@builtin,BOOLEAN,in,--to,cer,--from,der | 01 01 FF*3000, 01 01 2A | 01 01 FF*3000 | asn1x: refused 12 NotCanonical after 3000 values; | 1
+convert,@builtin,OCTET STRING,in,--to,cer       | 04 82 03 E9, 41*1001  | 24 80, 04 82 03 E8, 41*1000, 04 01 41, 00 00 || 0
+convert,@builtin,OCTET STRING,in,--to,der,--from,cer | 24 80, 04 82 03 E8, 41*1000, 04 01 41, 00 00 | 04 82 03 E9, 41*1001 || 0
+check,@builtin,OCTET STRING,in,--from,cer       | 04 82 03 E9, 41*1001  || asn1x: refused 12 NotCanonical after 0 values; | 1
+check,@builtin,OCTET STRING,in                  | 24 80*65 || asn1x: refused 10 TooDeep after 0 values; | 1
 check,@builtin,OCTET STRING,in                  | 04 83 10 00 00 || asn1x: refused 11 TooLong after 0 values; | 1
 check,@builtin,OCTET STRING,in                  | 04 FF || asn1x: refused 4 Length after 0 values; | 1
 check,@builtin,OCTET STRING,in                  | 04 80 || asn1x: refused 3 Form after 0 values; | 1
 M DEFINITIONS ::= BEGIN T ::= SEQUENCE OF OCTET STRING U ::= SET { a NULL, b BOOLEAN } V ::= VisibleString END:
-check,m,T,in                                    | 30 80 04 83 0F FF F7, 00 x1048567, 00 00 | ok 1; || 0
-convert,m,T,in,--to,der                         | 30 80 04 83 0F FF F7, 00 x1048567, 00 00 || asn1x: refused 14 OutputTooLong after 0 values; | 1
+check,m,T,in                                    | 30 80 04 83 0F FF F7, 00*1048567, 00 00  | ok 1; || 0
+convert,m,T,in,--to,der                         | 30 80 04 83 0F FF F7, 00*1048567, 00 00  | '' | asn1x: refused 14 OutputTooLong after 0 values; | 1
 check,m,U,in                                    | 31 80 05 00 05 00 || asn1x: refused 9 Repeated after 0 values; | 1
 show,m,V,in                                     | 3A 09 04 03 4A 6F 6E 04 02 65 73 1A 01 7F | \"Jones\"; | asn1x: refused 7 Alphabet after 1 values; | 1
 ";
@@ -116,24 +115,24 @@ check,m,T,in       | 00 || asn1x: module refused 31 TooLarge at 1:32; | 2
 M DEFINITIONS ::= BEGIN T ::= # END:
 check,m,T,in       | 00 || asn1x: module refused 21 Token at 1:31; | 2
 M DEFINITIONS ::= BEGIN T ::= ::= END:
-convert,m,T,in,--to,der | 00 || asn1x: module refused 22 Syntax at 1:31; | 2
+convert,m,T,in,--to,der | 00 | '' | asn1x: module refused 22 Syntax at 1:31; | 2
 M DEFINITIONS AUTOMATIC TAGS ::= BEGIN T ::= SEQUENCE { a NULL, a NULL } END:
-convert,m,T,in,--to,der | 00 || asn1x: module refused 26 RepeatedName at 1:40; | 2
+convert,m,T,in,--to,der | 00 | '' | asn1x: module refused 26 RepeatedName at 1:40; | 2
 M DEFINITIONS ::= BEGIN T ::= NULL T ::= NULL END:
-convert,m,T,in,--to,der | 00 || asn1x: module refused 26 RepeatedName at 1:36; | 2
+convert,m,T,in,--to,der | 00 | '' | asn1x: module refused 26 RepeatedName at 1:36; | 2
 M DEFINITIONS ::= BEGIN BOOLEAN ::= NULL END:
-convert,m,T,in,--to,der | 00 || asn1x: module refused 23 Reserved at 1:25; | 2
+convert,m,T,in,--to,der | 00 | '' | asn1x: module refused 23 Reserved at 1:25; | 2
 M DEFINITIONS ::= BEGIN END:
-convert,m,T,in,--to,der | 00 || asn1x: module refused 24 UnknownType at 1:1; | 2
+convert,m,T,in,--to,der | 00 | '' | asn1x: module refused 24 UnknownType at 1:1; | 2
 ";
 
 /// Checks the runs of a table.
 pub fn check_runs(alloc: Global, table: &str) -> Result<(), Fail> {
     let mut text = String::new(alloc);
-    for line in table.lines() {
+    for line in rows_of(table)? {
         match line.strip_suffix(':') {
             Some(module) => text = String::from_str(alloc, module)?,
-            None if is_no_row(line) => {}
+            None if !is_row(line) => {}
             None => check_run(alloc, text.as_str(), line)?,
         }
     }
@@ -191,7 +190,7 @@ fn input_of(alloc: Global, line: &Line, column: &str) -> Result<Vec<u8>, Fail> {
 
 fn output_of(alloc: Global, line: &Line, column: &str) -> Result<Vec<u8>, Fail> {
     if line.hex || line.to.is_none() {
-        return lines_of(alloc, column);
+        return Ok(lines_of(alloc, column.trim())?);
     }
     octets_of(alloc, column)
 }
@@ -202,17 +201,8 @@ fn is_printed(alloc: Global, line: &Line, run: Run, printed: &Printed) -> Result
     Ok(
         *status == run.status.trim().parse::<u8>()?
             && *out == output_of(alloc, line, run.out)?
-            && *err == lines_of(alloc, run.err)?,
+            && *err == lines_of(alloc, run.err.trim())?,
     )
-}
-
-// The lines of a column.
-fn lines_of(alloc: Global, column: &str) -> Result<Vec<u8>, Fail> {
-    let mut lines = Vec::new(alloc);
-    for octet in column.trim().bytes() {
-        lines.push(if octet == b';' { b'\n' } else { octet })?;
-    }
-    Ok(lines)
 }
 
 #[test]

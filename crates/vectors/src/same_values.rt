@@ -1,12 +1,12 @@
 //! When two encodings are of the same value: exactly then DER and CER give them the same octets.
 
 use crate::answers::{convert_by, read_by};
-use crate::rows::octets_of;
-use crate::tables::{Table, check, two};
+use crate::tables::{TypedTable, check_typed};
 use canon::{order, same};
 use convert::{Canonical, Rule, Value, WellTyped, conforms};
 use std::alloc::Global;
 use std::test::Fail;
+use test_tables::{octets_of, two};
 
 // octets | octets | whether their values are the same
 const PAIRS: &str = "
@@ -102,8 +102,8 @@ fn is_said(
 
 struct SameOrOther;
 
-impl Table for SameOrOther {
-    fn holds(alloc: Global, ty: &WellTyped, row: &str) -> Result<bool, Fail> {
+impl TypedTable for SameOrOther {
+    fn holds(&self, alloc: Global, ty: &WellTyped, row: &str) -> Result<bool, Fail> {
         let (first, others) = two(row)?;
         let (second, want) = two(others)?;
         let first = octets_of(alloc, first)?;
@@ -115,5 +115,5 @@ impl Table for SameOrOther {
 
 #[test]
 fn pairs(rt: HostRuntime) -> Result<(), Fail> {
-    check::<SameOrOther>(rt.alloc(), PAIRS)
+    check_typed(rt.alloc(), &SameOrOther, PAIRS)
 }

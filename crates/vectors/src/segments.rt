@@ -54,10 +54,10 @@ BIT STRING:
 23 02 03 00                                   | refused 6
 23 03 03 01 01                                | refused 6
 23 04 03 02 08 AA                             | refused 6
-# another tag, and a wrong end, after a segment with unused bits
+// another tag, and a wrong end, after a segment with unused bits
 23 06 03 02 04 F0 04 00                       | refused 2
 23 80 03 02 04 F0 00 01                       | refused 5
-# nothing follows a segment with unused bits, not even what has no bits
+// nothing follows a segment with unused bits, not even what has no bits
 23 09 03 03 04 AA B0 03 02 00 F0              | refused 6
 23 08 03 02 04 F0 03 02 04 F0                 | refused 6
 23 0A 23 04 03 02 04 F0 03 02 00 AA           | refused 6
@@ -69,7 +69,7 @@ A0 04 80 02 4A 6F                             | refused 2
 [0] BIT STRING:
 A0 04 03 02 04 F0                             | 80 02 04 F0 | 80 02 04 F0 | '1111'B
 A0 04 80 02 04 F0                             | refused 2
-# tags of two and of three identifier octets
+// tags of two and of three identifier octets
 [31] OCTET STRING:
 BF 1F 04 04 02 4A 6F                          | 9F 1F 02 4A 6F | 9F 1F 02 4A 6F | '4A6F'H
 BF 1F 03 04 02 4A 6F                          | refused 4
@@ -134,8 +134,8 @@ A0 80 04 0D, '240229120000Z', 00 00             | 80 0D, '240229120000Z' | 80 0D
 // octets | under DER | under CER | text
 const ENDS: &str = "
 OCTET STRING:
-# in a definite encoding what passes its end is named before what it is, and so is what leaves no room for
-# the end-of-contents octets of an indefinite one in it
+// in a definite encoding what passes its end is named before what it is, and so is what leaves no room for
+// the end-of-contents octets of an indefinite one in it
 24 04 24 80 00 00                 | 04 00 | 04 00 | ''H
 24 04 24 80 04 48                 | refused 4
 24 04 24 80 1A 00                 | refused 4
@@ -148,9 +148,9 @@ OCTET STRING:
 24 06 24 80 04 01 41 00           | refused 4
 24 02 1A 00                       | refused 2
 24 04 24 80 00 48                 | refused 5
-# in an indefinite one alone nothing is passed
+// in an indefinite one alone nothing is passed
 24 80 24 80 1A 00                 | refused 2
-# cut, before anything whole shows a fault and behind it
+// cut, before anything whole shows a fault and behind it
 24                                | refused 1
 24 01                             | refused 1
 24 80 1F                          | refused 1

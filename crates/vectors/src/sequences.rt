@@ -64,7 +64,7 @@ SEQUENCE { a INTEGER, b BOOLEAN OPTIONAL, c [0] INTEGER DEFAULT 5 }:
 30 80 02 01 07 01 01 01 00 00  | 30 06 02 01 07 01 01 FF    | 30 80 02 01 07 01 01 FF 00 00 | { a 7, b TRUE }
 30 06 02 01 07 80 01 05        | 30 03 02 01 07             | 30 80 02 01 07 00 00 | { a 7 }
 30 81 06 02 01 07 80 01 06     | 30 06 02 01 07 80 01 06    | 30 80 02 01 07 80 01 06 00 00 | { a 7, c 6 }
-                               | refused 1
+''                             | refused 1
 30 80 02 01                    | refused 1
 31 00                          | refused 2
 30 03 04 01 00                 | refused 2
@@ -100,7 +100,7 @@ SEQUENCE OF INTEGER:
 30 0D 02 01 01 02 01 02 02 02 00 01 02 01 04 | refused 6
 30 03 02 02 05 00              | refused 4
 30 05 02 01 05                 | refused 1
-# a length that passes a definite end, and else one that no INTEGER has
+// a length that passes a definite end, and else one that no INTEGER has
 30 02 02 11                    | refused 4
 30 03 02 11 00                 | refused 4
 30 12 02 11 00                 | refused 4
@@ -122,7 +122,7 @@ SEQUENCE OF SEQUENCE OF INTEGER:
 30 02 30 80                    | refused 4
 30 07 30 80 02 11 00 00 00     | refused 4
 30 80 30 05 02 82 04 01 00     | refused 4
-# items behind the end of the list inside, and one that passes it
+// items behind the end of the list inside, and one that passes it
 30 0B 30 06 02 01 01 02 01 02 02 01 03 | refused 2
 30 80 30 80 02 01 01 00 00 02 01 03 00 00 | refused 2
 30 0B 30 05 02 01 01 02 02 02 01 03 00 | refused 4

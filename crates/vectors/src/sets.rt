@@ -28,15 +28,15 @@ EXPLICIT TAGS SET { a INTEGER, b CHOICE { x [5] IMPLICIT NULL, y BOOLEAN } }:
 31 07 85 00 02 01 07 85 00     | refused 9
 31 07 85 00 01 01 FF 85 00     | refused 9
 31 02 85 00                    | refused 8
-# the least tag of the alternatives counts under CER, at whatever depth, and the one that stands under DER
+// the least tag of the alternatives counts under CER, at whatever depth, and the one that stands under DER
 SET { a [1] INTEGER, b CHOICE { c [2] INTEGER, d CHOICE { e [3] INTEGER, f [0] INTEGER } } }:
 31 06 81 01 01 83 01 02        | kept                    | 31 80 83 01 02 81 01 01 00 00 | { a 1, b d : e : 2 }
 31 06 81 01 01 80 01 02        | 31 06 80 01 02 81 01 01 | 31 80 80 01 02 81 01 01 00 00 | { a 1, b d : f : 2 }
 31 06 82 01 02 81 01 01        | 31 06 81 01 01 82 01 02 | 31 80 82 01 02 81 01 01 00 00 | { a 1, b c : 2 }
-# a tag around a CHOICE is its own
+// a tag around a CHOICE is its own
 SET { a [1] INTEGER, b [2] EXPLICIT CHOICE { c [0] INTEGER, d [3] INTEGER } }:
 31 08 A2 03 80 01 02 81 01 01  | 31 08 81 01 01 A2 03 80 01 02 | 31 80 81 01 01 A2 80 80 01 02 00 00 00 00 | { a 1, b c : 2 }
-# by class and then by number
+// by class and then by number
 SET { a [PRIVATE 0] NULL, b [0] NULL, c [APPLICATION 31] NULL, d NULL, e [31] NULL, f [128] NULL }:
 31 10 9F 81 00 00 9F 1F 00 C0 00 80 00 5F 1F 00 05 00 | 31 10 05 00 5F 1F 00 80 00 9F 1F 00 9F 81 00 00 C0 00 | 31 80 05 00 5F 1F 00 80 00 9F 1F 00 9F 81 00 00 C0 00 00 00 | { a NULL, b NULL, c NULL, d NULL, e NULL, f NULL }
 SET { }:
@@ -63,7 +63,7 @@ SET OF INTEGER:
 31 06 02 01 01 02 01 01        | kept                             | 31 80 02 01 01 02 01 01 00 00          | { 1, 1 }
 31 80 00 00                    | 31 00                      | kept | { }
 31 06 02 01 02 02 01 02        | kept                       | 31 80 02 01 02 02 01 02 00 00 | { 2, 2 }
-# 256, -1 and 1
+// 256, -1 and 1
 31 0A 02 02 01 00 02 01 FF 02 01 01 | 31 0A 02 01 01 02 01 FF 02 02 01 00 | 31 80 02 01 01 02 01 FF 02 02 01 00 00 00 | { 1, -1, 256 }
 31 06 02 01 01 04 01 01        | refused 2
 M DEFINITIONS ::= BEGIN T ::= SET OF INTEGER END:
@@ -76,11 +76,11 @@ SET OF CHOICE { a OCTET STRING, b NULL }:
 31 05 04 01 41 05 00           | kept                 | 31 80 04 01 41 05 00 00 00 | { a : '41'H, b : NULL }
 31 05 05 00 04 01 41           | 31 05 04 01 41 05 00 | 31 80 04 01 41 05 00 00 00 | { a : '41'H, b : NULL }
 SET OF SET OF INTEGER:
-# by the length octets under DER, and by the first items under CER
+// by the length octets under DER, and by the first items under CER
 31 0D 31 06 02 01 03 02 01 01 31 03 02 01 02 | 31 0D 31 03 02 01 02 31 06 02 01 01 02 01 03 | 31 80 31 80 02 01 01 02 01 03 00 00 31 80 02 01 02 00 00 00 00 | { { 2 }, { 1, 3 } }
 31 07 31 03 02 01 02 31 00     | 31 07 31 00 31 03 02 01 02 | 31 80 31 80 00 00 31 80 02 01 02 00 00 00 00 | { { }, { 2 } }
 SET OF UTCTime:
-# a length that passes a definite end, and else one that no UTCTime has
+// a length that passes a definite end, and else one that no UTCTime has
 31 03 17 05 00                 | refused 4
 31 06 17 05 00                 | refused 4
 31 07 17 05 00                 | refused 7

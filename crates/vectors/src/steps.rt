@@ -1,11 +1,12 @@
 //! What a reader of pieces answers to each of them.
 
 use crate::answers::text_of;
-use crate::tables::{Table, check, two};
+use crate::tables::{TypedTable, check_typed};
 use berreader::{Reader, Step};
 use convert::{Refusal, Value, WellTyped, unhex};
 use std::alloc::Global;
 use std::test::Fail;
+use test_tables::two;
 
 // pieces | what is answered to each: the octets that complete a value and its text, or a refusal; and whether all is
 // finished. What a piece has behind a value is the piece that follows.
@@ -18,7 +19,7 @@ BOOLEAN:
 02; 01             | 2; 2; 2
 02; ; 01; ;        | 2; 2; 2; 2; 2; 2
 01 02; 01 01 FF    | 6; 6; 6
-# a stream that ends in its second value, by each cut
+// a stream that ends in its second value, by each cut
 01 01 01 01 01; 01 01 | Done 3 TRUE; More; 1
 01; 01 01 01 01; 01 01 | More; Done 2 TRUE; More; 1
 01 01; 01 01 01; 01 01 | More; Done 1 TRUE; More; 1
@@ -139,8 +140,8 @@ fn number_of(alloc: Global, refusal: Refusal) -> Result<String, Fail> {
 
 struct ToPieces;
 
-impl Table for ToPieces {
-    fn holds(alloc: Global, ty: &WellTyped, row: &str) -> Result<bool, Fail> {
+impl TypedTable for ToPieces {
+    fn holds(&self, alloc: Global, ty: &WellTyped, row: &str) -> Result<bool, Fail> {
         let (pieces, want) = two(row)?;
         let found = answers_to(alloc, ty, pieces)?;
         if found.as_str() == want {
@@ -152,10 +153,10 @@ impl Table for ToPieces {
 
 #[test]
 fn answers(rt: HostRuntime) -> Result<(), Fail> {
-    check::<ToPieces>(rt.alloc(), ANSWERS)
+    check_typed(rt.alloc(), &ToPieces, ANSWERS)
 }
 
 #[test]
 fn answers_to_empty_pieces(rt: HostRuntime) -> Result<(), Fail> {
-    check::<ToPieces>(rt.alloc(), EMPTY_PIECES)
+    check_typed(rt.alloc(), &ToPieces, EMPTY_PIECES)
 }

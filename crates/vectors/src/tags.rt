@@ -1,17 +1,18 @@
 //! Types under tags other than the universal ones (X.680 8, X.690 8.14).
 
 use crate::checks::check_table;
-use crate::tables::{Table, check, has_fault, two};
+use crate::tables::has_fault;
 use crate::types_by_name::type_of;
-use convert::{Class, Tag, Ty, Value, WellTyped, conforms};
+use convert::{Class, Tag, Ty, Value, conforms};
 use std::alloc::Global;
 use std::test::Fail;
+use test_tables::{Table, check, two};
 
 // octets | under DER | under CER | text
 const OTHER_TAGS: &str = "
 [30] NULL:
 9E 00                    | kept | kept | NULL
-# another class, another number, more identifier octets than needed, constructed, and end of contents
+// another class, another number, more identifier octets than needed, constructed, and end of contents
 05 00                    | refused 2
 1E 00                    | refused 2
 5E 00                    | refused 2
@@ -60,7 +61,7 @@ AUTOMATIC TAGS SEQUENCE { a U, b NULL } U ::= [5] NULL:
 30 04 85 00 81 00        | refused 2
 AUTOMATIC TAGS SEQUENCE { a U, b NULL } U ::= [5] EXPLICIT NULL:
 30 06 A0 02 05 00 81 00  | kept | 30 80 A0 80 05 00 00 00 81 00 00 00 | { a NULL, b NULL }
-# a CHOICE has no tag that an implicit one could stand for
+// a CHOICE has no tag that an implicit one could stand for
 IMPLICIT TAGS [1] U U ::= CHOICE { a NULL }:
 A1 02 05 00              | kept | A1 80 05 00 00 00 | a : NULL
 81 00                    | refused 3
@@ -88,7 +89,7 @@ PRIVATE 268435456 | TooLarge
 struct Tags;
 
 impl Table for Tags {
-    fn holds(alloc: Global, _ty: &WellTyped, row: &str) -> Result<bool, Fail> {
+    fn holds(&self, alloc: Global, row: &str) -> Result<bool, Fail> {
         let (tag, fault) = two(row)?;
         has_fault(alloc, Ty::Boolean(tag_of(tag)?), fault)
     }
@@ -108,7 +109,7 @@ fn tag_of(column: &str) -> Result<Tag, Fail> {
 
 #[test]
 fn tags_of_no_type(rt: HostRuntime) -> Result<(), Fail> {
-    check::<Tags>(rt.alloc(), TAGS)
+    check(rt.alloc(), &Tags, TAGS)
 }
 
 #[test]
