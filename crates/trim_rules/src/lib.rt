@@ -12,8 +12,8 @@ pub use including::{Additions, is_written_out};
 pub use keyword::{Keyword, Section, first_number, is_automatic, keyword_of, number_at};
 pub use numbering::next_free;
 pub use root::Root;
-pub use standing::{Standing, presence_of, standing_in, standing_of, standing_of_addition};
-pub use writing::{mode_of, prefix_of};
+pub use standing::{Standing, presence_of, standing_in};
+pub use writing::prefix_of;
 
 /// The most parts of a list in the profile.
 pub const MAX_PARTS: usize = 256;

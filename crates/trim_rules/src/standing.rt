@@ -4,7 +4,6 @@ ghost use Rattle.std.specs.Prelude.{◌≡◌, ◌≢◌};
 ghost use Rattle.trim_rules.specs.Standing.{presence_of};
 
 use crate::keyword::Section;
-use published::Presence as WrittenPresence;
 use syntax::{DefaultValue, Presence};
 
 /// How a component may be absent.
@@ -18,18 +17,9 @@ pub enum Standing {
     Default,
 }
 
-/// What is written behind a component.
-pub fn standing_of(presence: &WrittenPresence) -> Standing {
-    match presence {
-        WrittenPresence::Required => Standing::Required,
-        WrittenPresence::Optional => Standing::Optional,
-        WrittenPresence::Default(_) => Standing::Default,
-    }
-}
-
-/// What an addition gets that is written so. A sender that knows an earlier version of the type leaves it
-/// out, so it may be absent whatever is written; a DEFAULT stays.
-pub fn standing_of_addition(written: Standing) -> Standing
+// What an addition gets that is written so. A sender that knows an earlier version of the type leaves it
+// out, so it may be absent whatever is written; a DEFAULT stays.
+fn standing_of_addition(written: Standing) -> Standing
     ensures absent { result ≢ Standing.Required }
     ensures kept { written ≢ Standing.Required → result ≡ written }
     ensures optional { written ≡ Standing.Required → result ≡ Standing.Optional }

@@ -17,8 +17,8 @@ pub fn prefix_of(class: TagClass, number: u32, keyword: Keyword) -> TagPrefix
     }
 }
 
-/// The keyword as it is written, which it always is.
-pub fn mode_of(keyword: Keyword) -> TagMode
+// The keyword as it is written, which it always is.
+fn mode_of(keyword: Keyword) -> TagMode
     ensures { result ≡ mode_of keyword }
 {
     match keyword {

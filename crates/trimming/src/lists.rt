@@ -12,7 +12,7 @@ use std::mem::drop;
 use syntax::{Component, Expr, Group, Presence, TagClass, TagMode};
 use trim_rules::{
     Additions, MAX_PARTS, Section, Standing, first_number, is_automatic, number_at, presence_of,
-    standing_in, standing_of,
+    standing_in,
 };
 use trim_sources::{Cause, identifier};
 
@@ -239,6 +239,15 @@ fn list_of(is_automatic: bool, group: Group, components: &Components) -> List {
 /// Whether a tag is written in a list, as it stands before COMPONENTS OF is written out (X.680 25.3).
 pub fn has_tags(components: &Components) -> bool {
     has_tag(&components.root) || has_tag(&components.additions) || has_tag(&components.tail)
+}
+
+// What is written behind a component.
+fn standing_of(presence: &WrittenPresence) -> Standing {
+    match presence {
+        WrittenPresence::Required => Standing::Required,
+        WrittenPresence::Optional => Standing::Optional,
+        WrittenPresence::Default(_) => Standing::Default,
+    }
 }
 
 // Where COMPONENTS OF stands in a section of a list.
