@@ -21,11 +21,11 @@ impl ValuesTable for Shown {
         value: &Value,
         others: &str,
     ) -> Result<bool, Fail> {
-        if !conforms(ty.as_type(), value) {
-            return Ok(false);
+        if conforms(ty.as_type(), value) {
+            let text = show(alloc, ty, value)?;
+            return Ok(text.as_bytes() == octets_of(alloc, others)?.as_slice());
         }
-        let text = show(alloc, ty, value)?;
-        Ok(text.as_bytes() == octets_of(alloc, others)?.as_slice())
+        Ok(false)
     }
 }
 
