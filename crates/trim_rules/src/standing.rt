@@ -33,8 +33,9 @@ fn standing_of_addition(written: Standing) -> Standing
 
 /// How a component of this section may be absent that is written so.
 pub fn standing_in(section: Section, standing: Standing) -> Standing
-    ensures additions { section ≡ Section.Additions → result ≢ Standing.Required }
     ensures root { section ≢ Section.Additions → result ≡ standing }
+    ensures kept { standing ≢ Standing.Required → result ≡ standing }
+    ensures optional { section ≡ Section.Additions → standing ≡ Standing.Required → result ≡ Standing.Optional }
 {
     match section {
         Section::Additions => standing_of_addition(standing),
