@@ -6,7 +6,7 @@ use crate::imports::{imports_at, skip_exports};
 use crate::modules::Published;
 use crate::tree::{Assignment, Import, Module};
 use lexis::Word as Reserved;
-use published_tokens::{Fault, Head, Kind, MAX_FILE, Reader, Reason, Stop, Symbol};
+use published_tokens::{Head, Kind, MAX_FILE, Reader, Reason, Stop, Symbol};
 use std::alloc::AllocError;
 
 impl Published {

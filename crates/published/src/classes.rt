@@ -1,12 +1,10 @@
 //! Classes of information objects (X.681 clause 9), as far as it is told which of their fields are open types.
 
-ghost use Rattle.std.specs.Prelude.{◌≡◌};
-ghost use Rattle.published.specs.Fields.{is_open_before};
-
 use crate::numbers::ends_list;
 use crate::tree::Field;
-use lexis::Word as Reserved;
-use published_tokens::{Kind, MAX_PARTS, Reader, Reason, Stop, Symbol, skip_to_end_of_part};
+use published_tokens::{
+    Kind, MAX_PARTS, Reader, Reason, Stop, Symbol, is_open_before, skip_to_end_of_part,
+};
 
 /// The fields in braces, which stand in front. What has no name of a field is passed.
 pub(crate) fn fields_at(reader: &mut Reader) -> Result<Vec<Field>, Stop> {
@@ -24,17 +22,4 @@ pub(crate) fn fields_at(reader: &mut Reader) -> Result<Vec<Field>, Stop> {
         }
     }
     Err(reader.stop(Reason::TooManyParts))
-}
-
-// Whether the name of a field stands for an open type where this token is behind it in its class: there is no
-// type, or that of another field.
-fn is_open_before(kind: Kind) -> bool
-    ensures { result ≡ is_open_before kind }
-{
-    match kind {
-        Kind::Field => true,
-        Kind::Reserved(Reserved::Optional | Reserved::Default) => true,
-        Kind::Symbol(Symbol::Comma | Symbol::CloseBrace) => true,
-        _ => false,
-    }
 }

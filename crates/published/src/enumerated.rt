@@ -1,9 +1,8 @@
 //! ENUMERATED (X.680 clause 20).
 
-use crate::extension::{Extension, Stage};
 use crate::numbers::number_in_parentheses;
 use crate::tree::{Form, Item, Items};
-use published_tokens::{Kind, MAX_PARTS, Reader, Reason, Stop, Symbol};
+use published_tokens::{Extension, Kind, MAX_PARTS, Reader, Reason, Section, Stop, Symbol};
 use std::mem::drop;
 
 /// The items in braces, which stand in front.
@@ -15,10 +14,10 @@ pub(crate) fn enumerated_at(reader: &mut Reader) -> Result<Form, Stop> {
     for _turn in 0..=MAX_PARTS {
         if !extension.begin(reader)? {
             let item = item_at(reader)?;
-            match extension.stage() {
-                Stage::Root => root.push(item)?,
-                Stage::Additions => additions.push(item)?,
-                Stage::Tail => {
+            match extension.section() {
+                Section::Root => root.push(item)?,
+                Section::Additions => additions.push(item)?,
+                Section::Tail => {
                     drop(item);
                     return Err(reader.refuse());
                 }

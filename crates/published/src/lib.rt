@@ -11,7 +11,6 @@ mod body;
 mod braces;
 mod classes;
 mod enumerated;
-mod extension;
 mod imports;
 mod lists;
 mod modules;
@@ -26,12 +25,12 @@ mod values;
 mod words;
 
 pub use modules::{Published, read};
-pub use published_tokens::{Fault, MAX_FILE, MAX_LEVELS, MAX_PARTS, Place, Reason, Word};
+pub use published_tokens::{Fault, MAX_FILE, MAX_LEVELS, MAX_PARTS, Place, Reason, TagClass, Word};
 pub use simple::Simple;
 pub use syntax::{Group, SignedNumber, TagMode, Tagging};
 pub use tree::{
     Alternative, Alternatives, Assignment, Body, Component, Components, Field, Form, Import, Item,
-    Items, LeftOut, Module, NamedNumber, Presence, Reference, Tag, TagClass, Type,
+    Items, LeftOut, Module, NamedNumber, Presence, Reference, Tag, Type,
 };
 pub use value::{Arc, Number, Value, ValueForm};
 

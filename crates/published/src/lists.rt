@@ -1,7 +1,7 @@
 //! Lists of components and alternatives while they are read.
 
-use crate::extension::Stage;
 use crate::tree::{Alternatives, Component, Components};
+use published_tokens::Section;
 use std::alloc::{AllocError, Global};
 
 impl Components {
@@ -16,11 +16,11 @@ impl Components {
     }
 
     /// Adds a component to this part of the list.
-    pub(crate) fn put(&mut self, stage: Stage, component: Component) -> Result<(), AllocError> {
-        match stage {
-            Stage::Root => self.root.push(component)?,
-            Stage::Additions => self.additions.push(component)?,
-            Stage::Tail => self.tail.push(component)?,
+    pub(crate) fn put(&mut self, section: Section, component: Component) -> Result<(), AllocError> {
+        match section {
+            Section::Root => self.root.push(component)?,
+            Section::Additions => self.additions.push(component)?,
+            Section::Tail => self.tail.push(component)?,
         }
         Ok(())
     }

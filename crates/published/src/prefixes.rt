@@ -1,12 +1,11 @@
 //! Tags, and what stands in front of `OF` (X.680 clauses 26 to 31).
 
-ghost use Rattle.std.specs.Prelude.{◌≡◌};
-ghost use Rattle.published.specs.Prefixes.{class_of, mode_of};
-
 use crate::numbers::number_at;
-use crate::tree::{Tag, TagClass};
+use crate::tree::Tag;
 use lexis::Word as Reserved;
-use published_tokens::{Kind, MAX_FILE, Place, Reader, Stop, Symbol, skip_brackets};
+use published_tokens::{
+    MAX_FILE, Place, Reader, Stop, Symbol, TagClass, class_of, mode_of, skip_brackets,
+};
 use syntax::TagMode;
 
 /// The tag that stands in front, and the keyword behind it.
@@ -27,29 +26,6 @@ pub(crate) fn tag_at(reader: &mut Reader) -> Result<Tag, Stop> {
         number,
         mode,
     })
-}
-
-// The class that the token behind `[` gives a tag.
-fn class_of(kind: Kind) -> TagClass
-    ensures { result ≡ class_of kind }
-{
-    match kind {
-        Kind::Reserved(Reserved::Universal) => TagClass::Universal,
-        Kind::Reserved(Reserved::Application) => TagClass::Application,
-        Kind::Reserved(Reserved::Private) => TagClass::Private,
-        _ => TagClass::ContextSpecific,
-    }
-}
-
-// The mode that the token behind `]` gives a tag.
-fn mode_of(kind: Kind) -> TagMode
-    ensures { result ≡ mode_of kind }
-{
-    match kind {
-        Kind::Reserved(Reserved::Implicit) => TagMode::Implicit,
-        Kind::Reserved(Reserved::Explicit) => TagMode::Explicit,
-        _ => TagMode::Unmarked,
-    }
 }
 
 /// Passes the constraints that stand in front. Where the first of them begins.

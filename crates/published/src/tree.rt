@@ -3,7 +3,7 @@
 use crate::simple::Simple;
 use crate::value::{Number, Value};
 use names::Name;
-use published_tokens::{Place, Word};
+use published_tokens::{Place, TagClass, Word};
 use syntax::{Group, TagMode, Tagging};
 
 /// A module.
@@ -143,19 +143,6 @@ pub struct Tag {
     pub number: Number,
     /// The keyword behind the tag.
     pub mode: TagMode,
-}
-
-/// The class word of a tag.
-#[derive(Clone, Copy, Debug, PartialEq, Eq)]
-pub enum TagClass {
-    /// `UNIVERSAL`.
-    Universal,
-    /// `APPLICATION`.
-    Application,
-    /// No word: context-specific.
-    ContextSpecific,
-    /// `PRIVATE`.
-    Private,
 }
 
 /// The components of a SEQUENCE or SET.

@@ -1,13 +1,14 @@
 //! Types (X.680 clauses 17 to 31).
 
-use crate::extension::{Extension, Stage};
 use crate::prefixes::{skip_constraints, skip_size, tag_at};
 use crate::references::{named_type_at, part_name_at};
 use crate::tree::{Alternative, Alternatives, Component, Components, Form, Presence, Type};
 use crate::values::value_at;
 use crate::words::word_type_at;
 use lexis::Word as Reserved;
-use published_tokens::{Kind, MAX_LEVELS, MAX_PARTS, Place, Reader, Reason, Stop, Symbol};
+use published_tokens::{
+    Extension, Kind, MAX_LEVELS, MAX_PARTS, Place, Reader, Reason, Section, Stop, Symbol,
+};
 use std::mem::drop;
 use syntax::Group;
 
@@ -78,7 +79,7 @@ fn list_at(reader: &mut Reader, levels: u32, group: Group) -> Result<Form, Stop>
     for turn in 0..=MAX_PARTS {
         if !extension.begin(reader)? {
             let component = component_at(reader, levels, turn, extension.group)?;
-            found.put(extension.stage(), component)?;
+            found.put(extension.section(), component)?;
         }
         if extension.end(reader)? {
             found.marker = extension.marker;
@@ -133,10 +134,10 @@ fn choice_at(reader: &mut Reader, levels: u32) -> Result<Form, Stop> {
     for turn in 0..=MAX_PARTS {
         if !extension.begin(reader)? {
             let alternative = alternative_at(reader, levels, turn)?;
-            match extension.stage() {
-                Stage::Root => found.root.push(alternative)?,
-                Stage::Additions => found.additions.push(alternative)?,
-                Stage::Tail => {
+            match extension.section() {
+                Section::Root => found.root.push(alternative)?,
+                Section::Additions => found.additions.push(alternative)?,
+                Section::Tail => {
                     drop(alternative);
                     return Err(reader.refuse());
                 }

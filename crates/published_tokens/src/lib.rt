@@ -3,10 +3,13 @@
 //! Inside a module a text is gaps and tokens: a gap is white space, comments, and the feet and heads of
 //! pages. Outside a module it is prose, which has no grammar, and is cut into words, marks and the rest;
 //! `next_head` finds in it where a module begins. A `Reader` has one token of the module in front, and what a tree
-//! leaves out is passed by its brackets.
+//! leaves out is passed by its brackets. What a token decides by itself is told here too: the class and the keyword
+//! of a tag, whether a field is an open type, and which part of a list with extension markers a component is of.
 #![tactic(auto)]
 
+mod extension;
 mod fault;
+mod fields;
 mod front;
 mod gap;
 mod heads;
@@ -20,10 +23,13 @@ mod scanner;
 mod skipping;
 mod stop;
 mod symbol;
+mod tags;
 mod token;
 mod word;
 
+pub use extension::{Extension, Section};
 pub use fault::{Fault, Reason};
+pub use fields::is_open_before;
 pub use heads::{Head, next_head};
 pub use place::Place;
 pub use reader::{Reader, Word};
@@ -33,6 +39,7 @@ pub use skipping::{
 };
 pub use stop::Stop;
 pub use symbol::Symbol;
+pub use tags::{TagClass, class_of, mode_of};
 pub use token::{Kind, Token};
 
 /// The most octets of a file, 16 MiB.

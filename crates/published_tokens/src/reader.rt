@@ -56,12 +56,16 @@ impl<'a> Reader<'a> {
     }
 
     /// What the token in front is.
-    pub fn kind(&self) -> Kind {
+    pub fn kind(&self) -> Kind
+        ensures { result ≡ self.now.front.kind }
+    {
         self.front.kind
     }
 
     /// Where the token in front begins.
-    pub fn place(&self) -> Place {
+    pub fn place(&self) -> Place
+        ensures { result ≡ self.now.front.place }
+    {
         self.front.place
     }
 

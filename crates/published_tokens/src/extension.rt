@@ -1,13 +1,18 @@
 //! Extension markers in lists of components, alternatives and items (X.680 clauses 20, 25 and 29).
 
 ghost use Rattle.std.specs.Prelude.{◌≡◌, ◌≤◌};
-ghost use Rattle.published.specs.Stages.{stage_of};
+ghost use Rattle.published_tokens.specs.Sections.{section_of};
 
-use published_tokens::{Kind, Place, Reader, Stop, Symbol, skip_to_end_of_part};
+use crate::place::Place;
+use crate::reader::Reader;
+use crate::skipping::skip_to_end_of_part;
+use crate::stop::Stop;
+use crate::symbol::Symbol;
+use crate::token::Kind;
 
 /// The part of a list that a component belongs to.
 #[derive(Clone, Copy, Debug, PartialEq, Eq)]
-pub(crate) enum Stage {
+pub enum Section {
     /// The root, before the first `...`.
     Root,
     /// The additions.
@@ -18,7 +23,7 @@ pub(crate) enum Stage {
 
 /// How far a list has come.
 #[derive(Clone, Copy, Debug)]
-pub(crate) struct Extension {
+pub struct Extension {
     /// Where the first `...` stands.
     pub marker: Option<Place>,
     /// Where the `[[` stands that is open.
@@ -28,7 +33,7 @@ pub(crate) struct Extension {
 
 impl Extension {
     /// At the beginning of a list.
-    pub(crate) fn new() -> Extension {
+    pub fn new() -> Extension {
         Extension {
             marker: None,
             group: None,
@@ -36,20 +41,21 @@ impl Extension {
         }
     }
 
-    /// The part of the list that stands here.
-    pub(crate) fn stage(&self) -> Stage
-        ensures { result ≡ stage_of self.now.markers }
+    /// The part of the list that stands here, by how many `...` were passed: none, one or two. Takes
+    /// no memory.
+    pub fn section(&self) -> Section
+        ensures { result ≡ section_of self.now.markers }
     {
         match self.markers {
-            0 => Stage::Root,
-            1 => Stage::Additions,
-            _ => Stage::Tail,
+            0 => Section::Root,
+            1 => Section::Additions,
+            _ => Section::Tail,
         }
     }
 
     /// Passes what stands before a component: `[[` and a version number. True: it was `...` instead, with
-    /// its exception.
-    pub(crate) fn begin(&mut self, reader: &mut Reader) -> Result<bool, Stop> {
+    /// its exception. A third `...` is refused, and `[[` anywhere but among the additions.
+    pub fn begin(&mut self, reader: &mut Reader) -> Result<bool, Stop> {
         if self.group.is_some() {
             return Ok(false);
         }
@@ -91,8 +97,9 @@ impl Extension {
         Ok(())
     }
 
-    /// Passes what stands behind a component: `]]`, and then `,` (false) or the `}` of the list (true).
-    pub(crate) fn end(&mut self, reader: &mut Reader) -> Result<bool, Stop> {
+    /// Passes what stands behind a component: `]]`, and then `,` (false) or the `}` of the list (true), which is
+    /// refused while a `[[` is open.
+    pub fn end(&mut self, reader: &mut Reader) -> Result<bool, Stop> {
         if self.group.is_some() && reader.passes_symbol(Symbol::CloseGroup) {
             self.group = None;
         }
