@@ -5,7 +5,8 @@
 
 The command is `rt ci` where none is given. Of each process below it the time is read off once a second; of one that
 ends between two looks the last second is lost. What is kept from an earlier run is not proved again and costs nothing
-here, so the table of CONTRIBUTING.md is made on a machine that has kept nothing. The status is the command's.
+here, so the table of CONTRIBUTING.md is made on a machine that has kept nothing. Behind it stand the dearest edits, in
+seconds. The status is the command's.
 """
 
 import os
@@ -30,8 +31,15 @@ def crate_and_kind(words):
     return crate, "tests" if "--test" in words else "proof"
 
 
-def look(session, seen):
-    """Notes the time of each process of the session, by the process and when it began."""
+def edit_tried(words):
+    """The place of the edit that is tried among those of its crate, if one is: the last part of the folder worked in."""
+    at = words[words.index("--incremental") + 1] if "--incremental" in words[:-1] else ""
+    number = at.rpartition("/")[2]
+    return int(number) if "rt-edits" in at and number.isdigit() else None
+
+
+def look(session, seen, edits):
+    """Notes the time of each process of the session, by the process and when it began, and that of each edit."""
     for number in filter(str.isdigit, os.listdir("/proc")):
         try:
             stat = Path("/proc", number, "stat").read_text()
@@ -45,6 +53,8 @@ def look(session, seen):
         # One that has ended has no words any more.
         known = crate_and_kind(words) if any(words) else seen.get(key, (None, "rest"))[:2]
         seen[key] = (*known, spent)
+        if (place := edit_tried(words)) is not None:
+            edits[known[0], place] = spent
 
 
 def minutes(seconds):
@@ -76,13 +86,19 @@ def table(seen):
     print(f"\nbesides: {minutes(spent[None]['rest'])}; in all: {minutes(sum(s for _, _, s in seen.values()))}")
 
 
+def dearest(edits):
+    for (crate, number), spent in sorted(edits.items(), key=lambda it: -it[1])[:20]:
+        print(f"{spent:.0f} {crate}: {sorted((TOP / 'crates' / crate / 'must-fail').glob('*.edit'))[number].stem}")
+
+
 def main():
-    seen = {}
+    seen, edits = {}, {}
     run = subprocess.Popen(sys.argv[1:] or ["rt", "ci"], start_new_session=True)
     while run.poll() is None:
-        look(run.pid, seen)
+        look(run.pid, seen, edits)
         time.sleep(1)
     table(seen)
+    dearest(edits)
     return run.returncode
 
 
