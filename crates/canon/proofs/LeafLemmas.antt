@@ -23,7 +23,7 @@ use Rattle.types.specs.Strings.{AreCerSegments, IsStringEncoding, bit_segment, o
 use Rattle.types.proofs.CerLemmas.{same_fronts, bits_by_der, bits_by_cer, one_der_bits}
 use Rattle.types.proofs.EncodingLemmas.{simple-injective}
 use Rattle.types.proofs.OneLeafEncodingLemmas.{one_string}
-use Rattle.canon.specs.Leaf.{IsLeafOf, IsLeaf, IsSimple, IsWithin, IsSimplyEncoded, IsLeafEncoding}
+use Rattle.canon.specs.Leaf.{IsLeafOf, IsLeafValue, IsSimple, IsWithin, IsSimplyEncoded, IsLeafEncoding}
 use Rattle.canon.specs.Size.{HasSize}
 use Rattle.canon.specs.Segments.{AreSegmentsOf, IsWholeString, IsCutString, IsStringOf}
 use Rattle.canon.proofs.AlikeLemmas.{HoldAlike, size_alike}
@@ -133,28 +133,28 @@ pub bits_size : (rule : Canonical) (tag : Tag) (value : Value) (bits : List Bool
 bits_size rule tag value bits unused string size is kept padded h =
     subst (λ v. HasSize (IsLeafEncoding (rule_of rule) tag v) size) (sym (ap value_view is ∙ value-Bits bits)) (size_alike _ _ size (bits_alike rule tag bits unused string kept padded) h)
 
-pub octets_size : (rule : Canonical) (tag : Tag) (value : Value) (octets : Vec ℕ Global) (size : ℕ) → (value ≡ value_is.Octets octets) ⊎ (value ≡ value_is.Text octets) → tag.number ≤ MAX_TAG_NUMBER → IsLeaf (value_view value)
+pub octets_size : (rule : Canonical) (tag : Tag) (value : Value) (octets : Vec ℕ Global) (size : ℕ) → (value ≡ value_is.Octets octets) ⊎ (value ≡ value_is.Text octets) → tag.number ≤ MAX_TAG_NUMBER → IsLeafValue (value_view value)
     → HasSize (IsStringOf (rule_of rule) tag octet_segment [] [] octets.items) size → HasSize (IsLeafEncoding (rule_of rule) tag (value_view value)) size
 octets_size rule tag value octets size (inl is) kept leaf h =
     let same = ap value_view is ∙ value-Octets octets in
-    subst (λ v. HasSize (IsLeafEncoding (rule_of rule) tag v) size) (sym same) (size_alike _ _ size (octets_alike rule tag octets.items kept (subst IsLeaf same leaf)) h)
+    subst (λ v. HasSize (IsLeafEncoding (rule_of rule) tag v) size) (sym same) (size_alike _ _ size (octets_alike rule tag octets.items kept (subst IsLeafValue same leaf)) h)
 octets_size rule tag value octets size (inr is) kept leaf h =
     let same = ap value_view is ∙ value-Text octets in
-    subst (λ v. HasSize (IsLeafEncoding (rule_of rule) tag v) size) (sym same) (size_alike _ _ size (octets_alike rule tag octets.items kept (subst IsLeaf same leaf)) h)
+    subst (λ v. HasSize (IsLeafEncoding (rule_of rule) tag v) size) (sym same) (size_alike _ _ size (octets_alike rule tag octets.items kept (subst IsLeafValue same leaf)) h)
 
 pub bits_put : (rule : Canonical) (tag : Tag) (value : Value) (bits : List Bool) (unused : ℕ) (string : List ℕ) → value ≡ value_is.Bits bits → tag.number ≤ MAX_TAG_NUMBER → IsPadded bits string unused
     → (b : List ℕ) → IsStringOf (rule_of rule) tag bit_segment (0 ∷ []) (unused ∷ []) string b → IsLeafEncoding (rule_of rule) tag (value_view value) b
 bits_put rule tag value bits unused string is kept padded b h =
     subst (λ v. IsLeafEncoding (rule_of rule) tag v b) (sym (ap value_view is ∙ value-Bits bits)) ((bits_alike rule tag bits unused string kept padded).to b h)
 
-pub octets_put : (rule : Canonical) (tag : Tag) (value : Value) (octets : Vec ℕ Global) → (value ≡ value_is.Octets octets) ⊎ (value ≡ value_is.Text octets) → tag.number ≤ MAX_TAG_NUMBER → IsLeaf (value_view value)
+pub octets_put : (rule : Canonical) (tag : Tag) (value : Value) (octets : Vec ℕ Global) → (value ≡ value_is.Octets octets) ⊎ (value ≡ value_is.Text octets) → tag.number ≤ MAX_TAG_NUMBER → IsLeafValue (value_view value)
     → (b : List ℕ) → IsStringOf (rule_of rule) tag octet_segment [] [] octets.items b → IsLeafEncoding (rule_of rule) tag (value_view value) b
 octets_put rule tag value octets (inl is) kept leaf b h =
     let same = ap value_view is ∙ value-Octets octets in
-    subst (λ v. IsLeafEncoding (rule_of rule) tag v b) (sym same) ((octets_alike rule tag octets.items kept (subst IsLeaf same leaf)).to b h)
+    subst (λ v. IsLeafEncoding (rule_of rule) tag v b) (sym same) ((octets_alike rule tag octets.items kept (subst IsLeafValue same leaf)).to b h)
 octets_put rule tag value octets (inr is) kept leaf b h =
     let same = ap value_view is ∙ value-Text octets in
-    subst (λ v. IsLeafEncoding (rule_of rule) tag v b) (sym same) ((octets_alike rule tag octets.items kept (subst IsLeaf same leaf)).to b h)
+    subst (λ v. IsLeafEncoding (rule_of rule) tag v b) (sym same) ((octets_alike rule tag octets.items kept (subst IsLeafValue same leaf)).to b h)
 
 -- a value that conforms to a type without parts is within the limits
 simple_within : (type : SimpleType) (value : SimpleValue) → SimpleConforms type value → IsWithin value
@@ -167,7 +167,7 @@ simple_within SimpleType.oid (SimpleValue.oid arcs) c = c
 simple_within SimpleType.relative_oid (SimpleValue.relative_oid arcs) c = c
 simple_within type value c = elim c [ ]
 
-simple_is_leaf : (tag : Tag) (type : SimpleType) (v : Val) → Conforms (Shape.simple tag type) v → IsLeaf v
+simple_is_leaf : (tag : Tag) (type : SimpleType) (v : Val) → Conforms (Shape.simple tag type) v → IsLeafValue v
 simple_is_leaf tag type (Val.simple value) c = simple_within type value c
 simple_is_leaf tag type v c = elim c [ ]
 
@@ -175,7 +175,7 @@ conforms_simply : (tag : Tag) (type : SimpleType) (v : Val) → Conforms (Shape.
 conforms_simply tag type (Val.simple value) c = simple_within type value c
 conforms_simply tag type v c = elim c [ ]
 
-string_is_leaf : (tag : Tag) (type : StringType) (v : Val) → Conforms (Shape.string tag type) v → IsLeaf v
+string_is_leaf : (tag : Tag) (type : StringType) (v : Val) → Conforms (Shape.string tag type) v → IsLeafValue v
 string_is_leaf tag StringType.bit_string (Val.string (StringValue.bits bits)) c = tt
 string_is_leaf tag (StringType.named_bits names) (Val.string (StringValue.bits bits)) c = tt
 string_is_leaf tag StringType.octet_string (Val.string (StringValue.octets string)) c = c
@@ -183,7 +183,7 @@ string_is_leaf tag (StringType.text kind) (Val.string (StringValue.text string))
 string_is_leaf tag (StringType.time kind) (Val.string (StringValue.text string)) c = c.0
 string_is_leaf tag type v c = elim c [ ]
 
-pub leaf_conforms : (tag : Tag) (shape : Shape) (v : Val) → IsLeafOf tag shape → Conforms shape v → IsLeaf v
+pub leaf_conforms : (tag : Tag) (shape : Shape) (v : Val) → IsLeafOf tag shape → Conforms shape v → IsLeafValue v
 leaf_conforms tag shape v (inl h) c = simple_is_leaf tag h.0 v (subst (λ s. Conforms s v) h.1 c)
 leaf_conforms tag shape v (inr h) c = string_is_leaf tag h.0 v (subst (λ s. Conforms s v) h.1 c)
 

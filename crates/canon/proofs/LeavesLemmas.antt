@@ -9,20 +9,20 @@ use Rattle.types.specs.Shape.{Val, Shape}
 use Rattle.types.specs.View.{value_view}
 use Rattle.types.specs.Conforms.{Conforms}
 use Rattle.types.specs.Encoding.{Meaning, IsEncoding}
-use Rattle.canon.specs.Leaf.{IsLeaf, IsLeafEncoding, IsLeafOf}
+use Rattle.canon.specs.Leaf.{IsLeafValue, IsLeafEncoding, IsLeafOf}
 use Rattle.canon.specs.Node.{AreItems}
 use Rattle.canon.proofs.AlikeLemmas.{HoldAlike}
 use Rattle.canon.proofs.LeafLemmas.{leaf_alike, leaf_conforms}
 use Rattle.canon.proofs.OrderedLemmas.{taken, zip_push}
 use Rattle.canon.proofs.PartLemmas.{concat_push}
 
-pub leaf_at : (xs : List Value) (i : ℕ) (x : Value) → i < length xs → x ≡ get_or xs i x → AllByRecursion IsLeaf (map value_view xs) → IsLeaf (value_view x)
+pub leaf_at : (xs : List Value) (i : ℕ) (x : Value) → i < length xs → x ≡ get_or xs i x → AllByRecursion IsLeafValue (map value_view xs) → IsLeafValue (value_view x)
 leaf_at [] i x l at h = absurd (omega arith)
-leaf_at (y ∷ xs) zero x l at h = subst (λ (v : Value). IsLeaf (value_view v)) (sym at) h.0
+leaf_at (y ∷ xs) zero x l at h = subst (λ (v : Value). IsLeafValue (value_view v)) (sym at) h.0
 leaf_at (y ∷ xs) (suc i) x l at h = leaf_at xs i x (omega arith) at h.1
 
 module _ (tag : Tag) (shape : Shape) (is : IsLeafOf tag shape) where
-  pub leaves_conform : (vs : List Val) → AllByRecursion (Conforms shape) vs → AllByRecursion IsLeaf vs
+  pub leaves_conform : (vs : List Val) → AllByRecursion (Conforms shape) vs → AllByRecursion IsLeafValue vs
   leaves_conform [] c = tt
   leaves_conform (v ∷ vs) c = (leaf_conforms tag shape v is c.0, leaves_conform vs c.1)
 

@@ -28,12 +28,12 @@ IsWithin (SimpleValue.oid arcs) = IsOidValue arcs
 IsWithin (SimpleValue.relative_oid arcs) = IsRelativeOidValue arcs
 
 -- a value without parts, within the limits
-abbrev pub IsLeaf : Val → Type 0
-IsLeaf (Val.simple value) = IsWithin value
-IsLeaf (Val.string (StringValue.bits bits)) = ⊤
-IsLeaf (Val.string (StringValue.octets string)) = All (λ octet. octet < 256) string
-IsLeaf (Val.string (StringValue.text string)) = All (λ octet. octet < 256) string
-IsLeaf _ = ⊥
+abbrev pub IsLeafValue : Val → Type 0
+IsLeafValue (Val.simple value) = IsWithin value
+IsLeafValue (Val.string (StringValue.bits bits)) = ⊤
+IsLeafValue (Val.string (StringValue.octets string)) = All (λ octet. octet < 256) string
+IsLeafValue (Val.string (StringValue.text string)) = All (λ octet. octet < 256) string
+IsLeafValue _ = ⊥
 
 -- one whose encodings are primitive
 abbrev pub IsSimple : Val → Type 0

@@ -33,7 +33,7 @@ pub record AreItems (IsItem : Meaning) (values : List Val) (octets : List ℕ) :
   pub each : AllZip IsItem values encodings
   pub joined : octets ≡ concat encodings
 
--- the same in ascending order
+-- the encodings of items in ascending order, one after another
 pub record AreItemsInOrder (IsItem : Meaning) (values : List Val) (octets : List ℕ) : Type 0 where
   pub encodings : List (List ℕ)
   pub each : AllZip IsItem values encodings
@@ -48,7 +48,7 @@ pub record AreComponents (rule : Rule) (components : Components) (slots : Slots)
   pub each : AreSlotEncodings rule components slots encodings
   pub joined : octets ≡ concat (standing encodings)
 
--- the same in the order of tags
+-- the encodings of the components that are present in the order of their tags, one after another
 pub record AreComponentsByTag (rule : Rule) (components : Components) (slots : Slots) (octets : List ℕ) : Type 0 where
   pub encodings : List (Option (List ℕ))
   pub each : AreSlotEncodings rule components slots encodings

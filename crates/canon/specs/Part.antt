@@ -49,7 +49,7 @@ pub record IsArranged (from : ℕ) (spans : List Span) (old new : List ℕ) : Ty
   pub ascends : Ascends (map (part_of old) order)
   pub is : new ≡ take from old ++ concat (map (part_of old) order)
 
--- the same by their tags
+-- parts that were all that stood from an octet on stand there in the order of their tags
 pub record IsArrangedByTag (from : ℕ) (parts : List (Keyed Tag)) (old new : List ℕ) : Type 0 where
   pub order : List (Keyed Tag)
   pub permutes : IsPermutation parts order

@@ -2,7 +2,7 @@
 
 ghost use Rattle.std.specs.Prelude.{◌≡◌, IfOk};
 ghost use Rattle.types.specs.View.{value_view};
-ghost use Rattle.canon.specs.Leaf.{IsLeaf};
+ghost use Rattle.canon.specs.Leaf.{IsLeafValue};
 
 use octets::NoMemory;
 use primitives::Bits;
@@ -11,7 +11,7 @@ use types::Value;
 
 // A value like this one.
 pub(crate) fn copy_leaf(alloc: Global, value: &Value) -> Result<Value, NoMemory>
-    requires { IsLeaf (value_view value.now) }
+    requires { IsLeafValue (value_view value.now) }
     ensures { IfOk result (λ copy. value_view copy ≡ value_view value.now) }
 {
     match value {

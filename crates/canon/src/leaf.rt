@@ -5,7 +5,7 @@ ghost use Rattle.octets.specs.declared.TheConstants.{MAX_ENCODING, MAX_TAG_NUMBE
 ghost use Rattle.octets.specs.Rule.{der, rule_of};
 ghost use Rattle.types.specs.Shape.{SimpleValue, Val};
 ghost use Rattle.types.specs.View.{value_view};
-ghost use Rattle.canon.specs.Leaf.{IsLeaf, IsLeafEncoding, IsSimple, IsSimplyEncoded};
+ghost use Rattle.canon.specs.Leaf.{IsLeafValue, IsLeafEncoding, IsSimple, IsSimplyEncoded};
 ghost use Rattle.canon.specs.Size.{HasSize};
 ghost use Rattle.canon.specs.Writes.{Writes};
 
@@ -33,7 +33,7 @@ const OCTET_SEGMENT: Tag = Tag {
 // How many octets the encoding of a value under `tag` has.
 pub(crate) fn size_of_leaf(rule: Canonical, tag: Tag, value: &Value) -> usize
     requires tag { tag.number ≤ MAX_TAG_NUMBER }
-    requires leaf { IsLeaf (value_view value.now) }
+    requires leaf { IsLeafValue (value_view value.now) }
     ensures at_most { result ≤ MAX_ENCODING + 1 }
     ensures size { HasSize (IsLeafEncoding (rule_of rule) tag (value_view value.now)) result }
 {
@@ -60,7 +60,7 @@ pub(crate) fn put_leaf(
     out: &mut Vec<u8>,
 ) -> Result<(), NoMemory>
     requires tag { tag.number ≤ MAX_TAG_NUMBER }
-    requires leaf { IsLeaf (value_view value.now) }
+    requires leaf { IsLeafValue (value_view value.now) }
     ensures { Writes (IsLeafEncoding (rule_of rule) tag (value_view value.now)) result out.old.items out.new.items }
 {
     match value {

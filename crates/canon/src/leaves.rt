@@ -5,7 +5,7 @@ ghost use Rattle.std.specs.List.{AllByRecursion};
 ghost use Rattle.octets.specs.declared.TheConstants.{MAX_TAG_NUMBER};
 ghost use Rattle.octets.specs.Rule.{rule_of};
 ghost use Rattle.types.specs.View.{value_view};
-ghost use Rattle.canon.specs.Leaf.{IsLeaf, IsLeafEncoding};
+ghost use Rattle.canon.specs.Leaf.{IsLeafValue, IsLeafEncoding};
 ghost use Rattle.canon.specs.Node.{AreItems};
 ghost use Rattle.canon.specs.Writes.{Writes};
 
@@ -21,7 +21,7 @@ pub(crate) fn put_leaves(
     out: &mut Vec<u8>,
 ) -> Result<(), NoMemory>
     requires tag { tag.number ≤ MAX_TAG_NUMBER }
-    requires leaves { AllByRecursion IsLeaf (map value_view values.now) }
+    requires leaves { AllByRecursion IsLeafValue (map value_view values.now) }
     ensures { Writes (AreItems (IsLeafEncoding (rule_of rule) tag) (map value_view values.now))
         result out.old.items out.new.items }
 {

@@ -1,10 +1,9 @@
 //! Writers of the canonical encodings: CER and DER (X.690 clauses 9 to 11).
 //!
-//! Each gives a value one encoding, written from the first octet to the last: DER's length of a
-//! constructed encoding is put in its place once the contents octets stand, the heads of many explicit tags
-//! around long contents octets before these at once, and the parts of a SET or SET OF are put in order once
-//! they stand. Where an encoding is too long or memory runs out its octets are counted, without memory, so
-//! that the latter never hides the former.
+//! Each gives a value one encoding, written from the first octet to the last. What is known only once the contents
+//! octets stand is put in its place then: DER's length of a constructed encoding, the heads of many explicit tags
+//! around long contents octets, and the order of the parts of a SET or SET OF. Where an encoding is too long or memory
+//! runs out its octets are counted, without memory, so that the latter never hides the former.
 #![tactic(auto)]
 
 mod canon;
@@ -33,6 +32,3 @@ pub use canon::{Canon, Cer, Der};
 pub use laws::equal_in_order_exactly_if_same;
 pub use ordering::order;
 pub use sameness::same;
-
-/// The most contents octets of a primitive encoding of a string under CER (X.690 9.2).
-pub const SEGMENT_OCTETS: usize = 1_000;

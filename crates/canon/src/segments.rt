@@ -15,10 +15,10 @@ ghost use Rattle.canon.specs.Segments.{AreLeads, AreSegmentsOf, IsCutOf, IsStrin
 ghost use Rattle.canon.specs.Size.{HasSize};
 ghost use Rattle.canon.specs.Writes.{Writes};
 
-use crate::SEGMENT_OCTETS;
 use crate::heads::put_primitive_head;
 use crate::sizes::{size_of_definite, size_of_identifier, size_of_length};
 use octets::{Canonical, MAX_ENCODING, NoMemory, Tag, put_identifier};
+use types::SEGMENT_OCTETS;
 
 // How many octets an encoding under `tag` has of a string of so many octets, after so many others that
 // its contents octets begin with.

@@ -57,6 +57,7 @@ fn size_of_items(rule: Canonical, ty: &Ty, items: &[Value]) -> usize
     ensures size { HasSize
         (AreItems (IsEncoding (rule_of rule) (ty_view ty.now)) (map value_view items.now)) result }
 {
+    // From the last to the first, since the definitions add a first one to those behind it.
     let count = items.len();
     let mut total = 0usize;
     for done in 0..count {

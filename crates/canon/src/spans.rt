@@ -52,8 +52,8 @@ pub(crate) fn with_key_of(buffer: &[u8], span: Span) -> Keyed<u128>
     }
 }
 
-// Puts parts, which are all that stands from `from` on, in ascending order. Mostly they come in order, and
-// nothing is sorted or moved.
+// Puts parts, which are all that stands from `from` on, in ascending order (X.690 11.6). Mostly they come in order, and
+// nothing is sorted or moved. The order of lists of octets serves: parts that are in it are in that of padded ones.
 pub(crate) fn arrange(
     alloc: Global,
     out: &mut Vec<u8>,

@@ -1,9 +1,9 @@
-//! What writes by a canonical rule.
+//! What whole values are written by; how, say `writing` and `explicit`.
 
 use octets::Canonical;
 use std::alloc::Global;
 
-/// What writes by a rule.
+/// A canonical rule, and memory to order parts by.
 #[derive(Clone, Copy)]
 pub(crate) struct Writer {
     /// The memory for lists of parts, by which these are put in order.

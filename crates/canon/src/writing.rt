@@ -37,8 +37,8 @@ impl Writer {
         }
     }
 
-    // Appends the encoding of a value that has parts, of an alternative, or of a value under an explicit tag. The
-    // last needs none of the room that `put_constructed` takes on the stack.
+    // Appends the encoding of a value of a type that has parts. One under an explicit tag needs none of the room that
+    // `put_constructed` takes on the stack.
     #[cycle(writing)]
     #[inline(never)]
     fn put_node(self, ty: &Ty, value: &Value, out: &mut Vec<u8>) -> Result<(), NoMemory>
@@ -53,8 +53,8 @@ impl Writer {
         }
     }
 
-    // Appends the encoding of a value that has parts, of an alternative, or of a value under an explicit tag: items
-    // come here at once, unless they are of a CHOICE.
+    // Appends the encoding of a value of such a type with room for its parts. Items come here at once, unless they are
+    // of a CHOICE.
     #[cycle(writing)]
     #[inline(never)]
     fn put_constructed(self, ty: &Ty, value: &Value, out: &mut Vec<u8>) -> Result<(), NoMemory>
@@ -153,7 +153,7 @@ impl Writer {
         Ok(())
     }
 
-    // Appends the encodings of items in ascending order. Of one item there is nothing to order.
+    // Appends the encodings of items in ascending order (X.690 11.6). Of one item there is nothing to order.
     #[cycle(writing)]
     fn put_in_order(self, ty: &Ty, items: &[Value], out: &mut Vec<u8>) -> Result<(), NoMemory>
         requires { AreWritable (ty_view ty.now) (map value_view items.now) }

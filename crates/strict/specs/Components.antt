@@ -58,7 +58,7 @@ pub record AreComponentsRead (rule : Rule) (first others : List ComponentView) (
   pub joined : take used octets ≡ concat (standing encodings)
   pub forth : (more : List ℕ) → HasComponents rule (first ++ others) definite room (octets ++ more) → HasComponents rule others definite (room - used) (drop used octets ++ more)
 
--- the same of one component, whatever stands behind it
+-- the reading of one component, whatever components are behind it
 abbrev pub IsComponentRead : Rule → ComponentView → Bool → ℕ → List ℕ → Option Value → ℕ → Type 0
 IsComponentRead rule c definite room octets slot used = (others : List ComponentView) → RunsAreDistinct (components_of (c ∷ others)) → AllByRecursion IsGoodComponent others
     → AreComponentsRead rule (c ∷ []) others definite room octets (slot ∷ []) used

@@ -1,4 +1,4 @@
-//! Values of contents octets, made where they stay: a value is large to hand on.
+//! Encodings of types without parts, read into values where these stay: a value is large to hand on.
 
 ghost use Rattle.std.specs.Prelude.{◌≡◌, length, IsTrue, IfSome};
 ghost use Rattle.octets.specs.declared.canonical.Canonical.{Canonical};

@@ -113,7 +113,8 @@ fn read_growing(
     }
 }
 
-// Whether the encoding of an item comes before that of the last one, where they are to be ordered (X.690 11.6).
+// Whether the encoding of an item comes before that of the last one, where they are to be ordered (X.690 11.6). Nothing
+// is padded: two encodings that are equal with zeros behind the shorter one are equal (`encodings_that_tie_are_equal`).
 #[inline(always)]
 fn is_out_of_order(ordered: bool, item: &[u8], last: &[u8]) -> bool
     ensures { (IsTrue result → IsTrue ordered × IsTrue (is_lt (slice_cmp nat_cmp item.now last.now))) × (result ≡ false → IsTrue ordered → is_lt (slice_cmp nat_cmp item.now last.now) ≡ false) }

@@ -15,12 +15,12 @@ ghost use Rattle.strict.specs.Reading.{RefusesPart, IsRead};
 ghost use Rattle.strict.specs.Begun.{IsPrimitiveBegun};
 
 use crate::head::{is_inside_definite, is_shortest, read_its_tag, read_size};
-use crate::segments::{SEGMENT_OCTETS, read_cut};
+use crate::segments::read_cut;
 use crate::values::read_value;
 use encoding_parts::{can_have_length, contents_refusal, kind_of};
 use octets::{Canonical, Length, MAX_ENCODING, Tag, read_length};
 use std::alloc::Global;
-use types::{Refusal, Ty, Value};
+use types::{Refusal, SEGMENT_OCTETS, Ty, Value};
 
 // Reads the encoding at the front, of a type without parts under this tag, into the value, and returns how many octets
 // it has: at most `room`. Strings alone have constructed ones, and of CER the long ones. All values but those of BOOLEAN,

@@ -24,10 +24,7 @@ use encoding_parts::{Joined, Kind, read_tag, segment_tag};
 use octets::Tag;
 use primitives::Bits;
 use std::alloc::Global;
-use types::{Refusal, Ty, Value};
-
-// The most contents octets of a segment, and of a string that is not cut.
-pub const SEGMENT_OCTETS: usize = 1000;
+use types::{Refusal, SEGMENT_OCTETS, Ty, Value};
 
 // Reads the constructed encoding at the front, of a string of the kind, into the value, and returns how many octets it
 // has: at most `room`.

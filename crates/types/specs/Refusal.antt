@@ -63,19 +63,19 @@ abbrev pub IsFinal : Refusal → Type 0
 IsFinal Truncated = ⊥
 IsFinal refusal = IsOfOctets refusal
 
--- 1 to 11 and 17: what a BER reader over octets answers
+-- 1 to 11 and 17: what a BER reader over octets is refused with
 abbrev pub IsOfReading : Refusal → Type 0
 IsOfReading NotCanonical = ⊥
 IsOfReading NoMemory = ⊤
 IsOfReading refusal = IsOfOctets refusal
 
--- 14 and 17: what a writer answers
+-- 14 and 17: what a writer is refused with
 abbrev pub IsOfWriting : Refusal → Type 0
 IsOfWriting OutputTooLong = ⊤
 IsOfWriting NoMemory = ⊤
 IsOfWriting _ = ⊥
 
--- 1 to 12, 14 and 17: what a conversion of octets to octets answers
+-- 1 to 12, 14 and 17: what a conversion of octets to octets is refused with
 abbrev pub IsOfTranscoding : Refusal → Type 0
 IsOfTranscoding OutputTooLong = ⊤
 IsOfTranscoding NoMemory = ⊤

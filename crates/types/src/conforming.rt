@@ -20,6 +20,7 @@ pub fn conforms(ty: &Ty, value: &Value) -> bool
     match (ty, value) {
         (Ty::Boolean(_), Value::Boolean(_)) => true,
         (Ty::Integer(_), Value::Integer(number)) => {
+            // No effect at run time: the proof reads from this use that the number has 128 bits.
             let _in_range = *number;
             true
         }

@@ -32,6 +32,7 @@ fn least_of(alternatives: &[Alternative]) -> Tag
     requires { AllByRecursion IsNodeWithin (nodes_of (Shape.choice (alternatives_view alternatives.now))) }
     ensures { IsLeast (tags_of_alternatives (alternatives_view alternatives.now)) result }
 {
+    // From the last to the first: what is behind an alternative is a list of the definition.
     let last = alternatives.len() - 1;
     let mut least = least_tag(&alternatives[last].ty);
     for done in 0..last {

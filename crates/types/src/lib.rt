@@ -45,3 +45,6 @@ pub const MAX_LIST: usize = 256;
 
 /// The greatest number of a named bit.
 pub const MAX_NAMED_BIT: u32 = 65_535;
+
+/// The most contents octets that a string has under CER in an encoding that is not cut, and in a segment (X.690 9.2).
+pub const SEGMENT_OCTETS: usize = 1_000;

@@ -6,7 +6,7 @@ use Rattle.types.specs.declared.value.Value.{Value}
 use Rattle.types.specs.declared.value.Value as value_is
 use Rattle.types.specs.View.{value_view}
 use Rattle.types.proofs.ViewLemmas.{value-Boolean, value-Integer, value-WideInteger, value-Enumerated, value-Null, value-Oid, value-RelativeOid}
-use Rattle.canon.specs.Leaf.{IsLeaf, IsSimple}
+use Rattle.canon.specs.Leaf.{IsLeafValue, IsSimple}
 use Rattle.canon.proofs.AlikeLemmas.{size_alike}
 use Rattle.canon.proofs.LeafLemmas.{bits_size, octets_size, simply_alike}
 use Rattle.canon.proofs.SimpleLemmas.{simple_size}
@@ -42,7 +42,7 @@ pub returns-in-Boolean-clause-size : goal.returns-in-Boolean-clause-size
 returns-in-Boolean-clause-size c =
     let v = value_view c.args.value.now in
     let is = simple_view c.args.value.now c.in-Boolean.is in
-    let simple : IsSimple v = subst IsSimple (sym is.1) (subst IsLeaf is.1 c.requires.leaf) in
+    let simple : IsSimple v = subst IsSimple (sym is.1) (subst IsLeafValue is.1 c.requires.leaf) in
     size_alike _ _ c.size_of_definite.result (simply_alike (rule_of c.args.rule) c.args.tag v simple)
     (simple_size c.args.rule c.args.tag v c.size_of_contents.result c.size_of_definite.result c.requires.tag simple c.size_of_contents.ensures.at_most c.size_of_contents.ensures.size
     (λ inside octets same h. c.size_of_definite.ensures.size false inside octets same h))
