@@ -305,10 +305,10 @@ IsInteger-more negative m (x ∷ xs) above h =
 -- the last octets of a number stand at the end of eighteen places, two of which stay free, and `rest` is left to be
 -- spelt before them
 pub record IsSpelling (negative : Bool) (above rest start : ℕ) (spelt : List ℕ) : Type 0 where
-  pub some : 3 ≤ start
-  pub within : start ≤ 18
-  pub size : length spelt ≡ 18
-  pub room : 2 * rest < 256 ^ (start - 2)
+  pub some : 1 ≤ start
+  pub within : start ≤ 16
+  pub size : length spelt ≡ 16
+  pub room : 2 * rest < 256 ^ start
   pub joined : (b : List ℕ) → IsInteger (number_at negative rest) b → IsInteger (number_at negative above) (b ++ drop start spelt)
 
 some_room : (rest places : ℕ) → 2 * rest < 256 ^ places → 128 ≤ rest → 2 ≤ places
@@ -322,11 +322,10 @@ pub IsSpelling-step : (negative : Bool) (above rest start : ℕ) (spelt : List �
 IsSpelling-step negative above rest start spelt h big =
     let at = start - 1 in
     let d = last_octet_at negative rest in
-    let there = some_room rest (start - 2) h.room big in
+    let there = some_room rest start h.room big in
     let next : start ≡ at + 1 = omega arith in
     let more : drop at (set spelt at d) ≡ d ∷ drop start spelt = drop-set spelt at d (omega (arith, h.size, h.within)) ∙ ap (λ k. d ∷ drop k spelt) (sym next) in
-    let fewer : start - 2 ≡ (at - 2) + 1 = omega arith in
-    let power : 256 ^ (start - 2) ≡ 256 ^ (at - 2) * 256 = ap (λ k. 256 ^ k) fewer ∙ pow_more 256 (at - 2) in
+    let power : 256 ^ start ≡ 256 ^ at * 256 = ap (λ k. 256 ^ k) next ∙ pow_more 256 at in
     record {
       some = omega arith;
       within = omega (arith, h.within);

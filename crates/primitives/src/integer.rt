@@ -106,17 +106,15 @@ pub fn put_integer(out: &mut Vec<u8>, number: i128) -> Result<(), NoMemory>
     ensures appended { OnOk result (Appends (IsInteger number) out.old.items out.new.items) }
     ensures unchanged { OnErr result (out.new.items ≡ out.old.items) }
 {
-    let mut room = [0u8; 18];
+    let mut room = [0u8; 16];
     let start = integer_at_end(number, &mut room);
     out.extend_from_slice(&room[start..])?;
     Ok(())
 }
 
-/// Puts the contents octets of `number` at the end of the room, and returns where they begin: at most 16 octets, so
-/// that a head of two has room before them. Takes no memory.
-pub fn integer_at_end(number: i128, room: &mut [u8; 18]) -> usize
-    ensures few { 2 ≤ result }
-    ensures spelt { IsInteger number (drop result room.new) }
+// Puts the contents octets of `number` at the end of the room, and returns where they begin.
+fn integer_at_end(number: i128, room: &mut [u8; 16]) -> usize
+    ensures { IsInteger number (drop result room.new) }
 {
     if number < 0 {
         signed_at_end(true, (-1 - number) as u128, room)
@@ -126,13 +124,12 @@ pub fn integer_at_end(number: i128, room: &mut [u8; 18]) -> usize
 }
 
 // Puts the contents octets there of the number that stands `distance` above 0, or below -1.
-fn signed_at_end(negative: bool, distance: u128, room: &mut [u8; 18]) -> usize
+fn signed_at_end(negative: bool, distance: u128, room: &mut [u8; 16]) -> usize
     requires { distance < 2 ^ 127 }
-    ensures few { 2 ≤ result }
-    ensures spelt { IsInteger (number_at negative distance) (drop result room.new) }
+    ensures { IsInteger (number_at negative distance) (drop result room.new) }
 {
     // The octets come from the last to the first.
-    let mut start = 18usize;
+    let mut start = 16usize;
     let mut rest = distance;
     while rest >= 0x80 {
         start -= 1;

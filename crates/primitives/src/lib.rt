@@ -16,7 +16,7 @@ mod subidentifier;
 pub use bits::{Bits, put_bits, read_bits, read_bits_into};
 pub use boolean::{put_boolean, read_boolean};
 pub use fault::Fault;
-pub use integer::{integer_at_end, is_wide_integer, put_integer, read_integer};
+pub use integer::{is_wide_integer, put_integer, read_integer};
 pub use laws::{
     at_most_sixteen_octets, canonical_bits_are_ber, canonical_boolean_is_ber, one_bits_value,
     one_boolean_value, one_canonical_bits, one_canonical_boolean, one_integer_encoding,

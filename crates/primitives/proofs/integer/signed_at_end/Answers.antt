@@ -13,7 +13,7 @@ loop-rest-init c =
       size = c.told-room;
       room = omega (arith, whole, c.requires);
       joined = λ b h.
-          rw (drop_all 18 c.args.room.now (omega (arith, c.told-room)))
+          rw (drop_all 16 c.args.room.now (omega (arith, c.told-room)))
           (subst (IsInteger (number_at c.args.negative c.args.distance)) (sym (append-nil b)) h);
     }
 
@@ -24,6 +24,6 @@ loop-rest-preserved c =
 pub overflow_sub-start-2 : goal.overflow_sub-start-2
 overflow_sub-start-2 c = omega (arith, c.loop-rest.invariant.some)
 
-pub returns-clause-spelt : goal.returns-clause-spelt
-returns-clause-spelt c =
+pub returns : goal.returns
+returns c =
     rw c.last_octet-2.ensures (IsInteger-from_spelling c.args.negative c.args.distance c.loop-rest.rest c.loop-rest.start c.loop-rest.room c.loop-rest.invariant (omega (arith, c.loop-rest-test.false)))
