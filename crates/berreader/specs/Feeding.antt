@@ -1,4 +1,4 @@
--- What a reader over pieces has been fed, and what it answers to the next piece.
+-- What a reader over pieces has been fed, and what it returns of the next piece.
 use Rattle.std.specs.Prelude.{◌≡◌, ◌-◌, ◌≤◌, ⊤, ℕ, List, [], ◌++◌, length, take, Option, Some, None}
 use Rattle.octets.specs.declared.TheConstants.{MAX_ENCODING}
 use Rattle.octets.specs.Front.{HasFront}
@@ -114,7 +114,7 @@ pub record IsFinished (pieces : Pieces) : Type 0 where
   pub string : pieces.cursor.string ≡ None
   pub kept : pieces.pending.items ≡ []
 
--- the same of the answer of a public reader
+-- what comes of a piece, told as a step
 abbrev pub IsFedStep : Pieces → Pieces → List ℕ → List ℕ → step.Step → Type 0
 IsFedStep old new octets piece (step.TheVariants.Done value used) = IsDone (shape_of old) octets piece (value_view value) used × IsFresh new
 IsFedStep old new octets piece step.TheVariants.More = IsMore (shape_of old) new (octets ++ piece)

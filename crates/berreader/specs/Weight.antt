@@ -1,4 +1,4 @@
--- How much a reader over pieces holds, and how much what it answers weighs.
+-- How much a reader over pieces holds, and how much what it returns weighs.
 use Rattle.std.specs.Prelude.{◌+◌, ◌*◌, ◌≤◌, ⊤, ℕ, List, [], ◌∷◌, Some, None, length, map}
 use Rattle.types.specs.Shape.{Shape}
 use Rattle.types.specs.View.{items_of, slots_of, value_view}

@@ -98,7 +98,7 @@ impl<'a> Nest<'a> {
         }
     }
 
-    // Begins the constructed string at the front in `string`, and answers how many identifier octets and length
+    // Begins the constructed string at the front in `string`, and returns how many identifier octets and length
     // octets it has. A call of its own, since a string is large and the callers have other parts mostly.
     #[inline(never)]
     fn begin(

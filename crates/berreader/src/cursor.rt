@@ -37,7 +37,7 @@ impl<'a> Cursor<'a> {
         Cursor { nest, string: None }
     }
 
-    // Takes what stands next, and answers how many octets it has: in a string that has begun, and the
+    // Takes what stands next, and returns how many octets it has: in a string that has begun, and the
     // string itself once its last end has come; else in the innermost open encoding. A value that is whole
     // with them is put into `whole`.
     pub fn step(

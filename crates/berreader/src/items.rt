@@ -9,7 +9,7 @@ use types::Value;
 
 impl Cursor<'_> {
     // Takes the items at the front that are read at once, if no string has begun and the innermost open encoding is a
-    // list, and answers how many octets they have. The next one is then read step by step, and what is in it is not
+    // list, and returns how many octets they have. The next one is then read step by step, and what is in it is not
     // tried again: `stepped` is how many encodings were open around it, and more than any where there is none.
     pub fn take_items(
         &mut self,

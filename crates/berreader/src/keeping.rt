@@ -99,9 +99,10 @@ fn octets_missing(kept: &[u8]) -> usize
         return 1;
     };
     match read_length(&kept[used..]) {
-        Length::Definite { octets, used: size } => {
-            (used + size + octets).saturating_sub(kept.len()).max(1)
-        }
+        Length::Definite {
+            octets,
+            used: counted,
+        } => { (used + counted + octets).saturating_sub(kept.len()).max(1) }
         Length::Indefinite { .. } => usize::MAX,
         Length::More | Length::Bad => 1,
     }

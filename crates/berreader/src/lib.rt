@@ -18,6 +18,5 @@ mod reader;
 mod reading;
 mod stack;
 
-pub use berslice::MAX_NESTED;
 pub use reader::{Reader, Step};
 pub use reading::read;

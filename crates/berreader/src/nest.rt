@@ -56,7 +56,7 @@ pub struct OpenString<'a> {
 }
 
 impl<'a> Nest<'a> {
-    // Takes what stands next, and answers how many octets it has: the end of the innermost open encoding, a
+    // Takes what stands next, and returns how many octets it has: the end of the innermost open encoding, a
     // part without parts, or the identifier octets and length octets of another. A constructed string is begun
     // in `string`: its identifier octets and length octets are counted, and the nest stays before them. A
     // value that is whole with them is put into `whole`.

@@ -8,7 +8,7 @@ use std::alloc::Global;
 use std::marker::Model;
 use types::{Refusal, Value, WellTyped};
 
-/// What a reader answers to a piece.
+/// What a reader returns of a piece.
 #[derive(Debug, Drop)]
 pub enum Step {
     /// The whole piece was taken, and no value is complete.
@@ -74,11 +74,11 @@ impl<'a> Reader<'a> {
 
     /// Takes a piece, from where the one before it ended. `Done` comes with the piece that completes a value, says
     /// how many octets of the piece do, and leaves the reader as it was made; the octets behind them are not
-    /// looked at. `More` says that the whole piece was taken. Until a refusal an empty
-    /// piece is answered `More`, and changes nothing.
+    /// looked at. `More` says that the whole piece was taken. Until a refusal `More` comes of an empty piece, which
+    /// changes nothing.
     ///
     /// Refused with one of the refusals 2 to 11 where no octets that begin with those that have come could be
-    /// accepted, and with `NoMemory`. After a refusal it is answered again, and nothing is taken.
+    /// accepted, and with `NoMemory`. After a refusal it comes again, and nothing is taken.
     ///
     /// At most 64 constructed encodings are open at its end. What the reader then holds weighs at most as much as
     /// the type has nodes, times one more than the octets of the value that is begun; so does a value.
@@ -104,7 +104,7 @@ impl<'a> Reader<'a> {
         Ok(Step::Done { value, used })
     }
 
-    /// Takes a piece as `feed` does, which answers `Done` where the slot then holds the value, of which so many octets
+    /// Takes a piece as `feed` does, which returns `Done` where the slot then holds the value, of which so many octets
     /// of the piece are the last, and `More` where it is empty. The value goes into the room of the one that the slot
     /// held, as far as it has room there; one that pieces cut, into the items of a list alone, which the reader keeps
     /// until then, beside what `held` counts.

@@ -112,7 +112,7 @@ impl<'a> Stack<'a> {
     }
 
     // Takes the items at the front that are read at once, behind so many octets of the value, if the innermost one is a
-    // list and they end within it, and answers how many octets they have.
+    // list and they end within it, and returns how many octets they have.
     pub fn take_items(
         &mut self,
         alloc: Global,

@@ -14,7 +14,7 @@ use octets::{Class, Head, Length, Tag, read_identifier, read_length};
 pub struct Inside<'a> {
     /// What stands behind them: of the definite form the contents octets, and else all that is there.
     pub octets: &'a [u8],
-    /// How many octets they are.
+    /// How many identifier octets and length octets stand before that.
     pub start: usize,
     /// Whether the encoding has the definite form.
     pub definite: bool,

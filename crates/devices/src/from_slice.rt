@@ -1,6 +1,6 @@
 //! A source over a slice.
 
-ghost use Rattle.std.specs.Prelude.{◌≡◌, ℕ, List, Some, IsOk};
+ghost use Rattle.std.specs.Prelude.{◌≡◌, ℕ, List, Some};
 ghost use Rattle.std.specs.Io.{ReadsAtMost};
 ghost use Rattle.std.specs.Io.KnownBytes.{ReadConsumes};
 ghost use Rattle.devices.specs.Failures.{CountsFailure};
@@ -43,8 +43,7 @@ impl Source for FromSlice<'_> {
     fn read(&mut self, buffer: &mut [u8]) -> Result<usize, Failed>
         ensures bound { ReadsAtMost result buffer.new }
         ensures octets { ReadConsumes (Some self.old) (Some self.new) result buffer.new }
-        ensures count { CountsFailure result 0 }
-        ensures never_fails { IsOk result }
+        ensures never_fails { CountsFailure result 0 }
     {
         let count = self.octets.len().min(buffer.len());
         let (given, rest) = self.octets.split_at(count);

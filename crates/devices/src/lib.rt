@@ -18,7 +18,7 @@ mod writing;
 pub use failed::Failed;
 pub use from_reader::FromReader;
 pub use from_slice::FromSlice;
-pub use piece::{PIECE_OCTETS, Piece};
+pub use piece::Piece;
 pub use sink::Sink;
 pub use source::Source;
 pub use to_vec::ToVec;

@@ -7,8 +7,8 @@ ghost use Rattle.devices.specs.Failures.{CountsFailure};
 use crate::{Failed, Source};
 use std::marker::Model;
 
-/// The most octets of a piece.
-pub const PIECE_OCTETS: usize = 131_072;
+// The most octets of a piece.
+const PIECE_OCTETS: usize = 131_072;
 
 /// The octets that one read of a source gave, in room that every read uses again.
 #[derive(Drop)]

@@ -97,7 +97,7 @@ impl<'a> HeldParts<'a> {
         }
     }
 
-    /// Puts the value that has come for this part, which `due` answered. Components of a SEQUENCE that stand before
+    /// Puts the value that has come for this part, which `due` returned. Components of a SEQUENCE that stand before
     /// it are passed over, and a value that is its component's default leaves an empty slot.
     ///
     /// Refused where memory runs out.

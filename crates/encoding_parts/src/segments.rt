@@ -66,7 +66,7 @@ impl Segments {
         self.frames.is_empty()
     }
 
-    /// Takes what stands next at the front of `octets`, and answers how many octets it has: the end of the
+    /// Takes what stands next at the front of `octets`, and returns how many octets it has: the end of the
     /// innermost open encoding, a primitive segment or several that two octets each stand before, or the identifier
     /// octets and length octets of a constructed one (X.690 8.6.4 and 8.7.3). After `Truncated` nothing has been taken.
     ///
@@ -101,7 +101,7 @@ impl Segments {
         }
     }
 
-    // Takes what stands next in the innermost open encoding, and answers how many octets it has: its
+    // Takes what stands next in the innermost open encoding, and returns how many octets it has: its
     // end, a primitive segment, or the identifier octets and length octets of a constructed one.
     #[inline(always)]
     fn step(&mut self, kind: Kind, frame: Frame, octets: &[u8]) -> Result<usize, Refusal>
@@ -160,7 +160,7 @@ impl Segments {
         short_primitive(segment_tag(kind), room, octets)
     }
 
-    // Takes the short primitive segments that follow one another at the front, and answers how many octets they have.
+    // Takes the short primitive segments that follow one another at the front, and returns how many octets they have.
     // One that is refused, or for which there is no memory, is left to the call that finds it first, which says why.
     fn join_run(&mut self, kind: Kind, frame: Frame, octets: &[u8]) -> usize
         requires top { IsTop frame self.old.frames.items }
