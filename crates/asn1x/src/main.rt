@@ -19,7 +19,7 @@ fn run_line(rt: &HostRuntime, line: &Line) -> u8 {
         return cannot_share_input(rt.alloc(), &mut err);
     }
     match module_octets(rt, line.module.as_str()) {
-        Ok(module) => run_over(rt, line, module.as_slice()),
+        Ok(module) => open_input(rt, line, module.as_slice()),
         Err(error) => cannot_read_module(rt.alloc(), line.module.as_str(), &error, &mut err),
     }
 }
@@ -36,7 +36,7 @@ fn module_octets(rt: &HostRuntime, path: &str) -> io::Result<Vec<u8>> {
 }
 
 // Opens the input and runs a command line over it.
-fn run_over(rt: &HostRuntime, line: &Line, module: &[u8]) -> u8 {
+fn open_input(rt: &HostRuntime, line: &Line, module: &[u8]) -> u8 {
     let path = line.input.as_str();
     if path == "-" {
         return run_from(rt, line, module, &mut rt.stdin());

@@ -15,7 +15,8 @@ use std::alloc::Global;
 use std::io::{self, Read};
 use types::WellTyped;
 
-/// The type that the module in these octets means by the name.
+/// The type that the module in these octets, of at most 262,144, means by the name. Refused with the faults 21 to 32, of
+/// which 21 and 31 stand at 1:1 where the octets are no UTF-8 or too many, and with 33 where memory runs out.
 pub fn type_from(alloc: Global, octets: &[u8], name: &str) -> Result<WellTyped, notation::Fault>
     ensures value { IfOk result (λ ty. FileMeans octets.now name.now (ty_view ty)) }
     ensures only { IfOk result (λ ty. (other : Shape) → FileMeans octets.now name.now other → other ≡ ty_view ty) }
@@ -57,7 +58,8 @@ fn at_front(number: u32) -> notation::Fault
     }
 }
 
-/// The octets of a module's file, or so many of them that it is seen to be too long.
+/// The octets of a module's file, or so many of them that it is seen to be too long: 262,145. It fails where the file
+/// does, or memory runs out, which is the error `OutOfMemory`.
 pub fn read_module<R: Read>(alloc: Global, file: &mut R) -> io::Result<Vec<u8>>
     ensures { IfOk result (λ octets. IfSome (R.remaining file.old) (λ left. octets.items ≡ take 262_145 left)) }
 {

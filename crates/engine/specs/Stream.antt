@@ -99,7 +99,7 @@ pub record IsStopped (Stands : Meaning) (from : Rule) (shape : Shape) (done : �
   pub refused : Refuses from shape refusal stream rest
   pub unwritten : RefusesToWrite from shape Stands refusal rest part
 
--- the same of a call that writes nothing
+-- a call that writes nothing stopped at a refusal behind so many values
 pub record IsCheckStopped (from : Rule) (shape : Shape) (done : ℕ) (refusal : Refusal) (stream : List ℕ) : Type 0 where
   pub values : List Val
   pub counted : length values ≡ done

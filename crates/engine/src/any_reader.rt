@@ -36,7 +36,7 @@ impl<'a> AnyReader<'a> {
     }
 
     /// Takes octets of a piece up to the end of a value, which is then in the slot, in the room of the one that was
-    /// there, and returns how many; or takes all of them, and empties the slot.
+    /// there, and returns how many; or takes all of them, and empties the slot: the number then says nothing.
     #[inline(always)]
     pub fn feed(&mut self, piece: &[u8], slot: &mut Option<Value>) -> Result<usize, Refusal>
         requires { (shape : Shape) × (old : List ℕ) × StandsBy shape self.old old }

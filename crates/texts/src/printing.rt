@@ -10,8 +10,8 @@ use octets::NoMemory;
 use std::string::String;
 use types::{Field, Ty, Value};
 
-/// Appends the text of `value`, the items of a SET OF in the order in which they stand; nothing where it is none of the
-/// type.
+/// Appends the text of `value`, the items of a SET OF in the order in which they stand, and nothing for a part that is of
+/// another kind than the type's. Where memory runs out a front of it may stand there.
 #[cycle(printing)]
 pub fn put_value(ty: &Ty, value: &Value, out: &mut String) -> Result<(), NoMemory>
     ensures { OnOk result (string_bytes out.new ≡ string_bytes out.old ++ text_of (ty_view ty.now) (value_view value.now)) }
