@@ -5,7 +5,7 @@ mod command_line;
 mod commands;
 mod fault;
 mod hex_sink;
-mod missing_files;
+mod opening;
 mod output;
 mod printed_path;
 mod running;
@@ -14,7 +14,7 @@ mod words;
 
 pub use command_line::{Line, Verb};
 pub use command_words::{CommandLine, LineFault};
-pub use missing_files::{cannot_open, cannot_read_module, cannot_share_input};
+pub use opening::{cannot_open, cannot_read_module, cannot_share_input};
 pub use printed_path::PrintedPath;
 pub use running::run;
 pub use words::line;

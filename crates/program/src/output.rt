@@ -4,7 +4,8 @@ ghost use Rattle.program.specs.Output.{with_name};
 
 use std::io::{self, Write};
 
-/// A writer that is lent, and tells which one it is.
+/// A writer that is lent, and tells which one it is: a call over a sink promises what it took, and not that it still
+/// writes to the same writer.
 #[derive(Drop)]
 pub struct Output<'a, W> {
     /// The writer.

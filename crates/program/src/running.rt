@@ -1,6 +1,6 @@
 //! The program once its files are open.
 
-ghost use Rattle.std.specs.Prelude.{◌≡◌, ◌↔◌, IsSome, IfSome, IfNone, IfOk, IfErr, take};
+ghost use Rattle.std.specs.Prelude.{◌≡◌, ◌↔◌, ◌⊎◌, IsSome, IfSome, IfNone, IfOk, IfErr, take};
 ghost use Rattle.types.specs.Shape.{Shape};
 ghost use Rattle.types.specs.View.{ty_view};
 ghost use Rattle.types.specs.WellFormed.{IsWellFormed};
@@ -36,6 +36,7 @@ pub fn run<R: Read, W: Write, E: Write>(
     ensures done { (result ≡ 0) → IsRun line.now «module».now (R.remaining input.old) (W.contents out.old) (W.contents out.new) }
     ensures stopped { (result ≡ 1) → IsRefusedRun line.now «module».now (R.remaining input.old) (W.contents out.old) (W.contents out.new) }
     ensures kept { (result ≡ 1) → line.now.verb ≡ Verb.Check → W.contents out.new ≡ W.contents out.old }
+    ensures quiet { (result ≡ 2) ⊎ (result ≡ 64) → W.contents out.new ≡ W.contents out.old }
 {
     let Some(task) = task_of(line) else {
         return 64;

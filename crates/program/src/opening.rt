@@ -1,4 +1,4 @@
-//! Files that cannot be opened or read.
+//! Files that cannot be opened, read or shared.
 
 ghost use Rattle.std.specs.Prelude.{◌≡◌, ◌↔◌, ◌⊎◌};
 ghost use Rattle.std.specs.IoError.{error_kind};
