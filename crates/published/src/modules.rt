@@ -32,7 +32,7 @@ pub fn read(alloc: Global, file: u32, text: &[u8]) -> Result<Published, AllocErr
         };
         let mut reader = Reader::new(alloc, scanner, parts);
         published.add_module(&mut reader, head)?;
-        scanner = reader.scanner();
+        scanner = reader.scanner;
         parts = reader.parts;
         if parts == 0 {
             break;

@@ -4,3 +4,4 @@ pub mod Gap
 pub mod Tags
 pub mod Fields
 pub mod Sections
+pub mod Readers

@@ -1,7 +1,9 @@
 //! Extension markers in lists of components, alternatives and items (X.680 clauses 20, 25 and 29).
 
-ghost use Rattle.std.specs.Prelude.{◌≡◌, ◌≤◌};
-ghost use Rattle.published_tokens.specs.Sections.{section_of};
+ghost use Rattle.std.specs.Prelude.{◌≡◌, ◌+◌, if◌then◌else◌, Some, None, Ok, false, unwrap_or, IfOk, IfErr, IsErrOf, OnOk, OnErr};
+ghost use Rattle.published_tokens.specs.Reasons.{refusal_of};
+ghost use Rattle.published_tokens.specs.Readers.{HasPassed};
+ghost use Rattle.published_tokens.specs.Sections.{section_of, behind_marker, behind_opening, before_component, behind_component, ends_with};
 
 use crate::place::Place;
 use crate::reader::Reader;
@@ -28,12 +30,15 @@ pub struct Extension {
     pub marker: Option<Place>,
     /// Where the `[[` stands that is open.
     pub group: Option<Place>,
-    markers: u32,
+    /// How many `...` were passed.
+    pub markers: u32,
 }
 
 impl Extension {
     /// At the beginning of a list.
-    pub fn new() -> Extension {
+    pub fn new() -> Extension
+        ensures { result ≡ record { marker = None; group = None; markers = 0 } }
+    {
         Extension {
             marker: None,
             group: None,
@@ -55,7 +60,15 @@ impl Extension {
 
     /// Passes what stands before a component: `[[` and a version number. True: it was `...` instead, with
     /// its exception. A third `...` is refused, and `[[` anywhere but among the additions.
-    pub fn begin(&mut self, reader: &mut Reader) -> Result<bool, Stop> {
+    pub fn begin(&mut self, reader: &mut Reader) -> Result<bool, Stop>
+        ensures list { self.new ≡ unwrap_or (before_component self.old reader.old.front) self.old }
+        ensures marker { IfOk result (λ is_marker.
+            self.new.markers ≡ self.old.markers + (if is_marker then 1 else 0)) }
+        ensures neither { before_component self.old reader.old.front ≡ Some self.old → result ≡ Ok false }
+        ensures refused { before_component self.old reader.old.front ≡ None
+            → IsErrOf result (refusal_of reader.old.front) }
+        ensures unchanged { self.new ≡ self.old → reader.new ≡ reader.old }
+    {
         if self.group.is_some() {
             return Ok(false);
         }
@@ -70,7 +83,12 @@ impl Extension {
     }
 
     // Passes `...` and its exception.
-    fn mark(&mut self, reader: &mut Reader) -> Result<(), Stop> {
+    fn mark(&mut self, reader: &mut Reader) -> Result<(), Stop>
+        ensures list { self.new ≡ unwrap_or (behind_marker self.old reader.old.front.place) self.old }
+        ensures refused { behind_marker self.old reader.old.front.place ≡ None
+            → IsErrOf result (refusal_of reader.old.front) }
+        ensures unchanged { self.new ≡ self.old → reader.new ≡ reader.old }
+    {
         if self.markers >= 2 {
             return Err(reader.refuse());
         }
@@ -84,7 +102,12 @@ impl Extension {
     }
 
     // Passes `[[` and a version number.
-    fn open(&mut self, reader: &mut Reader) -> Result<(), Stop> {
+    fn open(&mut self, reader: &mut Reader) -> Result<(), Stop>
+        ensures list { self.new ≡ unwrap_or (behind_opening self.old reader.old.front.place) self.old }
+        ensures refused { behind_opening self.old reader.old.front.place ≡ None
+            → IsErrOf result (refusal_of reader.old.front) }
+        ensures unchanged { self.old.group ≡ None → self.new ≡ self.old → reader.new ≡ reader.old }
+    {
         if self.markers != 1 {
             return Err(reader.refuse());
         }
@@ -99,7 +122,17 @@ impl Extension {
 
     /// Passes what stands behind a component: `]]`, and then `,` (false) or the `}` of the list (true), which is
     /// refused while a `[[` is open.
-    pub fn end(&mut self, reader: &mut Reader) -> Result<bool, Stop> {
+    pub fn end(&mut self, reader: &mut Reader) -> Result<bool, Stop>
+        ensures list { self.new ≡ behind_component self.old reader.old.front.kind }
+        // Where no `]]` was passed, the token in front alone says it.
+        ensures value { IfOk result (λ is_last. self.new ≡ self.old
+            → ends_with self.old reader.old.front.kind ≡ Some is_last) }
+        ensures refused { OnErr result (ends_with self.new reader.new.front.kind ≡ None) }
+        ensures refusal { IfErr result (λ stop. stop ≡ refusal_of reader.new.front) }
+        ensures passed { OnOk result (HasPassed reader.old reader.new) }
+        ensures unchanged { OnErr result (self.new ≡ self.old → reader.new ≡ reader.old) }
+        ensures parts { reader.new.parts ≡ reader.old.parts }
+    {
         if self.group.is_some() && reader.passes_symbol(Symbol::CloseGroup) {
             self.group = None;
         }
