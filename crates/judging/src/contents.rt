@@ -1,12 +1,14 @@
 //! Contents octets of types without parts: their values, why they have none, and what is not canonical in them.
 
-ghost use Rattle.std.specs.Prelude.{◌≡◌, ◌↔◌, IsTrue, IfOk, None, false};
+ghost use Rattle.std.specs.Prelude.{◌≡◌, ◌↔◌, ◌⊎◌, IsTrue, IfOk, IfErr, Some, option_map};
+ghost use Rattle.encoding_parts.specs.Contents.{HoldsNoValue, HoldsValue, IsOfContents, IsTextual};
+ghost use Rattle.octets.specs.Rule.{ber};
 ghost use Rattle.octets.specs.declared.tag.Tag.{Tag};
 ghost use Rattle.strings.specs.Alphabet.{IsText};
 ghost use Rattle.strings.specs.Time.{IsTime};
 ghost use Rattle.strings.specs.declared.text.TextKind.{TextKind};
 ghost use Rattle.strings.specs.declared.time.TimeKind.{TimeKind};
-ghost use Rattle.types.specs.Conforms.{Conforms};
+ghost use Rattle.types.specs.Refusal.{IsFinal};
 ghost use Rattle.types.specs.View.{ty_view, value_view};
 
 use crate::Reason;
@@ -17,13 +19,16 @@ use std::alloc::Global;
 use strings::{TextKind, TimeKind, allowed, is_time};
 use types::{Refusal, Ty, Value, are_equal};
 
-/// The value of contents octets, or why they have none and which of them shows it.
+/// The value of contents octets, or why there is none and which of them shows it.
 pub fn value_of<'a>(
     alloc: Global,
     node: &'a Ty,
     octets: &[u8],
 ) -> Result<Value, (Refusal, usize, Reason<'a>)>
-    ensures { IfOk result (λ value. Conforms (ty_view node.now) (value_view value)) }
+    ensures value { IfOk result (λ value. HoldsValue ber (ty_view node.now) (value_view value) octets.now) }
+    ensures none { IfErr result (λ why. IsFinal why.0 → HoldsNoValue ber (ty_view node.now) octets.now) }
+    ensures numbers { IfErr result (λ why. (why.0 ≡ Refusal.Form) ⊎ IsOfContents why.0) }
+    ensures memory { IfErr result (λ why. why.0 ≡ Refusal.NoMemory → why.2 ≡ Reason.NoMemory) }
 {
     if !node.has_no_parts() {
         return Err((Refusal::Form, 0, Reason::Primitive(node)));
@@ -31,9 +36,19 @@ pub fn value_of<'a>(
     match read_contents(alloc, node, octets) {
         Ok(value) => Ok(value),
         Err(refusal) => {
-            let (place, reason) = why_no_value(node, octets);
+            let (place, reason) = why_refused(refusal, node, octets);
             Err((refusal, place, reason))
         }
+    }
+}
+
+/// Why contents octets are refused so: that memory ran out, or why they have no value and which of them shows it.
+pub fn why_refused<'a>(refusal: Refusal, node: &'a Ty, octets: &[u8]) -> (usize, Reason<'a>)
+    ensures { refusal ≡ Refusal.NoMemory → result.1 ≡ Reason.NoMemory }
+{
+    match refusal {
+        Refusal::NoMemory => (0, Reason::NoMemory),
+        _ => why_no_value(node, octets),
     }
 }
 
@@ -98,6 +113,7 @@ fn why_no_text<'a>(node: &'a Ty, kind: TextKind, octets: &[u8]) -> (usize, Reaso
 pub fn is_string(node: &Ty, octets: &[u8]) -> bool
     ensures text { (tag : Tag) (kind : TextKind) → node.now ≡ Ty.Text tag kind → IsTrue result ↔ IsText kind octets.now }
     ensures time { (tag : Tag) (kind : TimeKind) → node.now ≡ Ty.Time tag kind → IsTrue result ↔ IsTime kind octets.now }
+    ensures other { ¬ IsTextual node.now → IsTrue result }
 {
     match node {
         Ty::Text(_, kind) => allowed(*kind, octets),
@@ -108,7 +124,7 @@ pub fn is_string(node: &Ty, octets: &[u8]) -> bool
 
 /// Whether the value is the default.
 pub fn is_spelt_out(default: Option<&Value>, value: &Value) -> bool
-    ensures { default.entry ≡ None → result ≡ false }
+    ensures { IsTrue result ↔ (option_map (λ d. value_view d.now) default.entry ≡ Some (value_view value.now)) }
 {
     match default {
         Some(default) => are_equal(default, value),

@@ -29,6 +29,8 @@ pub enum Reason<'a> {
     Octet(&'a Ty, u8),
     /// A number in a time.
     Number(&'static str, u8),
+    /// Memory ran out.
+    NoMemory,
 }
 
 impl fmt::Display for Reason<'_> {
@@ -65,6 +67,7 @@ impl fmt::Display for Reason<'_> {
                 write!(f, "{name} has no octet {octet:02X}")
             }
             Reason::Number(name, number) => write!(f, "the {name} is {number:02}"),
+            Reason::NoMemory => f.write_str("memory ran out"),
         }
     }
 }

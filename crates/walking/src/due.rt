@@ -175,7 +175,7 @@ fn why_not_due<'a>(refusal: Refusal, tag: Tag, missing: Option<&'a str>) -> Reas
         (Refusal::Missing, Some(name)) => Reason::Absent(name),
         (Refusal::Repeated, _) => Reason::Words("the component has come already"),
         (Refusal::EndOfContents, _) => Reason::Words("00 stands where a part must begin"),
-        (Refusal::NoMemory, _) => Reason::Words("memory ran out"),
+        (Refusal::NoMemory, _) => Reason::NoMemory,
         (_, _) => Reason::NotDue(tag),
     }
 }

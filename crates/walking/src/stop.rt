@@ -78,7 +78,7 @@ impl<'a> Walk<'a> {
     // Goes no further, since memory ran out.
     #[inline(never)]
     pub(crate) fn no_memory(&mut self) -> Stopped {
-        self.halt_here(Refusal::NoMemory, Reason::Words("memory ran out"))
+        self.halt_here(Refusal::NoMemory, Reason::NoMemory)
     }
 
     // Goes no further, since the part that is told is refused, for a fault before which so many octets stand.

@@ -5,7 +5,7 @@ use crate::opening::Opening;
 use crate::walk::behind;
 use crate::{Note, Notes, Reason, Stopped, Walk, What};
 use encoding_parts::{Frame, Kind, kind_of};
-use judging::{is_spelt_out, value_of, why_no_value};
+use judging::{is_spelt_out, value_of, why_refused};
 use octets::NoMemory;
 use primitives::read_bits;
 use types::{Refusal, Value};
@@ -137,14 +137,15 @@ impl<'a> Walk<'a> {
                     Ok(())
                 }
                 Err(fault) => {
-                    let (_, reason) = why_no_value(node, contents);
-                    Err((Refusal::from(fault), reason))
+                    let refusal = Refusal::from(fault);
+                    let (_, reason) = why_refused(refusal, node, contents);
+                    Err((refusal, reason))
                 }
             };
         }
         match self.joined.octets.extend_from_slice(contents) {
             Ok(()) => Ok(()),
-            Err(_) => Err((Refusal::NoMemory, Reason::Words("memory ran out"))),
+            Err(_) => Err((Refusal::NoMemory, Reason::NoMemory)),
         }
     }
 
