@@ -1,7 +1,9 @@
--- Refusals of heads.
+-- Refusals of heads, and faults of cutting.
 use Rattle.std.specs.Prelude.{⊤}
 use Rattle.types.specs.declared.refusal.Refusal.{Refusal}
 use Rattle.types.specs.declared.refusal.Refusal.TheVariants.{Identifier, Form, Length, EndOfContents}
+use Rattle.cutting.specs.declared.cutter.CutFault.{CutFault}
+use Rattle.cutting.specs.declared.cutter.CutFault.TheVariants.{Refused, Output}
 
 -- the refusals of identifier octets, of length octets, and of an end of contents that ends nothing
 abbrev pub IsOfHead : Refusal → Type 0
@@ -10,3 +12,8 @@ IsOfHead Form = ⊤
 IsOfHead Length = ⊤
 IsOfHead EndOfContents = ⊤
 IsOfHead _ = ⊥
+
+-- one of these, or that a file cannot be made or written
+abbrev pub IsOfCutting : CutFault → Type 0
+IsOfCutting (Refused refusal) = IsOfHead refusal
+IsOfCutting Output = ⊤

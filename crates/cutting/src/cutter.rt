@@ -1,7 +1,9 @@
 //! A stream in files, its octets unchanged.
 
-ghost use Rattle.std.specs.Prelude.{◌≡◌, ℕ, List, Option, IfErr, OnOk};
+ghost use Rattle.std.specs.Prelude.{◌≡◌, ◌≤◌, ◌↔◌, ℕ, List, Option, IsOk, IfErr, OnOk, length, take};
 ghost use Rattle.std.specs.Io.KnownBytes.{Appends};
+ghost use Rattle.cutting.specs.Refused.{IsOfCutting};
+ghost use Rattle.cutting.specs.Inside.{IsInside};
 
 use crate::Ends;
 use devices::Failed;
@@ -44,7 +46,9 @@ pub struct Cutter<K> {
 
 impl<K: Outputs> Cutter<K> {
     /// Nothing has been cut.
-    pub fn new(outputs: K, least: u64) -> Cutter<K> {
+    pub fn new(outputs: K, least: u64) -> Cutter<K>
+        ensures { (result.outputs ≡ outputs) × (result.least ≡ least) × ¬ IsInside result }
+    {
         Cutter {
             outputs,
             least,
@@ -61,7 +65,11 @@ impl<K: Outputs> Cutter<K> {
     /// Writes a piece of the stream, and ends a file behind each encoding with which it has so many octets. Where no
     /// encoding stands, what is before is written.
     pub fn take(&mut self, piece: &[u8]) -> Result<(), CutFault>
-        ensures { OnOk result (Appends (K.taken self.old.outputs) (K.taken self.new.outputs) piece.now) }
+        ensures whole { OnOk result (Appends (K.taken self.old.outputs) (K.taken self.new.outputs) piece.now) }
+        ensures front { IfErr result (λ fault. (refusal : Refusal) → fault ≡ CutFault.Refused refusal →
+            (n : ℕ) × (n ≤ length piece.now) × Appends (K.taken self.old.outputs) (K.taken self.new.outputs) (take n piece.now)) }
+        ensures numbers { IfErr result IsOfCutting }
+        ensures least { self.new.least ≡ self.old.least }
     {
         let mut from = 0;
         let mut at = 0;
@@ -85,7 +93,8 @@ impl<K: Outputs> Cutter<K> {
 
     /// Tells whether the stream may end here.
     pub fn finish(&self) -> Result<(), CutFault>
-        ensures { IfErr result (λ fault. fault ≡ CutFault.Refused Refusal.Truncated) }
+        ensures exact { IsOk result ↔ ¬ IsInside self.now }
+        ensures numbers { IfErr result (λ fault. fault ≡ CutFault.Refused Refusal.Truncated) }
     {
         if self.ends.is_inside() {
             return Err(CutFault::Refused(Refusal::Truncated));
@@ -99,7 +108,9 @@ impl<K: Outputs> Cutter<K> {
     }
 
     fn write(&mut self, octets: &[u8]) -> Result<(), CutFault>
-        ensures { OnOk result (Appends (K.taken self.old.outputs) (K.taken self.new.outputs) octets.now) }
+        ensures taken { OnOk result (Appends (K.taken self.old.outputs) (K.taken self.new.outputs) octets.now) }
+        ensures numbers { IfErr result (λ fault. fault ≡ CutFault.Output) }
+        ensures least { self.new.least ≡ self.old.least }
     {
         match self.outputs.write(octets) {
             Ok(()) => {
@@ -111,7 +122,9 @@ impl<K: Outputs> Cutter<K> {
     }
 
     fn end_file(&mut self) -> Result<(), CutFault>
-        ensures { OnOk result (K.taken self.new.outputs ≡ K.taken self.old.outputs) }
+        ensures taken { OnOk result (K.taken self.new.outputs ≡ K.taken self.old.outputs) }
+        ensures numbers { IfErr result (λ fault. fault ≡ CutFault.Output) }
+        ensures least { self.new.least ≡ self.old.least }
     {
         match self.outputs.end_file() {
             Ok(()) => {

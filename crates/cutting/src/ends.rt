@@ -1,6 +1,7 @@
 //! Where encodings end, by their heads alone.
 
-ghost use Rattle.std.specs.Prelude.{◌≤◌, ◌<◌, length, IfOk, IfErr, IfSome};
+ghost use Rattle.std.specs.Prelude.{◌≤◌, ◌<◌, ◌↔◌, length, IsTrue, IfOk, IfErr, IfSome};
+ghost use Rattle.cutting.specs.Inside.{IsBegun};
 ghost use Rattle.cutting.specs.Refused.{IsOfHead};
 
 use octets::{Head, Length, Tag, read_identifier, read_length};
@@ -34,7 +35,9 @@ enum Opened {
 
 impl Ends {
     /// No octet has come.
-    pub fn new() -> Ends {
+    pub fn new() -> Ends
+        ensures { ¬ IsBegun result }
+    {
         Ends {
             open: 0,
             left: 0,
@@ -50,7 +53,9 @@ impl Ends {
     }
 
     /// Whether an encoding is begun.
-    pub fn is_inside(&self) -> bool {
+    pub fn is_inside(&self) -> bool
+        ensures { IsTrue result ↔ IsBegun self.now }
+    {
         self.open > 0 || self.left > 0 || self.count > 0
     }
 
@@ -58,6 +63,7 @@ impl Ends {
     /// behind the piece. Refused where no encoding begins so.
     pub fn take(&mut self, piece: &[u8]) -> Result<Option<usize>, Refusal>
         ensures within { IfOk result (λ found. IfSome found (λ used. (0 < used) × (used ≤ length piece.now))) }
+        ensures ended { IfOk result (λ found. IfSome found (λ used. ¬ IsBegun self.new)) }
         ensures numbers { IfErr result IsOfHead }
     {
         let mut at = 0;

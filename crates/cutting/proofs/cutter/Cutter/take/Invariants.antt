@@ -1,4 +1,4 @@
-use Rattle.std.proofs.Common.{◌≤◌, length, take, ◌-◌}
+use Rattle.std.proofs.Common.{◌≡◌, ◌≤◌, length, take, ◌-◌}
 use Rattle.std.specs.Io.KnownBytes.{Appends}
 use Rattle.cutting.proofs.cutter.Cutter.take.Given as goal
 
@@ -7,6 +7,7 @@ invariant-loop-at g l = record {
   ordered : l.from ≤ l.at;
   within : l.at ≤ length l.piece;
   taken : Appends (g.K.Outputs.taken l.initial.self.outputs) (g.K.Outputs.taken l.self.outputs) (take l.from l.piece);
+  least : l.self.least ≡ l.initial.self.least;
 }
 
 abbrev pub decreases-loop-at : goal.decreases-loop-at
