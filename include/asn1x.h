@@ -61,14 +61,14 @@ typedef struct asn1x_type {
 typedef struct asn1x_fault {
     /* ASN1X_OK, 21 to 33, or ASN1X_WRONG_ARGUMENT. */
     uint32_t number;
-    /* From 1, a column for each octet of the line; 1 for a fault that has no place. */
+    /* From 1, a column for each octet of the line; 1 for a fault that has no place. 0 after ASN1X_OK. */
     uint32_t line;
     uint32_t column;
 } asn1x_fault;
 
 /* What a call over octets comes to: `asn1x` prints a refusal as `refused REFUSAL NAME after VALUES values`. */
 typedef struct asn1x_done {
-    /* ASN1X_OK, 1 to 17, or ASN1X_WRONG_ARGUMENT. */
+    /* ASN1X_OK, 1 to 14, 16, 17, or ASN1X_WRONG_ARGUMENT. */
     uint32_t refusal;
     /* How many values were done. */
     uint64_t values;

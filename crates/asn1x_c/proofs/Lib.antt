@@ -1,3 +1,4 @@
+pub mod DoneLemmas
 pub mod LooseValues
 pub mod KeptValues
 mod FirstLemmas

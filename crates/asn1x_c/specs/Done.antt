@@ -3,13 +3,14 @@ use Rattle.std.specs.Prelude.{◌≡◌, ◌≢◌, ◌≤◌, ◌++◌, ℕ, Li
 use Rattle.octets.specs.Front.{HasFront}
 use Rattle.octets.specs.Rule.{Rule}
 use Rattle.types.specs.declared.refusal.Refusal.{Refusal}
-use Rattle.types.specs.declared.refusal.Refusal.TheVariants.{Truncated}
+use Rattle.types.specs.declared.refusal.Refusal.TheVariants.{Truncated, SourceFault}
 use Rattle.types.specs.declared.ty.Ty.{Ty}
 use Rattle.types.specs.Encoding.{IsAccepted, IsSomeAccepted}
 use Rattle.types.specs.Refusal.{IsFinal, refusal_number}
 use Rattle.types.specs.Shape.{Shape}
 use Rattle.types.specs.View.{ty_view}
 use Rattle.texts.specs.Shown.{IsShown}
+use Rattle.engine.specs.Refusal.{IsOfChecking, IsOfConverting, IsOfListing, IsOfReadingBy}
 use Rattle.engine.specs.Stream.{IsChecked, IsCheckStopped, IsConverted, IsLine, IsListed, IsStopped}
 use Rattle.engine.specs.declared.stopped.Stopped.{Stopped}
 use Rattle.asn1x_c.specs.Numbers.{wrong_argument}
@@ -31,25 +32,32 @@ pub record StoppedBy (number : ℕ) (P : Refusal → Type 0) : Type 0 where
   pub numbered : number ≡ refusal_number refusal
   pub why : P refusal
 
+-- and why one that goes to the end of the octets did, by the refusals that it has: octets in memory are a source that
+-- never fails
+pub record StreamStoppedBy (number : ℕ) (IsOfCall P : Refusal → Type 0) : Type 0 where
+  pub stopped : StoppedBy number P
+  pub numbers : IsOfCall stopped.refusal
+  pub source : stopped.refusal ≢ SourceFault
+
 -- octets were converted: with no refusal all of them, else the values before it
 pub record HasConverted (from to : Rule) (shape : Shape) (octets old new : List ℕ) (done : Done) : Type 0 where
   pub written : List ℕ
   pub put : IsPut written old new done.octets
   pub converted : done.refusal ≡ 0 → IsConverted from to shape done.values octets written
-  pub stopped : done.refusal ≢ 0 → StoppedBy done.refusal (λ refusal. IsStopped (IsAccepted to shape) from shape done.values refusal octets written)
+  pub stopped : done.refusal ≢ 0 → StreamStoppedBy done.refusal (IsOfConverting from) (λ refusal. IsStopped (IsAccepted to shape) from shape done.values refusal octets written)
 
 -- they were listed: a line of text for each value
 pub record HasListed (from : Rule) (shape : Shape) (octets old new : List ℕ) (done : Done) : Type 0 where
   pub written : List ℕ
   pub put : IsPut written old new done.octets
   pub listed : done.refusal ≡ 0 → IsListed (IsShown shape) from shape done.values octets written
-  pub stopped : done.refusal ≢ 0 → StoppedBy done.refusal (λ refusal. IsStopped (IsLine (IsShown shape)) from shape done.values refusal octets written)
+  pub stopped : done.refusal ≢ 0 → StreamStoppedBy done.refusal (IsOfListing from) (λ refusal. IsStopped (IsLine (IsShown shape)) from shape done.values refusal octets written)
 
 -- they were checked
 pub record HasChecked (from : Rule) (shape : Shape) (octets : List ℕ) (done : Done) : Type 0 where
   pub none_written : done.octets ≡ 0
   pub checked : done.refusal ≡ 0 → IsChecked from shape done.values octets
-  pub stopped : done.refusal ≢ 0 → StoppedBy done.refusal (λ refusal. IsCheckStopped from shape done.values refusal octets)
+  pub stopped : done.refusal ≢ 0 → StreamStoppedBy done.refusal (IsOfChecking from) (λ refusal. IsCheckStopped from shape done.values refusal octets)
 
 -- no value is at the front of the octets, and after some refusals none of any octets that begin so
 pub record HasNoFirst (rule : Rule) (shape : Shape) (octets : List ℕ) (refusal : Refusal) : Type 0 where
@@ -64,7 +72,7 @@ pub record IsFirst (rule : Rule) (shape : Shape) (octets : List ℕ) (count : �
 -- the first value was read
 pub record HasRead (rule : Rule) (shape : Shape) (octets : List ℕ) (done : Done) : Type 0 where
   pub read : done.refusal ≡ 0 → (done.values ≡ 1) × IsFirst rule shape octets done.octets
-  pub refused : done.refusal ≢ 0 → (done.values ≡ 0) × (done.octets ≡ 0) × StoppedBy done.refusal (HasNoFirst rule shape octets)
+  pub refused : done.refusal ≢ 0 → (done.values ≡ 0) × (done.octets ≡ 0) × StoppedBy done.refusal (λ refusal. IsOfReadingBy rule refusal × HasNoFirst rule shape octets refusal)
 
 -- nothing was done, since an argument is none
 abbrev pub IsWrong : Done → Type 0

@@ -30,7 +30,7 @@ pub struct One {
 pub struct ModuleFault {
     /// 0, or the number of the fault, 21 to 33, or 255 for a name that is no text.
     pub number: u32,
-    /// The line, from 1; 1 for a fault that has no place.
+    /// The line, from 1; 1 for a fault that has no place, 0 where there is none.
     pub line: u32,
     /// The column, likewise.
     pub column: u32,

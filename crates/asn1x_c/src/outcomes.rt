@@ -77,7 +77,9 @@ impl One {
 impl ModuleFault {
     // None.
     pub(crate) fn none() -> ModuleFault
-        ensures { result.number ≡ 0 }
+        ensures number { result.number ≡ 0 }
+        ensures line { result.line ≡ 0 }
+        ensures column { result.column ≡ 0 }
     {
         ModuleFault {
             number: 0,

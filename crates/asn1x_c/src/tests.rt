@@ -16,6 +16,17 @@ const OCTETS: &[u8] = &[
     0x30, 0x80, 0x01, 0x01, 0x2A, 0x00, 0x00, 0x30, 0x00, 0x31, 0x00,
 ];
 
+// A name, and the number, line and column that it gives. The last two are no UTF-8.
+const NAMES: &[(&[u8], (u32, u32, u32))] = &[
+    (b"T", (0, 0, 0)),
+    (b"U", (24, 1, 1)),
+    (b"\xFF", (255, 1, 1)),
+    (b"T\xC3", (255, 1, 1)),
+];
+
+// The numbers of a rule to read by and of one to write by, of which one is none.
+const NO_RULES: &[(u32, u32)] = &[(3, 2), (0, 3), (0, 0), (0xFFFF_FFFF, 1)];
+
 fn held(alloc: Global) -> HeldType {
     let mut held = HeldType::none();
     let _fault = asn1x_type_from(alloc, &mut held, MODULE, b"T".as_slice());
@@ -103,6 +114,40 @@ fn shows_values_one_by_one(rt: HostRuntime) -> Result<(), Fail> {
     assert_eq!(rt; room.as_slice(), b"{ TRUE }\n".as_slice());
     let one = asn1x_show_first(rt.alloc(), &mut ty, 2, OCTETS, &mut room);
     assert_eq!(rt; (one.refusal, one.used, one.octets), (12, 0, 0));
+    asn1x_type_free(rt.alloc(), &mut ty);
+    Ok(())
+}
+
+#[test]
+fn takes_no_other_number_for_a_rule(rt: HostRuntime) -> Result<(), Fail> {
+    let mut ty = held(rt.alloc());
+    let mut room = [0xAA; 8];
+    for (from, to) in NO_RULES {
+        let done = asn1x_convert(rt.alloc(), &mut ty, *from, *to, &OCTETS[..9], &mut room);
+        assert_eq!(rt; (done.refusal, done.values, done.octets), (255, 0, 0));
+        let one = asn1x_convert_first(rt.alloc(), &mut ty, *from, *to, OCTETS, &mut room);
+        assert_eq!(rt; (one.refusal, one.used, one.octets), (255, 0, 0));
+    }
+    let done = asn1x_show(rt.alloc(), &mut ty, 3, &OCTETS[..9], &mut room);
+    assert_eq!(rt; (done.refusal, done.values, done.octets), (255, 0, 0));
+    let done = asn1x_check(rt.alloc(), &mut ty, 3, &OCTETS[..9]);
+    assert_eq!(rt; (done.refusal, done.values, done.octets), (255, 0, 0));
+    let done = asn1x_first(rt.alloc(), &mut ty, 3, OCTETS);
+    assert_eq!(rt; (done.refusal, done.values, done.octets), (255, 0, 0));
+    let one = asn1x_show_first(rt.alloc(), &mut ty, 3, OCTETS, &mut room);
+    assert_eq!(rt; (one.refusal, one.used, one.octets), (255, 0, 0));
+    assert_eq!(rt; room, [0xAA; 8]);
+    asn1x_type_free(rt.alloc(), &mut ty);
+    Ok(())
+}
+
+#[test]
+fn makes_types_by_names_that_are_text(rt: HostRuntime) -> Result<(), Fail> {
+    let mut ty = HeldType::none();
+    for (name, place) in NAMES {
+        let fault = asn1x_type_from(rt.alloc(), &mut ty, MODULE, name);
+        assert_eq!(rt; (fault.number, fault.line, fault.column), *place);
+    }
     asn1x_type_free(rt.alloc(), &mut ty);
     Ok(())
 }

@@ -1,6 +1,7 @@
 //! The exports that make and free types, and name numbers.
 
-ghost use Rattle.std.specs.Prelude.{◌≡◌, ◌≢◌, ◌⊎◌, None, Some, IfOk, IfErr, IfSome};
+ghost use Rattle.std.specs.Prelude.{◌≡◌, ◌≢◌, ◌↔◌, ◌⊎◌, None, Some, IfOk, IfErr, IfSome, MatchResult};
+ghost use Rattle.std.specs.Str.{IsUtf8};
 ghost use Rattle.types.specs.Shape.{Shape};
 ghost use Rattle.types.specs.View.{ty_view};
 ghost use Rattle.types.specs.WellFormed.{IsWellFormed};
@@ -34,7 +35,9 @@ pub extern "C" fn asn1x_type_from(
     ensures refused { result.number ≢ 0 → result.number ≢ 33 → result.number ≢ wrong_argument → (type : Shape) →
         FileMeans text.now name.now type → ¬ IsWellFormed type }
     ensures cycle { result.number ≡ 25 → (type : Shape) → ¬ FileMeans text.now name.now type }
+    ensures wrong { result.number ≡ wrong_argument ↔ ¬ IsUtf8 name.now }
     ensures place { result.number ≡ wrong_argument → HasNoPlace result }
+    ensures zeros { result.number ≡ 0 → (result.line ≡ 0) × (result.column ≡ 0) }
     ensures numbers { (result.number ≡ 0) ⊎ IsFaultNumber result.number ⊎ (result.number ≡ wrong_argument) }
 {
     let _former = held.take(alloc);
@@ -56,6 +59,7 @@ fn type_named(alloc: Global, text: &[u8], name: &[u8]) -> Result<Box<WellTyped>,
     ensures refused { IfErr result (λ fault. fault.number ≢ 33 → fault.number ≢ wrong_argument → (type : Shape) →
         FileMeans text.now name.now type → ¬ IsWellFormed type) }
     ensures cycle { IfErr result (λ fault. fault.number ≡ 25 → (type : Shape) → ¬ FileMeans text.now name.now type) }
+    ensures wrong { MatchResult result (λ _. IsUtf8 name.now) (λ fault. fault.number ≡ wrong_argument ↔ ¬ IsUtf8 name.now) }
     ensures place { IfErr result (λ fault. fault.number ≡ wrong_argument → HasNoPlace fault) }
     ensures numbers { IfErr result (λ fault. IsFaultNumber fault.number ⊎ (fault.number ≡ wrong_argument)) }
 {
