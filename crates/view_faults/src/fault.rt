@@ -48,8 +48,8 @@ impl From<Unwanted> for Fault {
 }
 
 impl Fault {
-    ghost use Rattle.std.specs.Prelude.{◌≡◌, ◌↔◌};
-    ghost use Rattle.view_faults.specs.Status.{IsEnd};
+    ghost use Rattle.std.specs.Prelude.{◌≡◌};
+    ghost use Rattle.view_faults.specs.Status.{IsEnd, status_of};
 
     /// Prints the line of a fault of the file. Of refused octets the line says more, and is printed where that is
     /// known; of an output that is gone there is none.
@@ -69,7 +69,7 @@ impl Fault {
     /// The exit status that goes with the fault.
     pub fn status(self) -> u8
         ensures end { IsEnd result }
-        ensures done { (result ≡ 0) ↔ (self ≡ Fault.Output) }
+        ensures value { result ≡ status_of self }
     {
         match self {
             Fault::Refused(Refusal::NoMemory) | Fault::NoMemory => 4,

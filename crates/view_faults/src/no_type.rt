@@ -1,6 +1,7 @@
 //! Why there is no type, and the lines that say so.
 
-ghost use Rattle.view_faults.specs.Status.{IsStatus};
+ghost use Rattle.std.specs.Prelude.{◌≡◌};
+ghost use Rattle.view_faults.specs.Status.{IsStatus, status_of_number, status_without};
 
 use crate::words_of_fault;
 use lexis::{Fault, fault_name};
@@ -22,7 +23,8 @@ pub enum NoType {
 
 /// Prints why there is no type, and returns the exit status.
 pub fn print_no_type<E: Write>(path: &str, name: &str, fault: &NoType, err: &mut E) -> u8
-    ensures { IsStatus result }
+    ensures end { IsStatus result }
+    ensures value { result ≡ status_without fault.now }
 {
     let path = PrintedPath(path);
     match fault {
@@ -51,7 +53,8 @@ pub fn print_no_type<E: Write>(path: &str, name: &str, fault: &NoType, err: &mut
 
 // Prints the line of a module's fault, and returns the exit status.
 fn print_module_fault<E: Write>(path: PrintedPath<'_>, name: &str, fault: &Fault, err: &mut E) -> u8
-    ensures { IsStatus result }
+    ensures end { IsStatus result }
+    ensures value { result ≡ status_of_number fault.now.number }
 {
     let (line, column, number) = (fault.line, fault.column, fault.number);
     let word = fault_name(number);
