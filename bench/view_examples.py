@@ -6,9 +6,9 @@ taken. The offset, the depth, the head and the contents of each identifier are t
 lines are those of examples/view/NAME.lines. Then one octet is changed in each of the places that
 examples/view/changed.txt lists: the last line is the one that stands there, and its number the one of `asn1x check`.
 The same is compared with `openssl asn1parse` over ten of the certificates that openssl trusts, the first by name of
-which examples/certificates.asn takes all. Last, a stream of the values is cut: what `asn1x convert` writes for each
-part, joined, is what it writes for the stream. Prints what agrees and what differs, and ends with 1 where something
-does.
+which examples/certificates.asn takes all. A stream of the values is cut: what `asn1x convert` writes for each part,
+joined, is what it writes for the stream. Last, commands write to a full device, and to a pipe whose reader is gone.
+Prints what agrees and what differs, and ends with 1 where something does.
 """
 import glob
 import os
@@ -38,9 +38,10 @@ def main():
                 for fault in look(folder, name, module, ty, octets):
                     faults += 1
                     print(f"{name}: {fault}")
-        for fault in trusted_faults(folder):
-            faults += 1
-            print(fault)
+        for look in (trusted_faults, output_faults):
+            for fault in look(folder):
+                faults += 1
+                print(fault)
         for row in open("examples/view/changed.txt", encoding="utf-8"):
             if "|" in row and not row.startswith("#"):
                 for fault in changed_faults(folder, row):
@@ -137,6 +138,24 @@ def cut_faults(folder, name, module, ty, octets):
     whole = converted(module, ty, path)
     if not whole or b"".join(converted(module, ty, part) for part in parts) != whole:
         yield "the parts become other octets than the stream"
+
+
+def output_faults(folder):
+    """What commands do wrong where standard output is a full device, or a pipe whose reader is gone."""
+    module, ty = EXAMPLES["calls"]
+    path = write(folder, "calls", bytes.fromhex(open("examples/calls.hex", encoding="utf-8").read()))
+    reader, gone = os.pipe()
+    os.close(reader)
+    with open("/dev/full", "wb") as full, os.fdopen(gone, "wb") as gone:
+        for words in (("octets", module, ty, path), ("json", module, ty, path), ("types", module), ("refusal", "9")):
+            for out, wanted in (
+                (full, (3, "standard output: cannot be written\n")),
+                (gone, (0, "")),
+            ):
+                done = subprocess.run((VIEW, *words), stdout=out, stderr=subprocess.PIPE, check=False)
+                found = (done.returncode, done.stderr.decode())
+                if found != wanted:
+                    yield f"{words[0]}: {found} and not {wanted}"
 
 
 def changed_faults(folder, row):

@@ -45,7 +45,8 @@ impl Layout {
     }
 }
 
-/// Appends a value as JSON; nothing where it is none of the type.
+/// Appends a value of the type as JSON. Where a value is none of it, parts and items that do not fit are left out, and
+/// all else is printed as it is.
 #[cycle(json)]
 pub fn put_json(
     alloc: Global,

@@ -24,6 +24,7 @@ mod showing_files;
 mod type_lines;
 mod value_lines;
 mod values;
+mod watched_output;
 mod words;
 
 pub use command_line::{Form, Line, Reading, Task, Wanted};

@@ -8,12 +8,14 @@ use crate::module_runs::{show_faults, show_types};
 use crate::module_type::type_of;
 use crate::refusal_pages::show_pages;
 use crate::showing_files::Showing;
+use crate::watched_output::WatchedOutput;
 use crate::{FileSystem, Form, Line, Reading, Task};
 use std::alloc::Global;
 use std::io::{BufWriter, Write};
-use view_faults::print_no_type;
+use view_faults::{Fault, print_no_type};
 
 /// Does what a command line asks, and returns the exit status. Results go to `out`, one line for each fault to `err`.
+/// An output that fails is a fault, but where its reader is gone.
 pub fn run<D: FileSystem, W: Write + Drop, E: Write>(
     alloc: Global,
     line: &Line,
@@ -23,12 +25,17 @@ pub fn run<D: FileSystem, W: Write + Drop, E: Write>(
 ) -> u8
     ensures { IsStatus result }
 {
-    let Ok(mut out) = BufWriter::new(alloc, out) else {
+    let Ok(mut out) = BufWriter::new(alloc, WatchedOutput::new(out)) else {
         return 4;
     };
     let status = perform(alloc, line, file_system, &mut out, err);
     let _ = out.flush();
-    status
+    if !out.get_ref().has_failed() {
+        return status;
+    }
+    Fault::CannotWrite.print("standard output", err);
+    let least = Fault::CannotWrite.status();
+    if status < least { least } else { status }
 }
 
 // Does what is asked, and returns the exit status.

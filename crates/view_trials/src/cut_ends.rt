@@ -17,31 +17,30 @@ const STREAM: [u8; 28] = [
 // Where they end.
 const ENDS: [usize; 4] = [2, 5, 18, 27];
 
-// How many of the ends are found where they stand, if the octets come in pieces of so many.
-fn found_in_pieces(size: usize) -> usize {
+// The ends that are found, if the octets come in pieces of so many.
+fn ends_in(alloc: Global, size: usize) -> Result<Vec<usize>, Fail> {
     let mut ends = Ends::new();
-    let mut found = 0usize;
+    let mut found = Vec::new(alloc);
     let mut before = 0usize;
     for piece in STREAM.chunks(size.max(1)) {
         let mut at = 0usize;
         for _ in 0..=piece.len() {
-            match ends.take(piece.get(at..).unwrap_or(&[])) {
-                Ok(Some(used)) => at += used.min(piece.len() - at),
-                _ => break,
-            }
-            if ENDS.get(found) == Some(&(before.saturating_add(at))) {
-                found = found.saturating_add(1);
-            }
+            let Some(used) = ends.take(piece.get(at..).unwrap_or(&[]))? else {
+                break;
+            };
+            at += used.min(piece.len() - at);
+            found.push(before.saturating_add(at))?;
         }
         before = before.saturating_add(piece.len());
     }
-    found
+    Ok(found)
 }
 
 #[test]
 fn ends_in_pieces(rt: HostRuntime) -> Result<(), Fail> {
     for size in 1..29 {
-        assert_eq!(rt; found_in_pieces(size), 4);
+        let found = ends_in(rt.alloc(), size)?;
+        assert_eq!(rt; found.as_slice(), ENDS.as_slice());
     }
     Ok(())
 }
@@ -74,8 +73,9 @@ impl Outputs for Noted {
     }
 }
 
-// The sizes of the files that end, of at least so many octets, if the stream comes in pieces of so many.
-fn sizes_of(alloc: Global, least: u64, size: usize) -> Result<Vec<usize>, CutFault> {
+// The octets of all files, of at least so many octets each, and the sizes of those that end, if the stream comes in
+// pieces of so many.
+fn cut_in(alloc: Global, least: u64, size: usize) -> Result<Noted, CutFault> {
     let noted = Noted {
         octets: Vec::new(alloc),
         ended: 0,
@@ -85,16 +85,18 @@ fn sizes_of(alloc: Global, least: u64, size: usize) -> Result<Vec<usize>, CutFau
     for piece in STREAM.chunks(size.max(1)) {
         cutter.take(piece)?;
     }
-    Ok(cutter.outputs.sizes)
+    Ok(cutter.outputs)
 }
 
 #[test]
 fn files_end_between_encodings(rt: HostRuntime) -> Result<(), Fail> {
     for size in [1, 2, 7, 28] {
-        let one_each = sizes_of(rt.alloc(), 1, size)?;
-        assert_eq!(rt; one_each.as_slice(), [2, 3, 13, 9].as_slice());
-        let at_least_four = sizes_of(rt.alloc(), 4, size)?;
-        assert_eq!(rt; at_least_four.as_slice(), [5, 13, 9].as_slice());
+        let one_each = cut_in(rt.alloc(), 1, size)?;
+        assert_eq!(rt; one_each.octets.as_slice(), STREAM.as_slice());
+        assert_eq!(rt; one_each.sizes.as_slice(), [2, 3, 13, 9].as_slice());
+        let at_least_four = cut_in(rt.alloc(), 4, size)?;
+        assert_eq!(rt; at_least_four.octets.as_slice(), STREAM.as_slice());
+        assert_eq!(rt; at_least_four.sizes.as_slice(), [5, 13, 9].as_slice());
     }
     Ok(())
 }

@@ -8,12 +8,14 @@ use crate::fake::Fake;
 use convert::unhex;
 use serde_json::Value;
 use std::alloc::Global;
+use std::cell::RefCell;
 use std::test::Fail;
+use test_tables::{is_row, rows_of, three};
 use view::{CommandLine, Line, run};
 
 // A line for each identifier: where the standard puts heads, and what the text of each value is.
 const LINES: &str = "
-M DEFINITIONS IMPLICIT TAGS ::= BEGIN T ::= SEQUENCE { a INTEGER, b [0] BOOLEAN DEFAULT FALSE, c CHOICE { x [1] UTF8String, y [APPLICATION 2] SEQUENCE OF NULL } OPTIONAL, d [3] EXPLICIT ENUMERATED { p(0), q(1) } OPTIONAL } S ::= SET { a INTEGER, b [PRIVATE 0] OBJECT IDENTIFIER } O ::= SET OF BIT STRING N ::= BIT STRING { u(0) } C ::= SET { a CHOICE { x BOOLEAN, y [5] NULL }, b INTEGER } END:
+M DEFINITIONS IMPLICIT TAGS ::= BEGIN T ::= SEQUENCE { a INTEGER, b [0] BOOLEAN DEFAULT FALSE, c CHOICE { x [1] UTF8String, y [APPLICATION 2] SEQUENCE OF NULL } OPTIONAL, d [3] EXPLICIT ENUMERATED { p(0), q(1) } OPTIONAL } S ::= SET { a INTEGER, b [PRIVATE 0] OBJECT IDENTIFIER } O ::= SET OF BIT STRING N ::= BIT STRING { u(0) } C ::= SET { a CHOICE { x BOOLEAN, y [5] NULL }, b INTEGER } D ::= SEQUENCE { s OCTET STRING, n INTEGER } END:
 octets,m,T,in | 3003 020107 | 0000: 0 2+3 [UNIVERSAL 16] T ::= SEQUENCE;0002: 1 2+1 [UNIVERSAL 2] .a INTEGER 7; || 0
 octets,m,T,in | 300c 020180 8001ff 620405000500 | 0000: 0 2+12 [UNIVERSAL 16] T ::= SEQUENCE;0002: 1 2+1 [UNIVERSAL 2] .a INTEGER -128;0005: 1 2+1 [0] .b BOOLEAN TRUE;0008: 1 2+4 [APPLICATION 2] .c.y SEQUENCE OF;0010: 2 2+0 [UNIVERSAL 5] .c.y[0] NULL NULL;0012: 2 2+0 [UNIVERSAL 5] .c.y[1] NULL NULL; || 0
 octets,m,T,in | 300d 020107 8103 4a6f6e a303 0a0101 | 0000: 0 2+13 [UNIVERSAL 16] T ::= SEQUENCE;0002: 1 2+1 [UNIVERSAL 2] .a INTEGER 7;0005: 1 2+3 [1] .c.x UTF8String \"Jon\";0010: 1 2+3 [3] .d ENUMERATED;0012: 2 2+1 [UNIVERSAL 10] .d ENUMERATED q; || 0
@@ -26,15 +28,21 @@ octets,m,N,in | 030206c0 | 0000: 0 2+2 [UNIVERSAL 3] N ::= BIT STRING '11'B; || 
 octets,m,C,in | 3105 020107 8500 | 0000: 0 2+5 [UNIVERSAL 17] C ::= SET;0002: 1 2+1 [UNIVERSAL 2] .b INTEGER 7;0005: 1 2+0 [5] .a.y NULL NULL; || 0
 octets,@builtin,OCTET STRING,in | 0421 000102030405060708090a0b0c0d0e0f101112131415161718191a1b1c1d1e1f20 | 0000: 0 2+33 [UNIVERSAL 4] OCTET STRING ::= OCTET STRING '000102030405060708090A0B0C0D0E0F101112131415161718191A1B1C1D1E1F'H and 1 octets more; || 0
 octets,@builtin,OCTET STRING,in,--wide | 0421 000102030405060708090a0b0c0d0e0f101112131415161718191a1b1c1d1e1f20 | 0000: 0 2+33 [UNIVERSAL 4] OCTET STRING ::= OCTET STRING '000102030405060708090A0B0C0D0E0F101112131415161718191A1B1C1D1E1F20'H; || 0
-# what is not canonical, by DER
+// what is not canonical, by DER
 octets,m,T,in | 3080 028101 07 80012a 0000 | 0000: 0 2+indef [UNIVERSAL 16] T ::= SEQUENCE (not DER: the indefinite form);0002: 1 3+1 [UNIVERSAL 2] .a INTEGER 7 (not DER: more length octets than needed);0006: 1 2+1 [0] .b BOOLEAN TRUE (not DER: TRUE is not FF);0009: 1 2+0 [UNIVERSAL 0] end of contents; || 0
 octets,m,T,in | 3006 020107 800100 | 0000: 0 2+6 [UNIVERSAL 16] T ::= SEQUENCE;0002: 1 2+1 [UNIVERSAL 2] .a INTEGER 7;0005: 1 2+1 [0] .b BOOLEAN FALSE (not DER: the default is spelt out); || 0
 octets,m,S,in | 3107 c0022a03 020107 | 0000: 0 2+7 [UNIVERSAL 17] S ::= SET;0002: 1 2+2 [PRIVATE 0] .b OBJECT IDENTIFIER 1.2.3;0006: 1 2+1 [UNIVERSAL 2] .a INTEGER 7 (not DER: a component out of the order of tags); || 0
 octets,m,O,in | 3108 030204f0 030204e1 | 0000: 0 2+8 [UNIVERSAL 17] O ::= SET OF;0002: 1 2+2 [UNIVERSAL 3] [0] BIT STRING '1111'B;0006: 1 2+2 [UNIVERSAL 3] [1] BIT STRING '1110'B (not DER: unused bits are not 0) (not DER: an item that is less than the one before it); || 0
 octets,m,N,in | 03020480 | 0000: 0 2+2 [UNIVERSAL 3] N ::= BIT STRING '1'B (not DER: bits 0 at the end of named bits); || 0
 octets,m,N,in | 2308 030200a0 03020400 | 0000: 0 2+8 [UNIVERSAL 3] N ::= BIT STRING (not DER: a string in segments);0002: 1 2+2 [UNIVERSAL 3] N ::= BIT STRING segment '10100000'B;0006: 1 2+2 [UNIVERSAL 3] N ::= BIT STRING segment '0000'B; || 0
-# what is not canonical, by CER
+octets,m,D,in | 300b 2406 040141 040142 020107 | 0000: 0 2+11 [UNIVERSAL 16] D ::= SEQUENCE;0002: 1 2+6 [UNIVERSAL 4] .s OCTET STRING (not DER: a string in segments);0004: 2 2+1 [UNIVERSAL 4] .s OCTET STRING segment '41'H;0007: 2 2+1 [UNIVERSAL 4] .s OCTET STRING segment '42'H;0010: 1 2+1 [UNIVERSAL 2] .n INTEGER 7; || 0
+octets,m,D,in,--only-refused | 300b 2406 040141 040142 020207 || in: octet 11: .n: refused 4 Length: it goes on past the end of what holds it; | 1
+// what is not canonical, by CER
 octets,m,T,in,--from,cer | 3080 020107 0000 3003 020107 | 0000: 0 2+indef [UNIVERSAL 16] T ::= SEQUENCE;0002: 1 2+1 [UNIVERSAL 2] .a INTEGER 7;0005: 1 2+0 [UNIVERSAL 0] end of contents;0007: 0 2+3 [UNIVERSAL 16] T ::= SEQUENCE (not CER: the definite form of a constructed encoding);0009: 1 2+1 [UNIVERSAL 2] .a INTEGER 7; | in: octet 7: T: refused 12 NotCanonical: not CER: the definite form of a constructed encoding; | 1
+// by CER a CHOICE without a tag stands where its least tag does, UNIVERSAL 1, and by DER where its own one does (9.3, 10.3)
+octets,m,C,in,--from,cer | 3180 8500 020107 0000 | 0000: 0 2+indef [UNIVERSAL 17] C ::= SET;0002: 1 2+0 [5] .a.y NULL NULL;0004: 1 2+1 [UNIVERSAL 2] .b INTEGER 7;0007: 1 2+0 [UNIVERSAL 0] end of contents; || 0
+octets,m,C,in,--from,cer | 3180 020107 8500 0000 | 0000: 0 2+indef [UNIVERSAL 17] C ::= SET;0002: 1 2+1 [UNIVERSAL 2] .b INTEGER 7;0005: 1 2+0 [5] .a.y NULL NULL (not CER: a component out of the order of tags);0007: 1 2+0 [UNIVERSAL 0] end of contents; | in: octet 5: .a.y: refused 12 NotCanonical: not CER: a component out of the order of tags; | 1
+octets,m,C,in,--from,der | 3105 8500 020107 | 0000: 0 2+5 [UNIVERSAL 17] C ::= SET;0002: 1 2+0 [5] .a.y NULL NULL;0004: 1 2+1 [UNIVERSAL 2] .b INTEGER 7 (not DER: a component out of the order of tags); | in: octet 4: .b: refused 12 NotCanonical: not DER: a component out of the order of tags; | 1
 octets,@builtin,OCTET STRING,in,--from,cer,--only-refused | 2480 040141 0000 || in: octet 2: OCTET STRING: refused 12 NotCanonical: not CER: a string in segments; | 1
 ";
 
@@ -84,15 +92,16 @@ octets,@builtin,X,in | || @builtin: X is none of BOOLEAN, INTEGER, NULL and OCTE
 
 // The other commands.
 const OTHERS: &str = "
-M DEFINITIONS IMPLICIT TAGS ::= BEGIN T ::= SEQUENCE { a INTEGER, b [0] BOOLEAN DEFAULT FALSE, c CHOICE { x [1] UTF8String, y [APPLICATION 2] SEQUENCE OF NULL } OPTIONAL, d [3] EXPLICIT ENUMERATED { p(0), q(1) } OPTIONAL } N ::= BIT STRING { u(0) } P ::= BMPString END:
+M DEFINITIONS IMPLICIT TAGS ::= BEGIN T ::= SEQUENCE { a INTEGER, b [0] BOOLEAN DEFAULT FALSE, c CHOICE { x [1] UTF8String, y [APPLICATION 2] SEQUENCE OF NULL } OPTIONAL, d [3] EXPLICIT ENUMERATED { p(0), q(1) } OPTIONAL } N ::= BIT STRING { u(0) } P ::= BMPString D ::= SEQUENCE { s OCTET STRING, n INTEGER } END:
 json,m,T,in | 3003 020107 300d 020107 8103 4a226e a303 0a0101 | {\"a\":7};{\"a\":7,\"c\":{\"x\":\"J\\\"n\"},\"d\":\"q\"}; || 0
 json,m,T,in | 300c 020180 8001ff 620405000500 | {\"a\":-128,\"b\":true,\"c\":{\"y\":[null,null]}}; || 0
 json,m,T,in,--indent | 3003 020107 | {; \"a\": 7;}; || 0
 json,m,N,in | 030206c0 | {\"value\":\"C0\",\"length\":2}; || 0
 json,m,P,in | 1e04 00e9 20ac | \"é€\"; || 0
+json,m,D,in | 300b 2406 040141 040142 020107 3080 2480 2480 040141 0000 040142 0000 0201ff 0000 | {\"s\":\"4142\",\"n\":7};{\"s\":\"4142\",\"n\":-1}; || 0
 json,@builtin,INTEGER,in | 0207 20000000000001 | 9007199254740993; || 0
 json,@builtin,OCTET STRING,in | 0402 0aff 05 | \"0AFF\"; | in: octet 4: OCTET STRING: refused 2 Identifier: no part that begins with [UNIVERSAL 5] can stand here; | 1
-types,m | | 1: T ::= SEQUENCE, 4 components; 1: N ::= BIT STRING, 1 named bits; 1: P ::= BMPString; || 0
+types,m | | 1: T ::= SEQUENCE, 4 components; 1: N ::= BIT STRING, 1 named bits; 1: P ::= BMPString; 1: D ::= SEQUENCE, 2 components; || 0
 types,m,T | | T [UNIVERSAL 16] SEQUENCE; a [UNIVERSAL 2] INTEGER; b [0] BOOLEAN DEFAULT FALSE; c CHOICE OPTIONAL; x [1] UTF8String; y [APPLICATION 2] SEQUENCE OF; [UNIVERSAL 5] NULL; d [3] EXPLICIT OPTIONAL; [UNIVERSAL 10] ENUMERATED; p(0); q(1);9 nodes, 2 levels; || 0
 types,m,Q | || m:1:1: Q: refused 24 UnknownType: the name, or one that it reaches, is not assigned; | 2
 module,m | | || 0
@@ -122,39 +131,41 @@ M DEFINITIONS BEGIN END:
 module,m | | m:1:15: refused 22 Syntax: BEGIN: EXPLICIT, IMPLICIT or AUTOMATIC TAGS, or ::= could stand here; || 2
 refusal,9 | | 9 Repeated; A component of a SET stands twice. Returned by the readers.; for example: SET of an INTEGER, 31 06 02 01 07 02 01 07.; || 0
 refusal,20 | || asn1x-view: no refusal has the number 20: they are 1 to 17 and 21 to 33; | 64
-cut,in,--octets,1,--into,p | 0500 3080 0500 0000 3003 | | in: octet 10: refused 1 Truncated: no encoding stands here, or none that ends; | 1
-cut,in,--octets,9,--into,p | 0500 3080 0500 0000 ||| 0
-cut,in,--octets,9,--into,p | 0500 3080 0500 0001 || in: octet 6: refused 5 EndOfContents: no encoding stands here, or none that ends; | 1
-cut,in,--octets,9,--into,none | 0500 || none0001: cannot be written; | 3
 ";
 
-// Runs each row of a table, and fails where something else is printed.
+// Runs each row of a table, and fails where something else is printed, and where there is none.
 fn check_runs(alloc: Global, table: &str) -> Result<(), Fail> {
     let mut module = "";
-    for row in table.lines() {
+    for row in rows_of(table)? {
         if let Some(text) = row.strip_suffix(':') {
             module = text;
-        } else if !row.starts_with('#') && row.contains('|') {
+        } else if is_row(row) {
             check_run(alloc, module, row)?;
         }
     }
     Ok(())
 }
 
-fn check_run(alloc: Global, module: &str, row: &str) -> Result<(), Fail> {
-    let (words, rest) = row.split_once('|').unwrap_or((row, ""));
-    let (input, printed) = rest.split_once('|').unwrap_or((rest, ""));
-    let input = unhex(alloc, input.as_bytes())?;
-    let words = format!(in alloc; "asn1x-view,{}", words.trim())?;
+/// The command line of the words behind the program's name, with commas between them.
+pub fn line_of(alloc: Global, words: &str) -> Result<Line, Fail> {
+    let words = format!(in alloc; "asn1x-view,{words}")?;
     let words: Vec<&str> = words.as_str().split(',').collect(alloc)?;
-    let line = match Line::from_words(alloc, words.as_slice()) {
-        Ok(line) => line,
-        Err(_) => return Err(Fail::new(format_args!("no command line at {row}"))),
-    };
+    match Line::from_words(alloc, words.as_slice()) {
+        Ok(line) => Ok(line),
+        Err(_) => Err("no command line".into()),
+    }
+}
+
+fn check_run(alloc: Global, module: &str, row: &str) -> Result<(), Fail> {
+    let (words, input, printed) = three(row)?;
+    let input = unhex(alloc, input.as_bytes())?;
+    let line = line_of(alloc, words)?;
+    let written = RefCell::new(String::new(alloc));
     let file_system = Fake {
         alloc,
         module,
         input: input.as_slice(),
+        written: &written,
     };
     let mut out = Vec::new(alloc);
     let mut err = Vec::new(alloc);

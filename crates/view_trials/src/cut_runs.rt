@@ -1,0 +1,60 @@
+//! Runs of `cut`: the files that are written, and the octets of each.
+
+use crate::fake::Fake;
+use crate::runs::line_of;
+use convert::unhex;
+use std::alloc::Global;
+use std::cell::RefCell;
+use std::test::Fail;
+use test_tables::{Table, check, four, lines_of, two};
+use view::run;
+
+// the words behind the program's name | the input | each file's name and octets | the standard error | the status
+const CUTS: &str = "\
+cut,in,--octets,1,--into,p | 0500 3080 0500 0000 0401 41 | p0001 0500 p0002 308005000000 p0003 040141 | | 0
+cut,in,--octets,3,--into,p | 0500 3080 0500 0000 0401 41 | p0001 0500308005000000 p0002 040141 | | 0
+cut,in,--octets,8,--into,p | 0500 3080 0500 0000 0401 41 | p0001 0500308005000000 p0002 040141 | | 0
+cut,in,--octets,9,--into,p | 0500 3080 0500 0000 0401 41 | p0001 0500308005000000040141 | | 0
+cut,in,--octets,9,--into,p | | | | 0
+// what stands before the fault is written; octets are read seven at once
+cut,in,--octets,9,--into,p | 0500 0500 1f80 | p0001 05000500 | in: octet 4: refused 2 Identifier: no encoding stands here, or none that ends; | 1
+cut,in,--octets,1,--into,p | 0500 3080 0500 0000 3003 | p0001 0500 p0002 308005000000 p0003 3003 | in: octet 10: refused 1 Truncated: no encoding stands here, or none that ends; | 1
+cut,in,--octets,9,--into,p | 0500 3080 0500 0001 | p0001 05003080050000 | in: octet 6: refused 5 EndOfContents: no encoding stands here, or none that ends; | 1
+cut,in,--octets,9,--into,none | 0500 | | none0001: cannot be written; | 3
+cut,in,--octets,9,--into,full | 0500 | full0001 | full0001: cannot be written; | 3
+cut,none,--octets,9,--into,p | 0500 | | none: cannot be read; | 3";
+
+struct Cuts;
+
+impl Table for Cuts {
+    fn holds(&self, alloc: Global, row: &str) -> Result<bool, Fail> {
+        let (words, input, files, printed) = four(row)?;
+        let (wanted, status) = two(printed)?;
+        let input = unhex(alloc, input.as_bytes())?;
+        let written = RefCell::new(String::new(alloc));
+        let file_system = Fake {
+            alloc,
+            module: "",
+            input: input.as_slice(),
+            written: &written,
+        };
+        let (mut out, mut err) = (Vec::new(alloc), Vec::new(alloc));
+        let line = line_of(alloc, words)?;
+        let ended = run(alloc, &line, &file_system, &mut out, &mut err);
+        let has_written = match written.try_borrow() {
+            Ok(text) => text.as_str().trim() == files,
+            Err(_) => false,
+        };
+        Ok(
+            has_written
+                && out.is_empty()
+                && err == lines_of(alloc, wanted)?
+                && ended == status.parse::<u8>()?,
+        )
+    }
+}
+
+#[test]
+fn streams_in_files(rt: HostRuntime) -> Result<(), Fail> {
+    check(rt.alloc(), &Cuts, CUTS)
+}
