@@ -1,6 +1,6 @@
 //! Long and deep texts.
 
-use published::{MAX_FILE, Reason, read};
+use published::{Reason, read};
 use std::alloc::{AllocError, Global};
 use std::test::Fail;
 
@@ -61,7 +61,7 @@ fn many_parts(rt: HostRuntime) -> Result<(), Fail> {
 
 #[test]
 fn a_file_above_the_limit(rt: HostRuntime) -> Result<(), Fail> {
-    let text = " ".repeat(rt.alloc(), MAX_FILE + 1)?;
+    let text = " ".repeat(rt.alloc(), 16_777_217)?;
     let told = counts(rt.alloc(), text.as_str())?;
     assert_eq!(rt; told, (0, 0, 1, Some(Reason::FileTooLong)));
     Ok(())

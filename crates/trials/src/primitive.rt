@@ -45,7 +45,7 @@ fn no_value(fault: Fault) -> Result<Option<Value>, Fail> {
     }
 }
 
-// The same of a type whose values take memory.
+// Reads contents octets of a type whose values take memory, and writes the value; none where they have none.
 fn held(
     alloc: Global,
     name: &str,

@@ -62,7 +62,7 @@ fn ascending(alloc: Global) -> Result<String, Fail> {
     Ok(all)
 }
 
-// The same encodings, the last one first.
+// The encodings of ten thousand INTEGERs from 0 on, the last one first.
 fn descending(alloc: Global) -> Result<String, Fail> {
     let mut all = String::new(alloc);
     for number in 0..10_000u16 {

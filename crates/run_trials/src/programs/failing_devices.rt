@@ -1,13 +1,13 @@
-//! Files, readers and writers that fail.
+//! Files, readers and writers that fail, and how often a writer is called.
 
 use super::kind_of;
 use super::printed::line_of;
-use program::{cannot_open, run};
+use program::{cannot_open, cannot_share_input, run};
 use std::alloc::Global;
 use std::io;
 use std::io::{ErrorKind, Read, Write};
 use std::test::Fail;
-use test_tables::{Table, check, four, lines_of, octets_of, three, two};
+use test_tables::{Table, check, four, lines_of, octets_of, pair_of, three, two};
 
 // A device whose every call fails.
 #[derive(Drop)]
@@ -162,4 +162,56 @@ fn file_that_cannot_be_opened(rt: HostRuntime) -> Result<(), Fail> {
     let mut err = Failing(ErrorKind::BrokenPipe);
     assert_eq!(rt; cannot_open(rt.alloc(), "no/such file", &mut err), 3);
     Ok(())
+}
+
+#[test]
+fn an_input_that_cannot_be_shared(rt: HostRuntime) -> Result<(), Fail> {
+    let mut err = Vec::new(rt.alloc());
+    assert_eq!(rt; cannot_share_input(rt.alloc(), &mut err), 64);
+    let want = lines_of(
+        rt.alloc(),
+        "asn1x: MODULE and INPUT cannot both be standard input;",
+    )?;
+    assert!(rt; err == want);
+    Ok(())
+}
+
+// A writer that takes all, and counts its calls.
+#[derive(Drop)]
+struct Counting(usize);
+
+impl Write for Counting {
+    fn write(&mut self, buf: &[u8]) -> io::Result<usize> {
+        self.0 = self.0.saturating_add(1);
+        Ok(buf.len())
+    }
+
+    fn flush(&mut self) -> io::Result<()> {
+        Ok(())
+    }
+}
+
+// words | the input | how many writes to the standard output and to the standard error
+const WRITES: &str = "\
+check,@builtin,NULL,in.hex,--hex | 0500   | 1 0
+check,@builtin,NULL,in.hex,--hex | 050005 | 0 1
+check,@builtin,REAL,in.hex,--hex | 0500   | 0 1";
+
+struct Writes;
+
+impl Table for Writes {
+    fn holds(&self, alloc: Global, row: &str) -> Result<bool, Fail> {
+        let (words, input, want) = three(row)?;
+        let line = line_of(alloc, words)?;
+        let mut out = Counting(0);
+        let mut err = Counting(0);
+        let mut input = input.as_bytes();
+        run(alloc, &line, &[], &mut input, &mut out, &mut err);
+        Ok((out.0, err.0) == pair_of(want)?)
+    }
+}
+
+#[test]
+fn a_line_is_one_write(rt: HostRuntime) -> Result<(), Fail> {
+    check(rt.alloc(), &Writes, WRITES)
 }
