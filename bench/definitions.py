@@ -22,7 +22,7 @@ from pathlib import Path
 
 TOP = Path(__file__).resolve().parent.parent
 PAGE = TOP / "docs" / "DEFINITIONS.md"
-PARTS = {"encoding_parts", "berslice", "builtin_types"}
+PARTS = {"encoding_parts", "berslice", "builtin_types", "judging"}
 STATE = {
     ("berreader", name)
     for name in ("HasBeenFed", "IsFresh", "IsFinished", "IsSoundReader", "open_encodings", "weight_held")
