@@ -1,13 +1,13 @@
 //! Where the contents octets of an encoding under a known tag begin and end (X.690 8.1).
 
-ghost use Rattle.std.specs.Prelude.{◌≡◌, ◌↔◌, ◌+◌, ◌∷◌, ◌≤◌, ℕ, List, [], length, take, drop, IsTrue, IfSome};
+ghost use Rattle.std.specs.Prelude.{◌↔◌, ◌≤◌, length, take, IsTrue, IfSome};
 ghost use Rattle.octets.specs.declared.tag.Tag.{Tag};
-ghost use Rattle.octets.specs.Identifier.{class_bits, IsIdentifier};
+ghost use Rattle.octets.specs.Identifier.{IsIdentifier};
 ghost use Rattle.octets.specs.Rule.{ber};
 ghost use Rattle.types.specs.Form.{IsConstructed};
 ghost use Rattle.berslice.specs.Heads.{IsIdentifierOf, IsOpened, IsPrimitiveAt, StartsWithEnd};
 
-use octets::{Class, Head, Length, Tag, read_identifier, read_length};
+use octets::{Head, Length, Tag, leading_octet, read_identifier, read_length};
 
 /// A constructed encoding of which the identifier octets and length octets have been read.
 #[derive(Clone, Copy)]
@@ -170,20 +170,6 @@ fn long_begun(tag: Tag, constructed: bool, octets: &[u8]) -> Option<usize>
         } if found == tag && form == constructed => Some(used),
         Head::Done { .. } | Head::More | Head::Bad => None,
     }
-}
-
-// The one identifier octet of a primitive encoding (X.690 8.1.2.2).
-fn leading_octet(tag: Tag) -> u8
-    requires { tag.number ≤ 30 }
-    ensures { result ≡ class_bits tag.class + tag.number }
-{
-    let class = match tag.class {
-        Class::Universal => 0x00,
-        Class::Application => 0x40,
-        Class::Context => 0x80,
-        Class::Private => 0xC0,
-    };
-    class + tag.number as u8
 }
 
 impl<'a> Inside<'a> {

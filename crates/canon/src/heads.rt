@@ -4,7 +4,6 @@ ghost use Rattle.std.specs.Prelude.{true, ◌≡◌, ◌≤◌, ◌<◌, ◌+◌
 ghost use Rattle.octets.specs.declared.canonical.Canonical.TheVariants.{Cer, Der};
 ghost use Rattle.octets.specs.declared.tag.Tag.{Tag as TagOf};
 ghost use Rattle.octets.specs.Front.{Appends};
-ghost use Rattle.octets.specs.Identifier.{class_bits};
 ghost use Rattle.octets.specs.Rule.{rule_of};
 ghost use Rattle.types.specs.Form.{IsConstructed};
 ghost use Rattle.canon.specs.Few.{Spells};
@@ -14,7 +13,9 @@ ghost use Rattle.canon.specs.Part.{Keeps};
 ghost use Rattle.canon.specs.Writes.{Writes};
 
 use crate::few::{Few, put_few, put_pair};
-use octets::{Canonical, Class, NoMemory, Tag, put_identifier, put_shortest_length};
+use octets::{
+    Canonical, NoMemory, Tag, class_octet, leading_octet, put_identifier, put_shortest_length,
+};
 
 // Appends what stands before so many contents octets of a primitive encoding: mostly two octets.
 #[inline(always)]
@@ -80,26 +81,6 @@ pub(crate) fn high_head(tag: Tag, contents: usize) -> Few
     Few {
         count,
         word: head << (64 - 8 * count),
-    }
-}
-
-// The one identifier octet of a primitive encoding (X.690 8.1.2.2).
-pub(crate) fn leading_octet(tag: Tag) -> u8
-    requires { tag.number ≤ 30 }
-    ensures { result ≡ class_bits tag.class + tag.number }
-{
-    class_octet(tag.class) + tag.number as u8
-}
-
-// Bits 8 and 7 of a leading octet, and zeros.
-pub(crate) fn class_octet(class: Class) -> u8
-    ensures { result ≡ class_bits class }
-{
-    match class {
-        Class::Universal => 0x00,
-        Class::Application => 0x40,
-        Class::Context => 0x80,
-        Class::Private => 0xC0,
     }
 }
 

@@ -11,11 +11,11 @@ ghost use Rattle.canon.specs.Writes.{Writes};
 
 use crate::contents::{put_contents, size_of_contents};
 use crate::few::put_three;
-use crate::heads::{leading_octet, put_length, put_opening, put_primitive_head};
+use crate::heads::{put_length, put_opening, put_primitive_head};
 use crate::numbers::put_number;
 use crate::segments::{put_octets, put_string, size_of_string};
 use crate::sizes::size_of_definite;
-use octets::{Canonical, Class, NoMemory, Tag};
+use octets::{Canonical, Class, NoMemory, Tag, leading_octet};
 use primitives::put_boolean;
 use types::Value;
 

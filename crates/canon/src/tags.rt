@@ -14,8 +14,7 @@ ghost use Rattle.types.specs.Order.{BeginsWith, IsOrderTag};
 ghost use Rattle.types.specs.View.{components_view, ty_view};
 ghost use Rattle.canon.specs.Node.{HasGoodNodes};
 
-use crate::heads::class_octet;
-use octets::{Canonical, Head, Tag, read_identifier};
+use octets::{Canonical, Head, Tag, class_octet, read_identifier};
 use types::{Field, Ty, least_tag};
 
 // The tag by which an encoding of the type is ordered. Takes no memory.

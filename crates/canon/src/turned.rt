@@ -9,8 +9,8 @@ ghost use Rattle.canon.specs.Part.{Keeps};
 ghost use Rattle.canon.specs.Turned.{IsTurnedHead, IsTurnedForward};
 
 use crate::few::put_pair;
-use crate::heads::{bring_forward, leading_octet};
-use octets::{Canonical, NoMemory, Tag, put_identifier, put_shortest_length};
+use crate::heads::bring_forward;
+use octets::{Canonical, NoMemory, Tag, leading_octet, put_identifier, put_shortest_length};
 use types::{Ty, Value};
 
 // Whether long contents octets would move for each of four explicit tags or more, one of them around `ty`. Under CER

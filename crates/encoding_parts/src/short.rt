@@ -5,7 +5,7 @@ ghost use Rattle.std.specs.Prelude.{◌∷◌, [], IsTrue, IfSome};
 ghost use Rattle.octets.specs.Identifier.{IsIdentifier};
 ghost use Rattle.encoding_parts.specs.Head.{IsShortPrimitive};
 
-use octets::{Class, Tag};
+use octets::{Tag, leading_octet};
 
 /// How many octets the primitive encoding at the front has, if it has the tag and at most `room` octets. Its contents
 /// octets begin behind two of them. Takes no memory.
@@ -28,12 +28,6 @@ pub fn short_primitive(tag: Tag, room: usize, octets: &[u8]) -> Option<usize>
 pub fn is_identifier(tag: Tag, constructed: bool, octet: u8) -> bool
     ensures { IsTrue result → IsIdentifier tag constructed (octet ∷ []) }
 {
-    let class = match tag.class {
-        Class::Universal => 0x00,
-        Class::Application => 0x40,
-        Class::Context => 0x80,
-        Class::Private => 0xC0,
-    };
     let form = if constructed { 0x20 } else { 0x00 };
-    tag.number < 31 && u32::from(octet) == class + form + tag.number
+    tag.number < 31 && octet == leading_octet(tag) + form
 }
