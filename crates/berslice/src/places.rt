@@ -4,7 +4,7 @@ ghost use Rattle.std.specs.Prelude.{◌≡◌, ◌<◌, length, get_or, IfSome};
 ghost use Rattle.types.specs.Leaf.{IsLeaf, tag_of};
 ghost use Rattle.types.specs.View.{ty_view};
 
-use encoding_parts::{begins, by_tag};
+use encoding_parts::{by_tag, can_begin};
 use octets::Tag;
 use types::{Alternative, Ty};
 
@@ -53,7 +53,7 @@ impl Places {
     {
         let number = (tag.number % 256) as usize;
         let guess = usize::from(self.each[number]);
-        if guess < alternatives.len() && begins(&alternatives[guess].ty, tag) {
+        if guess < alternatives.len() && can_begin(&alternatives[guess].ty, tag) {
             return Some(guess);
         }
         let (which, _) = by_tag(alternatives, tag)?;

@@ -6,7 +6,7 @@ ghost use Rattle.encoding_parts.specs.HeldParts.{members_view};
 ghost use Rattle.encoding_parts.specs.Parts.{IsValueOf, Parts};
 ghost use Rattle.berslice.specs.RenewedSet.{renewed_view, IsEmptied, IsFilled, IsLeafOf, IsNext, IsNextAt, IsRoomy};
 
-use encoding_parts::{SetComponents, begins, take_slots};
+use encoding_parts::{SetComponents, begins, can_begin, take_slots};
 use octets::Tag;
 use std::alloc::Global;
 use types::{Field, Ty, Value};
@@ -185,14 +185,5 @@ impl<'a> Due<'a> {
             None => false,
         };
         Due { place, ty, is_leaf }
-    }
-}
-
-// Whether an encoding of the type can begin with the tag, without a call of one without parts.
-#[inline(always)]
-fn can_begin(ty: &Ty, tag: Tag) -> bool {
-    match ty.leaf_tag() {
-        Some(own) => own == tag,
-        None => begins(ty, tag),
     }
 }

@@ -25,9 +25,9 @@ pub fn begins(ty: &Ty, tag: Tag) -> bool
     by_tag(alternatives, tag).is_some()
 }
 
-// Whether an encoding of the type can begin with the tag, without a call but of a CHOICE: any other type has one tag.
+/// What `begins` says, without a call but of a CHOICE: any other type has one tag. Takes no memory.
 #[inline(always)]
-pub(crate) fn can_begin(ty: &Ty, tag: Tag) -> bool
+pub fn can_begin(ty: &Ty, tag: Tag) -> bool
     ensures { IsTrue result ↔ Contains (first_tags (ty_view ty.now)) tag }
 {
     match ty.tag() {
@@ -45,7 +45,7 @@ pub fn by_tag<'a>(alternatives: &'a [Alternative], tag: Tag) -> Option<(usize, &
         × Contains (first_tags (ty_view p.1.now.ty)) tag) }
 {
     if let Some((which, alternative)) = by_number(alternatives, tag) {
-        if begins(&alternative.ty, tag) {
+        if alternative.ty.tag() == Some(tag) {
             return Some((which, alternative));
         }
     }

@@ -23,7 +23,7 @@ mod set_components;
 mod short;
 mod slots;
 
-pub use choices::{begins, by_tag, is_node, node_of, node_within, wrap};
+pub use choices::{begins, by_tag, can_begin, is_node, node_of, node_within, wrap};
 pub use contents::read_contents;
 pub use filling::fill;
 pub use frame::{Frame, INLINE_FRAMES, OUTSIDE};

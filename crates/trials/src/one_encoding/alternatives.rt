@@ -3,11 +3,11 @@
 use crate::type_notation::{tag_of, typed};
 use crate::value_notation::value_of;
 use encoding_parts::{begins, is_node, node_of, node_within, wrap};
-use octets::Tag;
+use octets::{Class, Tag};
 use std::alloc::Global;
 use std::test::Fail;
 use test_tables::{Table, check, three};
-use types::{Ty, WellTyped};
+use types::{Alternative, Ty, WellTyped};
 
 // Whether the node of the encodings that begin with the tag is found, and is no CHOICE.
 fn has_node(ty: &Ty, tag: Tag) -> bool {
@@ -59,4 +59,35 @@ impl Table for Nodes {
 #[test]
 fn nodes_and_wrapped_values(rt: HostRuntime) -> Result<(), Fail> {
     check(rt.alloc(), &Nodes, NODES)
+}
+
+// A CHOICE of so many NULLs and, behind them, this type, which is the one at the place that the tag of number 1,000
+// says, counted from the number of the first.
+fn choice_around(alloc: Global, ty: Ty, place: u32) -> Result<Ty, Fail> {
+    let tag = Tag {
+        class: Class::Context,
+        number: 1_000u32.saturating_sub(place),
+    };
+    let mut alternatives = Vec::new(alloc);
+    for _ in 0..place {
+        alternatives.push(Alternative::new(alloc, "a", Ty::null().implicit(alloc, tag)?)?)?;
+    }
+    alternatives.push(Alternative::new(alloc, "z", ty)?)?;
+    Ok(Ty::choice(alternatives))
+}
+
+// A search that looks twice into what stands there takes 2 to the power of 30 steps.
+#[test]
+fn each_alternative_is_looked_at_once(rt: HostRuntime) -> Result<(), Fail> {
+    let mut ty = Ty::boolean();
+    for place in 1..31 {
+        ty = choice_around(rt.alloc(), ty, place)?;
+    }
+    let tag = Tag {
+        class: Class::Context,
+        number: 1_000,
+    };
+    assert!(rt; !begins(&ty, tag));
+    assert!(rt; begins(&ty, Tag::universal(1)));
+    Ok(())
 }

@@ -23,7 +23,7 @@ by_tag-loop-which-preserved t c =
     let xs = c.args.alternatives.now in
     let tag = c.args.tag in
     passes (ChoicesHave tag) (Contains (first_tags (ty_view a.ty)) tag) xs c.loop-which.which a c.loop-which-test.true c.index-alternatives-which.is (have_cases tag a _) (have_later tag a _)
-    (not_so _ _ c.begins-in-loop-which.ensures c.if-begins-2.false) c.loop-which.invariant
+    (not_so _ _ c.begins.ensures c.if-begins.false) c.loop-which.invariant
 
 pub by_tag-returns : goal.by_tag-returns
 by_tag-returns t c = lacks (ChoicesHave c.args.tag) c.args.alternatives.now c.loop-which.which (omega (arith, c.loop-which-test.false)) (not_in_nil c.args.tag) c.loop-which.invariant
