@@ -7,7 +7,8 @@ ghost use Rattle.types.specs.Refusal.{IsFinal, IsOfReading};
 ghost use Rattle.encoding_parts.specs.Cut.{IsIdentifierCut, IsLengthCut};
 ghost use Rattle.encoding_parts.specs.Head.{IsTagWithin, IsReadTag, IsExtentWithin, IsReadExtent};
 
-use octets::{Class, Head, Length, Tag, read_identifier, read_length};
+use crate::set_components::not_due;
+use octets::{Head, Length, Tag, read_identifier, read_length};
 use types::Refusal;
 
 /// How many end-of-contents octets an encoding of the indefinite form has.
@@ -63,8 +64,7 @@ pub fn read_head_tag(end: usize, taken: usize, octets: &[u8]) -> Result<(Tag, bo
 /// is constructed, and how many they are (X.690 8.1.2). Before it stand `taken` octets, and what holds it ends at
 /// `end`.
 ///
-/// Refused as `read_head_tag` does, and where they are those of another tag with `Identifier`, or `EndOfContents`
-/// where they look like the end of contents. Takes no memory.
+/// Refused as `read_head_tag` does, and where they are those of another tag as `not_due` says. Takes no memory.
 pub fn read_tag(tag: Tag, end: usize, taken: usize, octets: &[u8]) -> Result<(bool, usize), Refusal>
     requires { tag.number ≤ MAX_TAG_NUMBER }
     ensures value { IfOk result (λ p. IsReadTag tag end taken octets.now p.0 p.1) }
@@ -76,7 +76,7 @@ pub fn read_tag(tag: Tag, end: usize, taken: usize, octets: &[u8]) -> Result<(bo
 {
     let (found, constructed, used) = read_head_tag(end, taken, octets)?;
     if found != tag {
-        return Err(misplaced(found, constructed));
+        return Err(not_due(found));
     }
     Ok((constructed, used))
 }
@@ -160,17 +160,5 @@ pub fn refusal_inside(inside_definite: bool, refusal: Refusal) -> Refusal
         Refusal::Length
     } else {
         refusal
-    }
-}
-
-// Why another identifier is refused: the octet 00 looks like the end of contents.
-fn misplaced(found: Tag, constructed: bool) -> Refusal
-    ensures never { IsFinal result }
-    ensures numbers { IsOfReading result }
-{
-    if found.class == Class::Universal && found.number == 0 && !constructed {
-        Refusal::EndOfContents
-    } else {
-        Refusal::Identifier
     }
 }

@@ -187,8 +187,8 @@ fn no_set_component(fields: &[Field], slots: &[Option<Value>], tag: Tag) -> Refu
     Refusal::Identifier
 }
 
-/// Why a part that begins with the tag is refused where another may come: `EndOfContents` of the octet 00, which
-/// begins no part, and else `Identifier`. Takes no memory.
+/// Why a part that begins with the tag is refused where another may come: `EndOfContents` of universal 0, which begins
+/// no part, and else `Identifier`. Takes no memory.
 pub fn not_due(tag: Tag) -> Refusal
     ensures { IsOfDue result }
 {

@@ -19,6 +19,7 @@ BOOLEAN:
 02                       | refused 2
 02 01 FF                 | refused 2
 00 00                    | refused 5
+20 00                    | refused 5
 01 02 FF FF              | refused 6
 01                       | refused 1
 21 80                    | refused 3

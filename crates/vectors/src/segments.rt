@@ -35,6 +35,7 @@ OCTET STRING:
 24 03 04 02 41 42                             | refused 4
 24 80 00 01                                   | refused 5
 24 02 00 00                                   | refused 5
+24 02 20 00                                   | refused 5
 24 80 24 02 00 00 00 00                       | refused 5
 BIT STRING:
 23 00                                         | 03 01 00          | 03 01 00          | ''B

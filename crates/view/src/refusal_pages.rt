@@ -17,7 +17,7 @@ pub struct Page {
     pub example: &'static str,
 }
 
-/// All rows, in order of numbers but for those of types, which stand before those of modules.
+/// All rows, in order of numbers.
 pub const PAGES: [Page; 30] = [
     Page {
         number: 1,
@@ -51,9 +51,9 @@ pub const PAGES: [Page; 30] = [
     Page {
         number: 5,
         name: "EndOfContents",
-        says: "The identifier octet 00 where a value or a segment must begin; 00 and another octet than 00 in an \
-            encoding of the indefinite form. Returned by the readers.",
-        example: "BOOLEAN, 00 00; OCTET STRING, 24 02 00 00; 24 80 00 01.",
+        says: "The tag universal 0, whose identifier octet is 00 (or 20, constructed), where a value or a segment \
+            must begin; 00 and another octet than 00 in an encoding of the indefinite form. Returned by the readers.",
+        example: "BOOLEAN, 00 00; 20 00; OCTET STRING, 24 02 00 00; 24 80 00 01.",
     },
     Page {
         number: 6,
@@ -147,7 +147,7 @@ pub const PAGES: [Page; 30] = [
         says: "An octet or a part of the text is no token, or a comment is not closed. Returned by tokens; by \
             parse for the whole text before its grammar is looked at. The program refuses a file that is not UTF-8 so, \
             at 1:1.",
-        example: "A, a line feed, #, at 2:2.",
+        example: "A, a line feed, a space and #, at 2:2.",
     },
     Page {
         number: 22,
@@ -240,23 +240,18 @@ pub const PAGES: [Page; 30] = [
 pub fn show_pages<W: Write, E: Write>(number: u64, out: &mut W, err: &mut E) -> u8
     ensures { IsStatus result }
 {
-    let mut found = false;
-    for page in &PAGES {
-        if u64::from(page.number) == number {
-            found = true;
-            let (name, says, example) = (page.name, page.says, page.example);
-            let _ = writeln!(out, "{number} {name}\n  {says}");
-            if !example.is_empty() {
-                let _ = writeln!(out, "  for example: {example}");
-            }
-        }
-    }
-    if !found {
+    let found = PAGES.iter().find(|page| u64::from(page.number) == number);
+    let Some(page) = found else {
         let _ = writeln!(
             err,
             "asn1x-view: no refusal has the number {number}: they are 1 to 17 and 21 to 33"
         );
         return 64;
+    };
+    let (name, says, example) = (page.name, page.says, page.example);
+    let _ = writeln!(out, "{number} {name}\n  {says}");
+    if !example.is_empty() {
+        let _ = writeln!(out, "  for example: {example}");
     }
     0
 }

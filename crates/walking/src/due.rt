@@ -9,18 +9,14 @@ use types::{Refusal, Ty, Value};
 
 impl<'a> Walk<'a> {
     // Tells the part that begins with the tag, and returns its default.
-    pub(crate) fn due(
-        &mut self,
-        tag: Tag,
-        constructed: bool,
-    ) -> Result<Option<&'a Value>, Stopped> {
+    pub(crate) fn due(&mut self, tag: Tag) -> Result<Option<&'a Value>, Stopped> {
         let Some(top) = self.open.last_mut() else {
             return self.due_outside(tag);
         };
         if let Held::Segments(kind) = &top.held {
             let kind = *kind;
             let string = top.part.node;
-            return self.due_segment(kind, string, tag, constructed);
+            return self.due_segment(kind, string, tag);
         }
         match top.take_due(tag) {
             Ok(due) => {
@@ -40,10 +36,9 @@ impl<'a> Walk<'a> {
         kind: Kind,
         string: &'a Ty,
         tag: Tag,
-        constructed: bool,
     ) -> Result<Option<&'a Value>, Stopped> {
         let is_bits_end = self.joined.unused != 0;
-        if let Some((refusal, words)) = segment_refused(kind, tag, constructed, is_bits_end) {
+        if let Some((refusal, words)) = segment_refused(kind, tag, is_bits_end) {
             return Err(self.halt_here(refusal, Reason::Words(words)));
         }
         self.line.part = segment_of(string, tag);
@@ -141,16 +136,11 @@ fn segment_of(string: &Ty, tag: Tag) -> Part<'_> {
 }
 
 // Why an identifier is refused where a segment must stand.
-fn segment_refused(
-    kind: Kind,
-    tag: Tag,
-    constructed: bool,
-    is_bits_end: bool,
-) -> Option<(Refusal, &'static str)> {
-    if tag == Tag::universal(0) && !constructed {
+fn segment_refused(kind: Kind, tag: Tag, is_bits_end: bool) -> Option<(Refusal, &'static str)> {
+    if tag == Tag::universal(0) {
         return Some((
             Refusal::EndOfContents,
-            "00 stands where a segment must begin",
+            "universal 0, the tag of end-of-contents octets, stands where a segment must begin",
         ));
     }
     if tag != segment_tag(kind) {
@@ -174,7 +164,9 @@ fn why_not_due<'a>(refusal: Refusal, tag: Tag, missing: Option<&'a str>) -> Reas
     match (refusal, missing) {
         (Refusal::Missing, Some(name)) => Reason::Absent(name),
         (Refusal::Repeated, _) => Reason::Words("the component has come already"),
-        (Refusal::EndOfContents, _) => Reason::Words("00 stands where a part must begin"),
+        (Refusal::EndOfContents, _) => Reason::Words(
+            "universal 0, the tag of end-of-contents octets, stands where a part must begin",
+        ),
         (Refusal::NoMemory, _) => Reason::NoMemory,
         (_, _) => Reason::NotDue(tag),
     }
