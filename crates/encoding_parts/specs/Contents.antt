@@ -5,7 +5,6 @@ use Rattle.types.specs.declared.ty.Ty.{Ty}
 use Rattle.types.specs.declared.ty.Ty.TheVariants.{Enumerated as EnumeratedType, Text as TextType, Time as TimeType}
 use Rattle.types.specs.declared.refusal.Refusal.{Refusal}
 use Rattle.types.specs.declared.refusal.Refusal.TheVariants.{Contents, Alphabet, NoMemory}
-use Rattle.primitives.specs.declared.fault.Fault as fault
 use Rattle.primitives.specs.Boolean.{IsBoolean}
 use Rattle.primitives.specs.Integer.{IsInteger}
 use Rattle.primitives.specs.Null.{IsNull}
@@ -134,8 +133,3 @@ IsOfContents Contents = ⊤
 IsOfContents Alphabet = ⊤
 IsOfContents NoMemory = ⊤
 IsOfContents _ = ⊥
-
--- what a fault of contents octets is refused with
-abbrev pub refusal_of_fault : fault.Fault → Refusal
-refusal_of_fault fault.TheVariants.Contents = Contents
-refusal_of_fault fault.TheVariants.NoMemory = NoMemory

@@ -7,11 +7,10 @@ ghost use Rattle.types.specs.Conforms.{Conforms};
 ghost use Rattle.types.specs.Leaf.{IsLeaf};
 ghost use Rattle.types.specs.Refusal.{IsFinal};
 ghost use Rattle.types.specs.View.{ty_view, value_view};
-ghost use Rattle.encoding_parts.specs.Contents.{HoldsNoValue, HoldsValue, IsEnumerated, IsOfContents, IsTextual, octets_view, refusal_of_fault, text_view, wide_view};
+ghost use Rattle.encoding_parts.specs.Contents.{HoldsNoValue, HoldsValue, IsEnumerated, IsOfContents, IsTextual, octets_view, text_view, wide_view};
 
 use primitives::{
-    Fault, is_wide_integer, read_bits, read_boolean, read_integer, read_null, read_oid,
-    read_relative_oid,
+    is_wide_integer, read_bits, read_boolean, read_integer, read_null, read_oid, read_relative_oid,
 };
 use std::alloc::Global;
 use types::{Refusal, Ty, Value, conforms};
@@ -41,22 +40,10 @@ pub fn read_contents(alloc: Global, ty: &Ty, contents: &[u8]) -> Result<Value, R
             Some(()) => Ok(Value::Null),
             None => Err(Refusal::Contents),
         },
-        Ty::Oid(_) => match read_oid(alloc, contents) {
-            Ok(arcs) => Ok(Value::Oid(arcs)),
-            Err(fault) => Err(refusal_of(fault)),
-        },
-        Ty::RelativeOid(_) => match read_relative_oid(alloc, contents) {
-            Ok(arcs) => Ok(Value::RelativeOid(arcs)),
-            Err(fault) => Err(refusal_of(fault)),
-        },
-        Ty::Bits(_) => match read_bits(alloc, contents) {
-            Ok(bits) => Ok(Value::Bits(bits)),
-            Err(fault) => Err(refusal_of(fault)),
-        },
-        Ty::NamedBits(_, _) => match read_bits(alloc, contents) {
-            Ok(bits) => Ok(Value::Bits(bits.trimmed())),
-            Err(fault) => Err(refusal_of(fault)),
-        },
+        Ty::Oid(_) => Ok(Value::Oid(read_oid(alloc, contents)?)),
+        Ty::RelativeOid(_) => Ok(Value::RelativeOid(read_relative_oid(alloc, contents)?)),
+        Ty::Bits(_) => Ok(Value::Bits(read_bits(alloc, contents)?)),
+        Ty::NamedBits(_, _) => Ok(Value::Bits(read_bits(alloc, contents)?.trimmed())),
         Ty::Octets(_) => read_octets(alloc, contents),
         Ty::Text(_, _) => read_text(alloc, ty, contents),
         Ty::Time(_, _) => read_text(alloc, ty, contents),
@@ -140,14 +127,5 @@ pub fn text_of(ty: &Ty, octets: Vec<u8>) -> Result<Value, Refusal>
         Ok(value)
     } else {
         Err(Refusal::Alphabet)
-    }
-}
-
-fn refusal_of(fault: Fault) -> Refusal
-    ensures { result ≡ refusal_of_fault fault }
-{
-    match fault {
-        Fault::Contents => Refusal::Contents,
-        Fault::NoMemory => Refusal::NoMemory,
     }
 }

@@ -1,33 +1,40 @@
 use Rattle.std.proofs.Common.{◌≡◌, ◌<◌, ℕ, false, ◌++◌, replicate, All, Err, refl, sym, ap, ◌∙◌, subst, subst₂, arith}
 use Rattle.std.proofs.lemmas.List.Elements.{All-from_get_or}
 use Rattle.octets.specs.Rule.{ber}
-use Rattle.octets.proofs.ResultLemmas.{IfOk-map}
+use Rattle.octets.proofs.ResultLemmas.{IfErr-from, IfOk-map}
 use Rattle.primitives.specs.declared.fault.Fault as fault
 use Rattle.types.specs.Refusal.{IsFinal}
 use Rattle.types.specs.Shape.{StringType, StringValue, Shape, Val}
 use Rattle.types.proofs.ViewLemmas.{ty-Bits, ty-NamedBits, ty-Octets}
 use Rattle.types.specs.View.{ty_view, value_view}
-use Rattle.encoding_parts.specs.Contents.{HoldsContents, HoldsValue, octets_view, refusal_of_fault}
+use Rattle.types.specs.OfContents.{refusal_of_fault}
+use Rattle.encoding_parts.specs.Contents.{HoldsContents, HoldsNoValue, HoldsValue, octets_view}
 use Rattle.encoding_parts.proofs.contents.read_contents.Goals as goal
 
 contents_fault : (f : fault.Fault) → IsFinal (refusal_of_fault f) → f ≡ fault.TheVariants.Contents
 contents_fault fault.TheVariants.Contents h = refl
 contents_fault fault.TheVariants.NoMemory h = absurd h
 
-pub returns-in-Err-read_bits-clause-none : goal.returns-in-Err-read_bits-clause-none
-returns-in-Err-read_bits-clause-none c = λ final v conforms holds.
+pub returns-in_err-read_bits-in-Bits-clause-none : goal.returns-in_err-read_bits-in-Bits-clause-none
+returns-in_err-read_bits-in-Bits-clause-none c =
     let contents = c.args.contents.now in
-    let known = contents_fault c.in-Err-read_bits.fault (subst IsFinal c.refusal_of-in-Err-read_bits.ensures final) in
+    let stop = c.from_residual-in_err-read_bits-in-Bits in
+    IfErr-from stop.result _ (λ refusal. IsFinal refusal → HoldsNoValue ber (ty_view c.args.ty.now) contents) stop.ensures.1
+    (λ refusal same final v conforms holds.
+    let known = contents_fault c.in_err-read_bits-in-Bits.field-0.0 (subst IsFinal same final) in
     let bits = subst (λ (shape : Shape). HoldsContents ber shape v contents) (ap ty_view c.in-Bits.is ∙ ty-Bits c.in-Bits.field-0) holds in
-    c.in-Err-read_bits.ensures.none (ap Err known) bits.spelt.bits bits.spelt.spelt
+    c.in_err-read_bits-in-Bits.ensures.none (ap Err known) bits.spelt.bits bits.spelt.spelt)
 
-pub returns-in-Err-read_bits-2-clause-none : goal.returns-in-Err-read_bits-2-clause-none
-returns-in-Err-read_bits-2-clause-none c = λ final v conforms holds.
+pub returns-in_err-read_bits-in-NamedBits-clause-none : goal.returns-in_err-read_bits-in-NamedBits-clause-none
+returns-in_err-read_bits-in-NamedBits-clause-none c =
     let contents = c.args.contents.now in
     let arm = c.in-NamedBits in
-    let known = contents_fault c.in-Err-read_bits-2.fault (subst IsFinal c.refusal_of-in-Err-read_bits-2.ensures final) in
+    let stop = c.from_residual-in_err-read_bits-in-NamedBits in
+    IfErr-from stop.result _ (λ refusal. IsFinal refusal → HoldsNoValue ber (ty_view c.args.ty.now) contents) stop.ensures.1
+    (λ refusal same final v conforms holds.
+    let known = contents_fault c.in_err-read_bits-in-NamedBits.field-0.0 (subst IsFinal same final) in
     let bits = subst (λ (shape : Shape). HoldsContents ber shape v contents) (ap ty_view arm.is ∙ ty-NamedBits arm.field-0 arm.field-1) holds in
-    c.in-Err-read_bits-2.ensures.none (ap Err known) (bits.spelt.bits ++ replicate bits.spelt.zeros false) bits.spelt.spelt
+    c.in_err-read_bits-in-NamedBits.ensures.none (ap Err known) (bits.spelt.bits ++ replicate bits.spelt.zeros false) bits.spelt.spelt)
 
 pub returns-in-Octets-clause-value : goal.returns-in-Octets-clause-value
 returns-in-Octets-clause-value c =
