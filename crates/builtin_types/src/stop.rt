@@ -17,7 +17,7 @@ pub enum Cause {
     ImplicitChoice,
     /// A limit on types is not kept.
     TooLarge,
-    /// Two items of an ENUMERATED have one number.
+    /// Two items of an ENUMERATED, or two named bits, have one number.
     RepeatedNumber,
     /// A DEFAULT that its type does not take.
     BadDefault,

@@ -9,7 +9,7 @@ IsLeaf (Shape.simple tag type) = ⊤
 IsLeaf (Shape.string tag type) = ⊤
 IsLeaf _ = ⊥
 
--- the tag of one
+-- the tag of one; of a type with parts, of which none is asked, any
 abbrev pub tag_of : Shape → Tag
 tag_of (Shape.simple tag type) = tag
 tag_of (Shape.string tag type) = tag

@@ -74,9 +74,3 @@ abbrev pub IsOfWriting : Refusal → Type 0
 IsOfWriting OutputTooLong = ⊤
 IsOfWriting NoMemory = ⊤
 IsOfWriting _ = ⊥
-
--- 1 to 12, 14 and 17: what a conversion of octets to octets is refused with
-abbrev pub IsOfTranscoding : Refusal → Type 0
-IsOfTranscoding OutputTooLong = ⊤
-IsOfTranscoding NoMemory = ⊤
-IsOfTranscoding refusal = IsOfOctets refusal

@@ -17,7 +17,7 @@ use crate::{Alternative, Field, Ty};
 pub enum Condition {
     /// The tag number and the list are within their limits.
     Limits,
-    /// The numbers of an ENUMERATED's items differ.
+    /// The numbers of an ENUMERATED's items differ, and those of named bits.
     Numbers,
     /// The tag is not universal 0, and the parts are told apart by their tags.
     Tags,

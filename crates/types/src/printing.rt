@@ -11,8 +11,8 @@ use strings::{TextKind, TimeKind};
 /// The type in the notation of X.680, on one line. Each tag that is not the type's universal one has its
 /// keyword, so that the text means the type wherever tags are explicit by default.
 ///
-/// It says no more than the type: names may be none of X.680, and what is not well formed stays so. A
-/// default with characters that no character string of X.680 has, as an end of line, stands as it is.
+/// It says no more than the type: names may be none of X.680, and the text of a type that is not well formed
+/// may mean another type, or none. A default with characters that no character string of X.680 has, as an end of line, stands as it is.
 impl fmt::Display for Ty {
     fn fmt<W: fmt::Write>(&self, f: &mut fmt::Formatter<W>) -> fmt::Result {
         put_type(self, f)

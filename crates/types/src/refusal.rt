@@ -147,7 +147,7 @@ impl From<Fault> for Refusal {
 /// Why a type is not well formed. The numbers are printed by the program and never change.
 #[derive(Clone, Copy, Debug, PartialEq, Eq)]
 pub enum TypeFault {
-    /// Two items of an ENUMERATED have one number.
+    /// Two items of an ENUMERATED, or two named bits, have one number.
     RepeatedNumber = 27,
     /// Tags that must differ are equal, or a tag is universal 0, which is kept for the end of contents.
     TagsNotDistinct = 28,

@@ -109,7 +109,7 @@ impl Ty {
     /// own. Takes no memory.
     pub fn tag(&self) -> Option<Tag>
         ensures value { IfSome result (λ tag. first_tags (ty_view self.now) ≡ tag ∷ []) }
-        ensures none { IsNone result → (alternatives : Alternatives) × (ty_view self.now ≡ Shape.choice alternatives) }
+        ensures none { IsNone result ↔ ((alternatives : Alternatives) × (ty_view self.now ≡ Shape.choice alternatives)) }
     {
         match self {
             Ty::Choice(_) => None,
@@ -147,7 +147,7 @@ impl Ty {
         }
     }
 
-    /// Whether the type has no parts, as those have none that `leaf_tag` has a tag of. Takes no memory.
+    /// Whether the type has no parts; `leaf_tag` then returns its tag. Takes no memory.
     pub fn has_no_parts(&self) -> bool
         ensures { IsTrue result ↔ IsLeaf (ty_view self.now) }
     {

@@ -9,7 +9,8 @@ use crate::{MAX_LEVELS, MAX_NODES, Ty, TypeFault};
 use std::marker::Model;
 
 /// A type that is well formed: it keeps the limits, the tags that tell its parts apart differ and none
-/// is universal 0, the numbers of an ENUMERATED differ, and each default is a value of its type.
+/// is universal 0, the numbers of an ENUMERATED or of named bits differ, and each default is a value of
+/// its type.
 #[derive(Debug, Drop)]
 pub struct WellTyped {
     ty: Ty,
@@ -39,7 +40,7 @@ impl WellTyped {
     /// `RepeatedNumber`, `TagsNotDistinct` and `BadDefault`.
     ///
     /// The nodes and levels are counted first, and no further than to the limits. On a type that keeps
-    /// them, the numbers of each ENUMERATED are put in order, each pair of tags that must differ is
+    /// them, the numbers of each ENUMERATED and of named bits are put in order, each pair of tags that must differ is
     /// compared once, and each default is looked at once: some ten million steps at most, and those
     /// that the octets of the defaults take. Takes no memory.
     pub fn new(ty: Ty) -> Result<WellTyped, TypeFault>
