@@ -1,6 +1,6 @@
 //! Contents octets of a NULL (X.690 8.8).
 
-ghost use Rattle.std.specs.Prelude.{◌≡◌, ◌↔◌, IsSome, IsOk, OnOk, OnErr};
+ghost use Rattle.std.specs.Prelude.{◌↔◌, IsSome, IsOk, OnOk};
 ghost use Rattle.octets.specs.Front.{Appends};
 ghost use Rattle.primitives.specs.Null.{IsNull};
 
@@ -16,7 +16,6 @@ pub fn read_null(contents: &[u8]) -> Option<()>
 /// Appends the contents octets of a NULL: none, so nothing changes and no memory is taken.
 pub fn put_null(out: &mut Vec<u8>) -> Result<(), NoMemory>
     ensures appended { OnOk result (Appends IsNull out.old.items out.new.items) }
-    ensures unchanged { OnErr result (out.new.items ≡ out.old.items) }
     ensures always { IsOk result }
 {
     let _ = out;
