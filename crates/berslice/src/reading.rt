@@ -22,8 +22,8 @@ use std::alloc::Global;
 use types::{Alternative, Ty, Value};
 
 /// Reads the encoding at the front of `octets` into `whole`, where all of it is there and within the limits, and
-/// returns how many octets it has. None of anything else, of which that says nothing: a caller then reads part by part,
-/// and refuses what there is to refuse.
+/// returns how many octets it has. Returns None for anything else, also where memory runs out: a caller then reads part
+/// by part, and refuses what there is to refuse.
 ///
 /// Takes memory as the value does, beside the room of the value that `whole` holds, into which goes what has room
 /// there, but no constructed string; None where there is too little. A list that `whole` holds then goes to `room`, with

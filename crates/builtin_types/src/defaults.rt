@@ -15,7 +15,7 @@ use crate::stop::{Cause, Stop};
 use primitives::Bits;
 use std::alloc::{AllocError, Global};
 use strings::{TextKind, allowed};
-use syntax::{DefaultValue, SignedNumber};
+use syntax::DefaultValue;
 use types::{Item, Ty, Value};
 
 /// The value that is written behind DEFAULT for a component of this type, seen through explicit tags

@@ -1,4 +1,4 @@
-//! Whether the names of a list differ (X.680 20.5, 22.5, 25.4, 27.2 and 29.3).
+//! Whether the names of a list differ (X.680 clauses 20, 22, 25, 27 and 29).
 
 ghost use Rattle.std.specs.Prelude.{◌↔◌, IfOk, IsTrue, map};
 ghost use Rattle.syntax.specs.View.{component, alternative, entry, bit};

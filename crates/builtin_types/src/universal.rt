@@ -5,7 +5,7 @@
 ghost use Rattle.std.specs.Prelude.{◌≡◌};
 ghost use Rattle.types.specs.View.{ty_view, components_view};
 ghost use Rattle.types.specs.Shape.{Shape, Components};
-ghost use Rattle.types.specs.Universal.{bit_string_tag, enumerated_tag, sequence_tag, set_tag};
+ghost use Rattle.types.specs.Universal.{bit_string_tag, enumerated_tag};
 ghost use Rattle.builtin_types.specs.Universal.{named_by_words, list_of, repeated};
 ghost use Rattle.types.specs.Tagging.{tagged_implicitly};
 

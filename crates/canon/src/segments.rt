@@ -7,7 +7,7 @@
 //! That the last segment carries at least one octet of data is this project's own rule
 //! (`docs/PROFILE.md`, "The last segment").
 
-ghost use Rattle.std.specs.Prelude.{◌≡◌, ◌≤◌, ◌<◌, ◌+◌, ◌++◌, [], ℕ, List, length, OnOk, OnErr};
+ghost use Rattle.std.specs.Prelude.{◌≡◌, ◌≤◌, ◌+◌, ◌++◌, [], ℕ, List, length, OnOk, OnErr};
 ghost use Rattle.octets.specs.declared.TheConstants.{MAX_ENCODING, MAX_TAG_NUMBER};
 ghost use Rattle.octets.specs.Rule.{cer, rule_of};
 ghost use Rattle.types.specs.Form.{IsPrimitive};

@@ -6,7 +6,7 @@ ghost use Rattle.types.specs.Conforms.{Conforms};
 ghost use Rattle.types.specs.Refusal.{IsFinal};
 ghost use Rattle.types.specs.View.{ty_view, value_view};
 ghost use Rattle.encoding_parts.specs.Contents.{IsOfContents};
-ghost use Rattle.encoding_parts.specs.Joined.{Element, HoldsPiece, HoldsSame, IsHeld, IsJoined, segment_of, string_of, value_of, IsHeldFor, IsNoString, IsStringOf};
+ghost use Rattle.encoding_parts.specs.Joined.{Element, HoldsPiece, HoldsSame, IsHeld, IsJoined, segment_of, value_of, IsHeldFor, IsNoString, IsStringOf};
 
 use crate::contents::text_of;
 use octets::{Class, Tag};

@@ -1,13 +1,8 @@
 //! A constructed string, read part by part.
 
-ghost use Rattle.std.specs.Prelude.{◌≡◌, ◌≢◌, ◌↔◌, IsTrue, ◌+◌, ◌<◌, ◌≤◌, ◌++◌, ℕ, List, [], true, false, take, length, slice_range, IfOk, IfErr, IfSome, OnOk, MatchOption, ◌⊎◌};
-ghost use Rattle.octets.specs.declared.TheConstants.{MAX_ENCODING};
-ghost use Rattle.octets.specs.declared.tag.Tag.{Tag};
-ghost use Rattle.octets.specs.Identifier.{IsIdentifier};
-ghost use Rattle.octets.specs.Rule.{ber};
-ghost use Rattle.types.specs.Form.{IsPrimitive};
+ghost use Rattle.std.specs.Prelude.{◌≡◌, ◌≢◌, ◌↔◌, IsTrue, ◌+◌, ◌<◌, ◌≤◌, ◌++◌, ℕ, List, [], true, false, take, length, IfOk, IfErr, IfSome, OnOk, MatchOption, ◌⊎◌};
 ghost use Rattle.types.specs.Refusal.{IsFinal, IsOfReading};
-ghost use Rattle.encoding_parts.specs.Completing.{IsEndOf, Opens};
+ghost use Rattle.encoding_parts.specs.Completing.{IsEndOf};
 ghost use Rattle.encoding_parts.specs.Cut.{Advances, IsCutInside, IsEndCut, IsStringCut};
 ghost use Rattle.encoding_parts.specs.Head.{IsPrimitiveAt};
 ghost use Rattle.encoding_parts.specs.Joined.{segment_of};

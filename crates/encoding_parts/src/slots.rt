@@ -1,6 +1,6 @@
 //! Slots for components, and the room of old values, into which new ones are read.
 
-ghost use Rattle.std.specs.Prelude.{◌≡◌, [], None, length, map, IfOk, IsTrue};
+ghost use Rattle.std.specs.Prelude.{◌≡◌, None, length, map, IfOk, IsTrue};
 ghost use Rattle.types.specs.Shape.{Val};
 ghost use Rattle.types.specs.View.{field_view, value_view};
 ghost use Rattle.types.specs.declared.value.Value.TheVariants.{Boolean, Integer};

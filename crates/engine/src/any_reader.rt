@@ -17,7 +17,9 @@ use types::{Refusal, Value, WellTyped};
 /// A reader of values of one type by any of the rules.
 #[derive(Drop)]
 pub enum AnyReader<'a> {
+    /// By BER.
     Ber(Reader<'a>),
+    /// By CER or DER.
     Strict(StrictReader<'a>),
 }
 

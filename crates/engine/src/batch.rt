@@ -1,6 +1,6 @@
 //! What stands for the values that a piece completes, gathered.
 
-ghost use Rattle.std.specs.Prelude.{◌≡◌, ◌≤◌, ℕ, List, [], ◌∷◌, ◌++◌, length, IsTrue, OnOk, OnErr, IfErr, IfSome};
+ghost use Rattle.std.specs.Prelude.{◌≡◌, ◌≤◌, ℕ, List, [], ◌++◌, length, IsTrue, OnOk, OnErr, IfErr, IfSome};
 ghost use Rattle.types.specs.Conforms.{Conforms};
 ghost use Rattle.types.specs.Encoding.{IsAccepted};
 ghost use Rattle.types.specs.Shape.{Val};

@@ -1,6 +1,6 @@
 //! A stream passed on piece by piece, from a source through a reader and a writer to a sink.
 
-ghost use Rattle.std.specs.Prelude.{◌≡◌, ◌≤◌, ◌+◌, ◌++◌, ℕ, List, [], length, IsTrue, OnOk, IfOk, IfErr};
+ghost use Rattle.std.specs.Prelude.{◌≡◌, ◌≤◌, ◌+◌, ℕ, List, [], length, IsTrue, OnOk, IfOk, IfErr};
 ghost use Rattle.types.specs.Encoding.{IsAccepted};
 ghost use Rattle.types.specs.Shape.{Val};
 ghost use Rattle.engine.specs.AnyReader.{read_rule, StandsBy};

@@ -1,10 +1,9 @@
 //! One value from octets to octets.
 
-ghost use Rattle.std.specs.Prelude.{◌≡◌, ◌≤◌, ◌++◌, ℕ, List, ◌⊎◌, length, take, OnOk, IfOk, IfErr};
-ghost use Rattle.octets.specs.Front.{Appends, Begins, HasFront};
-ghost use Rattle.types.specs.Conforms.{Conforms};
+ghost use Rattle.std.specs.Prelude.{◌≡◌, ◌≤◌, ◌++◌, ℕ, List, ◌⊎◌, length, take, IfOk, IfErr};
+ghost use Rattle.octets.specs.Front.{Begins, HasFront};
 ghost use Rattle.types.specs.Encoding.{IsAccepted, IsSomeAccepted};
-ghost use Rattle.types.specs.Refusal.{IsFinal, IsOfWriting};
+ghost use Rattle.types.specs.Refusal.{IsFinal};
 ghost use Rattle.types.specs.View.{ty_view, value_view};
 ghost use Rattle.types.specs.WellFormed.{IsWellFormed};
 ghost use Rattle.engine.specs.Refusal.{IsOfReadingBy, IsOfTranscoding};

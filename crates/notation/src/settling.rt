@@ -8,7 +8,6 @@ ghost use Rattle.notation.specs.Settled.{NamesTold, MeansNothing, IsSettled};
 ghost use Rattle.notation.specs.Apart.{IsApart, AreApart};
 ghost use Rattle.notation.specs.Weighed.{IsWeight, IsLimited, AreWeighed, CanWeigh};
 
-use crate::ordering::Waits;
 use crate::scope::{Scope, Seen};
 use crate::weight::Weight;
 use builtin_types::Cause;

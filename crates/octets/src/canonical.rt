@@ -1,6 +1,6 @@
 //! The rules that give each value one encoding.
 
-/// The rule that octets are written by: it gives each value one encoding.
+/// A rule that gives each value one encoding.
 #[derive(Clone, Copy, Debug, PartialEq, Eq)]
 pub enum Canonical {
     /// The canonical encoding rules (X.690 clause 9).

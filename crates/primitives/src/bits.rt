@@ -1,12 +1,12 @@
 //! A BIT STRING value, and its contents octets in a primitive encoding (X.690 8.6.2 and 11.2.1).
 
-ghost use Rattle.std.specs.Prelude.{◌≡◌, ℕ, ◌+◌, ◌*◌, ◌^◌, ◌-◌, ◌/◌, ◌%◌, ◌<◌, ◌≤◌, ◌↔◌, ◌⊎◌, Bool, true, false, List, [], ◌∷◌, ◌++◌, length, slice_index, take, replicate, IfSome, IsSome, IfOk, OnOk, OnErr, IsErrOf, IsTrue};
+ghost use Rattle.std.specs.Prelude.{◌≡◌, ℕ, ◌+◌, ◌-◌, ◌<◌, ◌≤◌, ◌↔◌, Bool, true, false, List, ◌++◌, length, slice_index, take, replicate, IfSome, IsSome, IfOk, OnOk, OnErr, IsErrOf, IsTrue};
 ghost use Rattle.std.specs.Cmp.{partial_equiv_from_equiv, bool_eq_equiv};
 ghost use Rattle.std.specs.Cmp.Lexicographic.{pointwise, lists_equiv};
 ghost use mathlib.Core.Bool.{beq};
 ghost use Rattle.octets.specs.Front.{Appends};
 ghost use Rattle.octets.specs.Rule.{ber};
-ghost use Rattle.primitives.specs.Bits.{bits_of_octet, bits_before, CanBeUnused, IsBits, IsCanonicalBits, IsFrontOf, IsPadded, IsTrimmed};
+ghost use Rattle.primitives.specs.Bits.{bits_before, CanBeUnused, IsBits, IsCanonicalBits, IsFrontOf, IsPadded, IsTrimmed};
 
 use crate::Fault;
 use octets::NoMemory;

@@ -2,7 +2,7 @@
 //!
 //! The limits on the number and the size of subidentifiers are this project's own (`docs/PROFILE.md`).
 
-ghost use Rattle.std.specs.Prelude.{◌≡◌, ◌≤◌, ◌<◌, ◌+◌, ◌-◌, ◌*◌, ℕ, min, List, [], ◌∷◌, ◌++◌, length, vec_len, vec_capacity, IfOk, OnOk, OnErr, IsErrOf, IsTrue};
+ghost use Rattle.std.specs.Prelude.{◌≡◌, ◌≤◌, ◌<◌, ◌+◌, ◌-◌, ◌*◌, ℕ, min, List, ◌∷◌, ◌++◌, length, vec_len, vec_capacity, IfOk, OnOk, OnErr, IsErrOf, IsTrue};
 ghost use Rattle.octets.specs.Front.{Appends};
 ghost use Rattle.primitives.specs.declared.TheConstants.{MAX_SUBIDENTIFIERS};
 ghost use Rattle.primitives.specs.Oid.{AreSubidentifiers, AreSmallSubidentifiers, IsFirstArc, IsOid, IsOidValue, IsRelativeOid, IsRelativeOidValue};

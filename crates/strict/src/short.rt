@@ -1,7 +1,7 @@
 //! Constructed encodings that two octets stand before what is inside: one identifier octet (X.690 8.1.2.2), and one length
 //! octet (8.1.3.4) or the octet 80 (8.1.3.6). Most are such, and are found by one look; of all others nothing is said here.
 
-ghost use Rattle.std.specs.Prelude.{◌+◌, ◌≤◌, ◌<◌, ◌∷◌, [], true, length, get_or, IsTrue, IfSome};
+ghost use Rattle.std.specs.Prelude.{◌≤◌, ◌∷◌, [], true, length, get_or, IfSome};
 ghost use Rattle.octets.specs.Identifier.{IsIdentifier};
 ghost use Rattle.octets.specs.Rule.{cer, der, rule_of};
 ghost use Rattle.strict.specs.Head.{IsOpened};

@@ -1,6 +1,6 @@
 //! What stands behind `BIT` (X.680 clause 22).
 
-ghost use Rattle.std.specs.Prelude.{◌≡◌, List, ℕ};
+ghost use Rattle.std.specs.Prelude.{List, ℕ};
 ghost use Rattle.syntax.specs.View.{form, bit};
 ghost use Rattle.syntax.specs.Reading.{Gives, signs_from};
 ghost use Rattle.syntax.specs.BitReading.{bit_number_at, named_bit_at, named_bits_at, behind_string_at, bit_string_at};

@@ -1,6 +1,6 @@
 //! Lists in braces, whose parts are no types.
 
-ghost use Rattle.std.specs.Prelude.{◌≡◌, Bool, map};
+ghost use Rattle.std.specs.Prelude.{Bool, map};
 ghost use Rattle.syntax.specs.Reading.{Gives, Reads, signs_from, more_at};
 
 use crate::refusing::refuse_part;

@@ -5,7 +5,7 @@ ghost use Rattle.syntax.specs.View.{tree, assignment};
 ghost use Rattle.lexis.specs.Lexemes.{sign};
 ghost use Rattle.syntax.specs.Reading.{Gives, signs_from, more_at};
 ghost use Rattle.syntax.specs.TypeReading.{type_at};
-ghost use Rattle.syntax.specs.ModuleReading.{goes_on, following_at, assignment_at, assignments_at, tagging_of, tags_at, tagging_at, module_at};
+ghost use Rattle.syntax.specs.ModuleReading.{following_at, assignment_at, assignments_at, tagging_of, tags_at, tagging_at, module_at};
 
 use crate::reading::{first_at, is_word, symbol_at, type_name_at, word_at};
 use crate::refusing::{Wanted, refuse, refuse_behind_type};

@@ -1,6 +1,4 @@
 //! Tags (X.680 clause 31).
-
-ghost use Rattle.std.specs.Prelude.{◌≡◌};
 ghost use Rattle.syntax.specs.Reading.{Gives, signs_from};
 ghost use Rattle.syntax.specs.TagReading.{class_at, mode_at, prefix_at};
 

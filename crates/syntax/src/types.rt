@@ -1,6 +1,4 @@
 //! Types that hold others, and what they are read from (X.680 clauses 25 to 31).
-
-ghost use Rattle.std.specs.Prelude.{◌≡◌};
 ghost use Rattle.syntax.specs.View.{form, alternative};
 ghost use Rattle.lexis.specs.Lexemes.{sign};
 ghost use Rattle.syntax.specs.Reading.{Gives, signs_from};

@@ -1,6 +1,6 @@
 //! Texts of values without parts that are no strings.
 
-ghost use Rattle.std.specs.Prelude.{◌≡◌, ◌++◌, OnOk, codes, decimal, map, string_bytes};
+ghost use Rattle.std.specs.Prelude.{◌≡◌, ◌++◌, OnOk, decimal, map, string_bytes};
 ghost use Rattle.std.specs.Fmt.{signed_decimal};
 ghost use Rattle.types.specs.View.{item_view};
 ghost use Rattle.texts.specs.Leaf.{boolean_text, arcs_text, item_name};

@@ -7,8 +7,8 @@ ghost use Rattle.canon.specs.Ordered.{IsOrdered, AreOrderedSlots, IsOrderedAlter
 
 use types::{Alternative, Field, Ty, Value};
 
-// Whether `value` is one of the type with at most one item in each SET OF, so that all of them are in order. It is
-// not told whether a part without parts is one of its type. Takes no memory.
+// Whether `value` is one of the type with at most one item in each SET OF, so that all of them are in order.
+// Whether a value without parts is one of its type is not tested. Takes no memory.
 #[cycle(plain)]
 pub(crate) fn is_plain(ty: &Ty, value: &Value) -> bool
     ensures { IsTrue result → IsOrdered (ty_view ty.now) (value_view value.now) }

@@ -1,6 +1,6 @@
 //! Texts of strings.
 
-ghost use Rattle.std.specs.Prelude.{◌≡◌, ◌≤◌, ◌<◌, ◌++◌, IsAscii, IsTrue, OnOk, drop, flat_map, length, map, string_bytes, take, true};
+ghost use Rattle.std.specs.Prelude.{◌≡◌, ◌≤◌, ◌<◌, ◌++◌, IsAscii, IsTrue, OnOk, drop, flat_map, length, map, string_bytes, true};
 ghost use Rattle.primitives.specs.Bits.{bits_of, bits_of_octet, bits_before};
 ghost use Rattle.texts.specs.Leaf.{bit_digit as digit_of_bit, hex_digit as digit_of_hex, bits_text, octets_text, hex_digits, quoted_octet, quoted_text, are_printable, readable_text, text_of_kind};
 

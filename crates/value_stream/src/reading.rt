@@ -1,8 +1,7 @@
 //! The next value of a source, read from piece to piece.
 
-ghost use Rattle.std.specs.Prelude.{◌≡◌, ◌≤◌, ◌<◌, ◌+◌, ◌-◌, ◌⊎◌, ℕ, List, [], length, true, false, Ok, Err, None, OnOk, IfOk, IfErr, IfSome, MatchResult};
+ghost use Rattle.std.specs.Prelude.{◌≡◌, ◌<◌, ◌+◌, ◌-◌, ◌⊎◌, [], length, true, false, Ok, Err, None, OnOk, IfOk, IfErr, IfSome, MatchResult};
 ghost use Rattle.std.specs.Io.KnownBytes.{Consumes, IsAtEnd};
-ghost use Rattle.octets.specs.Rule.{Rule};
 ghost use Rattle.types.specs.View.{ty_view, value_view};
 ghost use Rattle.engine.specs.AnyReader.{read_rule, StandsBy};
 ghost use Rattle.engine.specs.Refusal.{IsOfChecking};
