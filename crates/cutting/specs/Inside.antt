@@ -1,7 +1,9 @@
--- Encodings that are begun.
-use Rattle.std.specs.Prelude.{◌⊎◌, ◌<◌}
+-- Encodings that are begun, and what completes them.
+use Rattle.std.specs.Prelude.{ℕ, ◌⊎◌, ◌<◌, ◌↔◌, List, ◌++◌, take}
 use Rattle.cutting.specs.declared.ends.Ends.{Ends}
 use Rattle.cutting.specs.declared.cutter.Cutter.{Cutter}
+use Rattle.cutting.specs.Encoding.{IsAnyEncoding}
+use Rattle.cutting.specs.Rest.{IsCompletion}
 
 -- one is open, or contents octets of it are to come, or a part of its head has come
 abbrev pub IsBegun : Ends → Type 0
@@ -10,3 +12,19 @@ IsBegun ends = (0 < ends.open) ⊎ ((0 < ends.left) ⊎ (0 < ends.count))
 -- what is cut so far ends within one
 abbrev pub IsInside : {K : Type 0} → Cutter K → Type 0
 IsInside cutter = IsBegun cutter.ends
+
+-- the octets complete the encoding that is begun; where none is, they are one
+abbrev pub Completes : Ends → List ℕ → Type 0
+Completes ends octets = IsCompletion ends.left ends.open (take ends.count ends.head) octets
+
+-- where none is begun, what completes it is an encoding
+abbrev pub AnEncodingCompletesNone : Type 0
+AnEncodingCompletesNone = (ends : Ends) → ¬ IsBegun ends → (octets : List ℕ) → Completes ends octets ↔ IsAnyEncoding octets
+
+-- what completes it begins with these octets, and goes on with what completes it then
+abbrev pub GoesOn : Ends → Ends → List ℕ → Type 0
+GoesOn old new octets = (rest : List ℕ) → Completes new rest ↔ Completes old (octets ++ rest)
+
+-- nothing that begins so completes it
+abbrev pub EndsNever : Ends → List ℕ → Type 0
+EndsNever ends octets = (more : List ℕ) → ¬ Completes ends (octets ++ more)

@@ -1,2 +1,6 @@
+pub mod Encoding
+pub mod Rest
 pub mod Refused
+pub mod Heads
 pub mod Inside
+pub mod Steps

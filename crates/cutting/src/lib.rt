@@ -5,6 +5,9 @@
 
 mod cutter;
 mod ends;
+mod head;
+mod laws;
 
 pub use cutter::{CutFault, Cutter, Outputs};
 pub use ends::Ends;
+pub use laws::an_encoding_completes_none;

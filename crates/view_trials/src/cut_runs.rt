@@ -20,6 +20,7 @@ cut,in,--octets,9,--into,p | | | | 0
 cut,in,--octets,9,--into,p | 0500 0500 1f80 | p0001 05000500 | in: octet 4: refused 2 Identifier: no encoding stands here, or none that ends; | 1
 cut,in,--octets,1,--into,p | 0500 3080 0500 0000 3003 | p0001 0500 p0002 308005000000 p0003 3003 | in: octet 10: refused 1 Truncated: no encoding stands here, or none that ends; | 1
 cut,in,--octets,9,--into,p | 0500 3080 0500 0001 | p0001 05003080050000 | in: octet 6: refused 5 EndOfContents: no encoding stands here, or none that ends; | 1
+cut,in,--octets,9,--into,p | 3080 008100 | | in: octet 2: refused 5 EndOfContents: no encoding stands here, or none that ends; | 1
 cut,in,--octets,9,--into,none | 0500 | | none0001: cannot be written; | 3
 cut,in,--octets,9,--into,full | 0500 | full0001 | full0001: cannot be written; | 3
 cut,none,--octets,9,--into,p | 0500 | | none: cannot be read; | 3";

@@ -1,5 +1,14 @@
-use Rattle.std.proofs.Common.{◌≤◌, length}
+use Rattle.std.proofs.Common.{◌≤◌, ◌-◌, length, take}
+use Rattle.cutting.specs.Inside.{GoesOn}
+use Rattle.cutting.specs.Steps.{EndsNotBefore}
 use Rattle.cutting.proofs.ends.Ends.take.Given as goal
 
-abbrev pub invariant-loop : goal.invariant-loop
-invariant-loop l = l.at ≤ length l.piece
+abbrev pub invariant-loop-used : goal.invariant-loop-used
+invariant-loop-used l = record {
+  within : l.at ≤ length l.piece;
+  before : EndsNotBefore l.initial.self (take l.at l.piece);
+  goes : GoesOn l.initial.self l.self (take l.at l.piece);
+}
+
+abbrev pub decreases-loop-used : goal.decreases-loop-used
+decreases-loop-used l = length l.piece - l.at
