@@ -1,5 +1,5 @@
 -- Modules' files, and the types that their names mean.
-use Rattle.std.specs.Prelude.{◌⊎◌, ℕ, List}
+use Rattle.std.specs.Prelude.{◌≡◌, ◌⊎◌, ℕ, List}
 use Rattle.std.specs.Str.{IsUtf8}
 use Rattle.lexis.specs.declared.fault.Fault.{Fault}
 use Rattle.types.specs.Shape.{Shape}
@@ -22,3 +22,7 @@ pub record FileMeans (octets name : List ℕ) (type : Shape) : Type 0 where
 -- what a module's file is refused with: 21 to 33
 abbrev pub IsFileFault : Fault → Type 0
 IsFileFault fault = IsModuleFault fault ⊎ IsResolvingFault fault
+
+-- where all of a file is refused
+abbrev pub IsAtFront : Fault → Type 0
+IsAtFront fault = (fault.line ≡ 1) × (fault.column ≡ 1)

@@ -1,12 +1,12 @@
 //! A module's file, and the type that a name of the module means.
 
-ghost use Rattle.std.specs.Prelude.{◌≡◌, ◌≢◌, ◌⊎◌, IfOk, IfErr, IfSome, take};
+ghost use Rattle.std.specs.Prelude.{◌≡◌, ◌≢◌, ◌<◌, ◌≤◌, ◌⊎◌, IfOk, IfErr, IfSome, length, take};
 ghost use Rattle.std.specs.Str.{IsUtf8};
 ghost use Rattle.types.specs.Shape.{Shape};
 ghost use Rattle.types.specs.View.{ty_view};
 ghost use Rattle.types.specs.WellFormed.{IsWellFormed};
 ghost use Rattle.syntax.specs.Tree.{Tree};
-ghost use Rattle.convert.specs.ModuleFile.{FileMeans, IsFileFault, IsModuleFile};
+ghost use Rattle.convert.specs.ModuleFile.{FileMeans, IsAtFront, IsFileFault, IsModuleFile};
 
 use lexis::MAX_TEXT;
 use notation::{parse, resolve};
@@ -25,6 +25,7 @@ pub fn type_from(alloc: Global, octets: &[u8], name: &str) -> Result<WellTyped, 
         (type : Shape) → FileMeans octets.now name.now type → ¬ IsWellFormed type) }
     ensures cycle { IfErr result (λ fault. fault.number ≡ 25 → (type : Shape) → ¬ FileMeans octets.now name.now type) }
     ensures numbers { IfErr result IsFileFault }
+    ensures front { IfErr result (λ fault. (¬ IsUtf8 octets.now) ⊎ (262_144 < length octets.now) → IsAtFront fault) }
 {
     let text = text_of(octets)?;
     let module = parse(alloc, text)?;
@@ -37,6 +38,8 @@ fn text_of(octets: &[u8]) -> Result<&str, notation::Fault>
     ensures utf8 { IfOk result (λ _. IsUtf8 octets.now) }
     ensures refused { IfErr result (λ _. (m : Tree) → ¬ IsModuleFile octets.now m) }
     ensures numbers { IfErr result (λ fault. (fault.number ≡ 21) ⊎ (fault.number ≡ 31)) }
+    ensures within { IfOk result (λ _. length octets.now ≤ 262_144) }
+    ensures front { IfErr result IsAtFront }
 {
     if octets.len() > MAX_TEXT {
         return Err(at_front(31));
@@ -49,7 +52,8 @@ fn text_of(octets: &[u8]) -> Result<&str, notation::Fault>
 
 // The fault of this number at 1:1.
 fn at_front(number: u32) -> notation::Fault
-    ensures { result.number ≡ number }
+    ensures number { result.number ≡ number }
+    ensures front { IsAtFront result }
 {
     notation::Fault {
         number,

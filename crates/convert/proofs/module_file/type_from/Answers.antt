@@ -1,7 +1,8 @@
 use Rattle.std.proofs.Common.{◌≡◌}
 use Rattle.std.proofs.lemmas.Result.{IfErr-weaker, IfOk-weaker, err_from_is_err_and}
+use Rattle.octets.proofs.ResultLemmas.{IfErr-from}
 use Rattle.syntax.specs.View.{tree}
-use Rattle.convert.proofs.ModuleFileLemmas.{meant, none_meant}
+use Rattle.convert.proofs.ModuleFileLemmas.{meant, none_meant, not_all_refused}
 use Rattle.convert.proofs.module_file.type_from.Goals as goal
 
 pub returns-in_err-text-clause-refused : goal.returns-in_err-text-clause-refused
@@ -29,3 +30,12 @@ pub returns-clause-cycle : goal.returns-clause-cycle
 returns-clause-cycle c =
     let here = meant c.args.octets.now c.in_ok-text.text.now c.args.name.now (tree c.in_ok-module.module) c.in_ok-text.ensures.text c.in_ok-module.ensures.only in
     IfErr-weaker c.resolve.result _ _ (λ fault refused cycle type means. refused cycle type (here type means)) c.resolve.ensures.cycle
+
+pub returns-in_err-module-clause-front : goal.returns-in_err-module-clause-front
+returns-in_err-module-clause-front c =
+    IfErr-from c.from_residual-in_err-module.result _ _ c.from_residual-in_err-module.ensures.1
+    (λ fault same all. absurd (not_all_refused c.args.octets.now c.in_ok-text.ensures.utf8 c.in_ok-text.ensures.within all))
+
+pub returns-clause-front : goal.returns-clause-front
+returns-clause-front c =
+    IfErr-weaker c.resolve.result _ _ (λ fault numbers all. absurd (not_all_refused c.args.octets.now c.in_ok-text.ensures.utf8 c.in_ok-text.ensures.within all)) c.resolve.ensures.numbers
