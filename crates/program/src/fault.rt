@@ -3,7 +3,7 @@
 ghost use Rattle.std.specs.Prelude.{◌≡◌};
 ghost use Rattle.program.specs.Fault.{fault_status, refusal_status, module_status, fault_of_text, fault_of_refusal, fault_of_stopped};
 
-use crate::printed_path::PrintedPath;
+use command_words::PrintedPath;
 use convert::{HexFault, Stopped};
 use std::alloc::{AllocError, Global};
 use std::io::Write;

@@ -7,14 +7,12 @@ mod fault;
 mod hex_sink;
 mod opening;
 mod output;
-mod printed_path;
 mod running;
 mod tasks;
 mod words;
 
 pub use command_line::{Line, Verb};
-pub use command_words::{CommandLine, LineFault};
+pub use command_words::{CommandLine, LineFault, PrintedPath};
 pub use opening::{cannot_open, cannot_read_module, cannot_share_input};
-pub use printed_path::PrintedPath;
 pub use running::run;
 pub use words::line;

@@ -1,4 +1,4 @@
-//! Paths as the program prints them.
+//! Paths as programs print them.
 
 use std::fmt;
 
