@@ -24,16 +24,17 @@ abbrev pub IsInputDone : Bool → Task → Rule → Shape → Option (List ℕ) 
 IsInputDone false task from shape input old new = IsDone task false from shape input old new
 IsInputDone true task from shape input old new = IfSome input (λ text. (octets : List ℕ) × IsHexInput octets text × IsDone task true from shape (Some octets) old new)
 
--- the task stopped at octets that it refuses: a refusal of status 1
-abbrev pub AreRefused : Bool → Task → Rule → Shape → Option (List ℕ) → Option (List ℕ) → Option (List ℕ) → Type 0
-AreRefused hex task from shape octets old new = (done : ℕ) × (refusal : Refusal) × (refusal_status refusal ≡ 1) × IsTaskStopped task hex from shape done refusal octets old new
+-- the task stopped at a refusal of this status: 1 at octets that it refuses, 3 at a device, 4 without memory
+abbrev pub IsStoppedAt : ℕ → Bool → Task → Rule → Shape → Option (List ℕ) → Option (List ℕ) → Option (List ℕ) → Type 0
+IsStoppedAt status hex task from shape octets old new =
+    (done : ℕ) × (refusal : Refusal) × (refusal_status refusal ≡ status) × IsTaskStopped task hex from shape done refusal octets old new
 
--- an input is refused: for its octets, or because its text spells none or is too long, and then nothing was written, or
--- for those that it spells
-abbrev pub IsInputRefused : Bool → Task → Rule → Shape → Option (List ℕ) → Option (List ℕ) → Option (List ℕ) → Type 0
-IsInputRefused false task from shape input old new = AreRefused false task from shape input old new
-IsInputRefused true task from shape input old new = IfSome input (λ text. (IsRefusedText text × (new ≡ old))
-    ⊎ ((octets : List ℕ) × IsHexInput octets text × AreRefused true task from shape (Some octets) old new))
+-- an input stopped the task with this status: by its octets or, with 1, because its text spells none or is too long, and
+-- then nothing was written, or by those that it spells
+abbrev pub IsInputStopped : ℕ → Bool → Task → Rule → Shape → Option (List ℕ) → Option (List ℕ) → Option (List ℕ) → Type 0
+IsInputStopped status false task from shape input old new = IsStoppedAt status false task from shape input old new
+IsInputStopped status true task from shape input old new = IfSome input (λ text. ((status ≡ 1) × IsRefusedText text × (new ≡ old))
+    ⊎ ((octets : List ℕ) × IsHexInput octets text × IsStoppedAt status true task from shape (Some octets) old new))
 
 -- what is so of an input by the line's task, its rule to read by and the type that its name means
 pub record OfInput (Holds : Bool → Task → Rule → Shape → Option (List ℕ) → Option (List ℕ) → Option (List ℕ) → Type 0)
@@ -44,9 +45,9 @@ pub record OfInput (Holds : Bool → Task → Rule → Shape → Option (List �
   pub is_task : IsTaskOf line task
   pub holds : Holds line.hex task (rule_of line.from) type input old new
 
--- all was done; the input was refused
+-- all was done; the input stopped the task with this status
 abbrev pub IsRun : Line → List ℕ → Option (List ℕ) → Option (List ℕ) → Option (List ℕ) → Type 0
 IsRun = OfInput IsInputDone
 
-abbrev pub IsRefusedRun : Line → List ℕ → Option (List ℕ) → Option (List ℕ) → Option (List ℕ) → Type 0
-IsRefusedRun = OfInput IsInputRefused
+abbrev pub IsStoppedRun : ℕ → Line → List ℕ → Option (List ℕ) → Option (List ℕ) → Option (List ℕ) → Type 0
+IsStoppedRun status = OfInput (IsInputStopped status)

@@ -43,7 +43,8 @@ pub record IsTextStopped (from : Rule) (to : Canonical) (shape : Shape) (done : 
   pub written : refusal ≢ SinkFault → (octets : List ℕ) × IsStopped (IsAccepted (canonical_rule_of to) shape) from shape done refusal stream octets
 
 -- the task stopped at a refusal behind so many values: they are at the front of the octets that the source had, and the
--- rest says why
+-- rest says why. What `check` wrote is not named here: `run` says that after 1 and 4 it wrote nothing (`kept`). After 3 a
+-- part of its line may be written, and of a write that failed std tells no octets
 abbrev pub IsTaskStopped : Task → Bool → Rule → Shape → ℕ → Refusal → Option (List ℕ) → Option (List ℕ) → Option (List ℕ) → Type 0
 IsTaskStopped Show hex from shape done refusal left old new = OfStream left old new (IsStopped (IsLine (IsShown shape)) from shape done refusal)
 IsTaskStopped Check hex from shape done refusal left old new = IfSome left (IsCheckStopped from shape done refusal)

@@ -6,8 +6,8 @@ ghost use Rattle.types.specs.View.{ty_view};
 ghost use Rattle.types.specs.WellFormed.{IsWellFormed};
 ghost use Rattle.engine.specs.Rule.{rule_of};
 ghost use Rattle.program.specs.Fault.{fault_status, IsFaultOfInput};
-ghost use Rattle.program.specs.Line.{IsBuiltIn, CanRun, CanType, HasLineType, IsFaultOfType, IsLineType, IsStatus, IsStatusOfInput, IsTask, NamesFile};
-ghost use Rattle.program.specs.Run.{IsInputDone, IsInputRefused, IsRefusedRun, IsRun, IsTaskOf};
+ghost use Rattle.program.specs.Line.{IsBuiltIn, CanRun, CanType, HasLineType, IsFaultOfType, IsLineType, IsStatus, IsStatusOfInput, IsTask};
+ghost use Rattle.program.specs.Run.{IsInputDone, IsInputStopped, IsRun, IsStoppedRun, IsTaskOf};
 
 use crate::fault::{Fault, print_fault};
 use crate::tasks::{Task, perform};
@@ -30,12 +30,13 @@ pub fn run<R: Read, W: Write, E: Write>(
 ) -> u8
     ensures status { IsStatus result }
     ensures usage { (result ≡ 64) ↔ (¬ CanRun line.now) }
-    ensures file { (result ≡ 2) → NamesFile line.now }
     ensures named { IsStatusOfInput result → HasLineType line.now «module».now }
     ensures refused { (result ≡ 2) → ¬ HasLineType line.now «module».now }
     ensures done { (result ≡ 0) → IsRun line.now «module».now (R.remaining input.old) (W.contents out.old) (W.contents out.new) }
-    ensures stopped { (result ≡ 1) → IsRefusedRun line.now «module».now (R.remaining input.old) (W.contents out.old) (W.contents out.new) }
-    ensures kept { (result ≡ 1) → line.now.verb ≡ Verb.Check → W.contents out.new ≡ W.contents out.old }
+    ensures stopped { (result ≡ 1) → IsStoppedRun 1 line.now «module».now (R.remaining input.old) (W.contents out.old) (W.contents out.new) }
+    ensures failed { (result ≡ 3) ⊎ (result ≡ 4) → (W.contents out.new ≡ W.contents out.old)
+        ⊎ IsStoppedRun result line.now «module».now (R.remaining input.old) (W.contents out.old) (W.contents out.new) }
+    ensures kept { (result ≡ 1) ⊎ (result ≡ 4) → line.now.verb ≡ Verb.Check → W.contents out.new ≡ W.contents out.old }
     ensures quiet { (result ≡ 2) ⊎ (result ≡ 64) → W.contents out.new ≡ W.contents out.old }
 {
     let Some(task) = task_of(line) else {
@@ -109,9 +110,9 @@ fn run_over<'a, R: Read, W: Write>(
     out: &mut W,
 ) -> Result<(), Fault<'a>>
     ensures done { IfOk result (λ _. IsInputDone line.now.hex task (rule_of line.now.from) (ty_view ty.now) (R.remaining input.old) (W.contents out.old) (W.contents out.new)) }
-    ensures refused { IfErr result (λ fault. fault_status fault ≡ 1 →
-        IsInputRefused line.now.hex task (rule_of line.now.from) (ty_view ty.now) (R.remaining input.old) (W.contents out.old) (W.contents out.new)) }
-    ensures kept { IfErr result (λ fault. fault_status fault ≡ 1 → task ≡ Task.Check → W.contents out.new ≡ W.contents out.old) }
+    ensures stopped { IfErr result (λ fault. ((¬ (fault_status fault ≡ 1)) × (W.contents out.new ≡ W.contents out.old)) ⊎
+        IsInputStopped (fault_status fault) line.now.hex task (rule_of line.now.from) (ty_view ty.now) (R.remaining input.old) (W.contents out.old) (W.contents out.new)) }
+    ensures kept { IfErr result (λ fault. ¬ (fault_status fault ≡ 3) → task ≡ Task.Check → W.contents out.new ≡ W.contents out.old) }
     ensures status { IfErr result IsFaultOfInput }
 {
     if !line.hex {

@@ -40,7 +40,7 @@ pub fn perform<'a, S: Source, W: Write>(
     requires { S.failures source.old ≡ 0 }
     ensures done { IfOk result (λ _. IsDone task line.now.hex (rule_of line.now.from) (ty_view ty.now) (S.left source.old) (W.contents out.old) (W.contents out.new)) }
     ensures stopped { IfErr result (IsTaskFault task line.now.hex (rule_of line.now.from) (ty_view ty.now) (S.left source.old) (W.contents out.old) (W.contents out.new)) }
-    ensures kept { IfErr result (λ fault. fault_status fault ≡ 1 → task ≡ Task.Check → W.contents out.new ≡ W.contents out.old) }
+    ensures kept { IfErr result (λ fault. ¬ (fault_status fault ≡ 3) → task ≡ Task.Check → W.contents out.new ≡ W.contents out.old) }
     ensures status { IfErr result IsFaultOfInput }
 {
     match task {
