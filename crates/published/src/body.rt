@@ -30,6 +30,8 @@ impl Published {
         }
         self.add_assignments(reader, &mut module.assignments)?;
         if !reader.is_word(Reserved::End) {
+            // The text may end within the last assignment.
+            module.assignments.pop();
             self.refused(reader.stop(Reason::NoEnd))?;
         }
         self.modules.push(module)?;

@@ -3,7 +3,6 @@
 use crate::numbers::number_in_parentheses;
 use crate::tree::{Form, Item, Items};
 use published_tokens::{Extension, Kind, MAX_PARTS, Reader, Reason, Section, Stop, Symbol};
-use std::mem::drop;
 
 /// The items in braces, which stand in front.
 pub(crate) fn enumerated_at(reader: &mut Reader) -> Result<Form, Stop> {
@@ -13,14 +12,11 @@ pub(crate) fn enumerated_at(reader: &mut Reader) -> Result<Form, Stop> {
     reader.symbol(Symbol::OpenBrace)?;
     for _turn in 0..=MAX_PARTS {
         if !extension.begin(reader)? {
-            let item = item_at(reader)?;
             match extension.section() {
-                Section::Root => root.push(item)?,
-                Section::Additions => additions.push(item)?,
-                Section::Tail => {
-                    drop(item);
-                    return Err(reader.refuse());
-                }
+                Section::Root => root.push(item_at(reader)?)?,
+                Section::Additions => additions.push(item_at(reader)?)?,
+                // No item stands behind a second `...`.
+                Section::Tail => return Err(reader.refuse()),
             }
         }
         if extension.end(reader)? {

@@ -4,7 +4,7 @@ use crate::tree::{Form, Reference};
 use names::Name;
 use published_tokens::{Kind, MAX_FILE, Reader, Stop, Symbol, Word, skip_brackets};
 
-/// What a name means that stands alone.
+// What a name means that stands alone.
 fn alone(word: Word) -> Reference {
     let Word { name, place } = word;
     Reference {
@@ -14,7 +14,7 @@ fn alone(word: Word) -> Reference {
     }
 }
 
-/// The reference behind the module's name and its full stop: a name of this kind.
+// The reference behind the module's name and its full stop: a name of this kind.
 fn within(reader: &mut Reader, module: Word, kind: Kind) -> Result<Reference, Stop> {
     let behind = reader.name(kind)?;
     let Word {

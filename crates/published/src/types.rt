@@ -9,7 +9,6 @@ use lexis::Word as Reserved;
 use published_tokens::{
     Extension, Kind, MAX_LEVELS, MAX_PARTS, Place, Reader, Reason, Section, Stop, Symbol,
 };
-use std::mem::drop;
 use syntax::Group;
 
 /// The type that stands in front.
@@ -133,14 +132,13 @@ fn choice_at(reader: &mut Reader, levels: u32) -> Result<Form, Stop> {
     reader.symbol(Symbol::OpenBrace)?;
     for turn in 0..=MAX_PARTS {
         if !extension.begin(reader)? {
-            let alternative = alternative_at(reader, levels, turn)?;
             match extension.section() {
-                Section::Root => found.root.push(alternative)?,
-                Section::Additions => found.additions.push(alternative)?,
-                Section::Tail => {
-                    drop(alternative);
-                    return Err(reader.refuse());
+                Section::Root => found.root.push(alternative_at(reader, levels, turn)?)?,
+                Section::Additions => {
+                    found.additions.push(alternative_at(reader, levels, turn)?)?
                 }
+                // No alternative stands behind the second `...`.
+                Section::Tail => return Err(reader.refuse()),
             }
         }
         if extension.end(reader)? {

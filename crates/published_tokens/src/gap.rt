@@ -38,8 +38,8 @@ pub(crate) fn piece_in_front(octets: &[u8], is_line_start: bool) -> Piece
     }
 }
 
-/// The white space in front, up to the end of its line.
-pub(crate) fn blanks(octets: &[u8]) -> Piece
+// The white space in front, up to the end of its line.
+fn blanks(octets: &[u8]) -> Piece
     ensures { IsWithin octets.now result }
 {
     let count = octets
@@ -53,9 +53,9 @@ pub(crate) fn blanks(octets: &[u8]) -> Piece
     }
 }
 
-/// How many octets of a comment follow its first two hyphens: up to the next two, or to the end of the line.
-/// A line of hyphens is a comment, however many there are.
-pub(crate) fn line_rest(octets: &[u8]) -> usize
+// How many octets of a comment follow its first two hyphens: up to the next two, or to the end of the line.
+// A line of hyphens is a comment, however many there are.
+fn line_rest(octets: &[u8]) -> usize
     ensures { result ≤ length octets.now }
 {
     let hyphens = octets.iter().take_while(|octet| **octet == b'-').count();
@@ -80,8 +80,8 @@ fn comment_rest(octets: &[u8]) -> usize
     count
 }
 
-/// The comment in front of these octets, which begin `/*`. Comments within it are counted.
-pub(crate) fn block(octets: &[u8]) -> Piece
+// The comment in front of these octets, which begin `/*`. Comments within it are counted.
+fn block(octets: &[u8]) -> Piece
     ensures { IsWithin octets.now result }
 {
     let mut open = 0u32;

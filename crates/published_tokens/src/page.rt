@@ -32,12 +32,23 @@ fn is_page_line(line: &[u8]) -> bool {
     is_foot(line) || (names_series(line) && ends_in_year(line))
 }
 
-// Whether the line ends as `[Page 12]`.
+// Whether the line ends as `[Page 12]`, and not in a comment or a string of the module.
 fn is_foot(line: &[u8]) -> bool {
     match line.strip_suffix(b"]") {
-        Some(front) => ends_in_page(front),
+        Some(front) => ends_in_page(front) && !has_comment_or_string(line),
         None => false,
     }
+}
+
+// Whether a comment or a string begins in the line, as in no foot.
+fn has_comment_or_string(line: &[u8]) -> bool {
+    for at in 0..line.len() {
+        let rest = &line[at..];
+        if rest.starts_with(b"--") || rest.starts_with(b"/*") || rest.starts_with(b"\"") {
+            return true;
+        }
+    }
+    false
 }
 
 // Whether the line ends as `[Page 12`.

@@ -9,6 +9,7 @@ use crate::symbol::Symbol;
 use crate::token::Kind;
 use crate::{MAX_FILE, MAX_LEVELS};
 use lexis::Word as Reserved;
+use std::alloc::Global;
 
 /// The brackets that are open.
 #[derive(Debug, Drop)]
@@ -17,6 +18,13 @@ struct Brackets {
 }
 
 impl Brackets {
+    // None.
+    fn new(alloc: Global) -> Self {
+        Brackets {
+            open: Vec::new(alloc),
+        }
+    }
+
     // Passes the token in front.
     fn pass(&mut self, reader: &mut Reader) -> Result<(), Stop> {
         match reader.kind() {
@@ -81,54 +89,42 @@ pub fn skip_brackets(reader: &mut Reader, symbol: Symbol) -> Result<(), Stop> {
 
 /// Passes all up to the bracket that closes this one, behind which the token in front stands.
 pub fn skip_rest(reader: &mut Reader, symbol: Symbol) -> Result<(), Stop> {
-    let mut brackets = Brackets {
-        open: Vec::new(reader.alloc),
-    };
+    let mut brackets = Brackets::new(reader.alloc);
     brackets.begin(reader, symbol)?;
-    for _turn in 0..=MAX_FILE {
-        if brackets.open.is_empty() {
-            return Ok(());
-        }
-        brackets.pass(reader)?;
-    }
-    Err(reader.refuse())
+    skip_to(reader, brackets, |_kind| true)
 }
 
 /// Passes all up to `::=` outside brackets.
 pub fn skip_to_assignment(reader: &mut Reader) -> Result<(), Stop> {
-    let mut brackets = Brackets {
-        open: Vec::new(reader.alloc),
-    };
-    for _turn in 0..=MAX_FILE {
-        if brackets.open.is_empty() && reader.is_symbol(Symbol::Assignment) {
-            return Ok(());
-        }
-        brackets.pass(reader)?;
-    }
-    Err(reader.refuse())
+    let brackets = Brackets::new(reader.alloc);
+    skip_to(reader, brackets, |kind| {
+        kind == Kind::Symbol(Symbol::Assignment)
+    })
 }
 
 /// Passes all up to the reserved word outside brackets.
 pub fn skip_to_word(reader: &mut Reader, word: Reserved) -> Result<(), Stop> {
-    let mut brackets = Brackets {
-        open: Vec::new(reader.alloc),
-    };
-    for _turn in 0..=MAX_FILE {
-        if brackets.open.is_empty() && reader.is_word(word) {
-            return Ok(());
-        }
-        brackets.pass(reader)?;
-    }
-    Err(reader.refuse())
+    let brackets = Brackets::new(reader.alloc);
+    skip_to(reader, brackets, |kind| kind == Kind::Reserved(word))
 }
 
 /// Passes all up to what ends a component outside brackets: `,`, `}` or `]]`.
 pub fn skip_to_end_of_part(reader: &mut Reader) -> Result<(), Stop> {
-    let mut brackets = Brackets {
-        open: Vec::new(reader.alloc),
-    };
+    let brackets = Brackets::new(reader.alloc);
+    skip_to(reader, brackets, ends_part)
+}
+
+// Passes all up to the first such token outside brackets, of which these are open.
+fn skip_to<F: Fn(Kind) -> bool>(
+    reader: &mut Reader,
+    brackets: Brackets,
+    is_end: F,
+) -> Result<(), Stop>
+    requires { F.IsAlwaysCallable is_end }
+{
+    let mut brackets = brackets;
     for _turn in 0..=MAX_FILE {
-        if brackets.open.is_empty() && ends_part(reader.kind()) {
+        if brackets.open.is_empty() && is_end(reader.kind()) {
             return Ok(());
         }
         brackets.pass(reader)?;

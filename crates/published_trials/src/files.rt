@@ -58,7 +58,8 @@ fn put_names(out: &mut String, import: &published::Import) -> Result<(), AllocEr
     out.push_str(import.module.name.as_str())
 }
 
-// Prose with marks that do not pair, two modules with pages between their lines, and a fragment.
+// Prose with marks that do not pair, modules with pages between their lines and one that the text cuts off, and a
+// fragment.
 const TEXT: &str = "\
 1. Don't read \"this; it has an odd mark and an /* that does not end.
 
@@ -84,19 +85,20 @@ RFC 9999               A Text with a Module                 August 2031
    Second DEFINITIONS AUTOMATIC TAGS EXTENSIBILITY IMPLIED ::= BEGIN
       EXPORTS ALL;
       c INTEGER ::= 5 -- END
+      D ::= NULL -- as on [Page 5]
    END
    Third { 1.2.3 } DEFINITIONS EXPLICIT TAGS ::= BEGIN END
    -- Hidden DEFINITIONS ::= BEGIN END
 /* Hidden DEFINITIONS ::= BEGIN END */
-   Fourth DEFINITIONS ::= BEGIN X ::= NULL
+   Fourth DEFINITIONS ::= BEGIN X ::= NULL Y ::= BIT STRING
 ";
 
 const TOLD: &str = "\
 First implicit 3: Other value SOME-CLASS from Second Third from Remote-Module fourth from Rest A 9:4 B 19:4
-Second automatic extensible 22: c 24:7
-Third explicit 26:
-Fourth explicit 29: X 29:33
-7:30:1 the module has no END
+Second automatic extensible 22: c 24:7 D 25:7
+Third explicit 27:
+Fourth explicit 30: X 30:33
+7:31:1 the module has no END
 ";
 
 #[test]

@@ -7,8 +7,7 @@
 mod files;
 #[cfg(test)]
 mod hostile;
+#[cfg(test)]
 mod outlining;
 #[cfg(test)]
 mod rows;
-
-pub use outlining::outline;

@@ -1,7 +1,7 @@
 //! Each construct of a module, as a table: an assignment in a line, and below it, behind `=`, its outline, or the
 //! fault with its column.
 
-use crate::outline;
+use crate::outlining::outline;
 use published::{Published, read};
 use std::alloc::{AllocError, Global};
 use std::test::Fail;
@@ -31,22 +31,35 @@ fn shown(alloc: Global, found: &Published) -> Result<String, AllocError> {
     Ok(out)
 }
 
-// Whether each row of the table becomes what stands below it. The first that does not is printed.
+// Whether there are rows in the table, and each becomes what stands below it. The first that does not is printed.
 fn holds(rt: &HostRuntime, table: &str) -> Result<bool, Fail> {
     let mut assignment = "";
     for line in table.lines() {
         match line.strip_prefix("= ") {
-            Some(wanted) => {
-                let found = told(rt.alloc(), assignment)?;
-                if found.as_str().trim_end_matches(" ; ") != wanted {
-                    println!(rt; "{assignment}\n= {found}")?;
+            Some(wanted) if !assignment.is_empty() => {
+                if !becomes(rt, assignment, wanted)? {
                     return Ok(false);
                 }
+                assignment = "";
             }
-            None => assignment = line,
+            None if assignment.is_empty() => assignment = line,
+            _ => {
+                println!(rt; "a line without another: {line}")?;
+                return Ok(false);
+            }
         }
     }
-    Ok(true)
+    Ok(assignment.is_empty() && !table.is_empty())
+}
+
+// Whether the assignment becomes this. What else it becomes is printed.
+fn becomes(rt: &HostRuntime, assignment: &str, wanted: &str) -> Result<bool, Fail> {
+    let found = told(rt.alloc(), assignment)?;
+    let is_wanted = found.as_str().trim_end_matches(" ; ") == wanted;
+    if !is_wanted {
+        println!(rt; "{assignment}\n= {found}")?;
+    }
+    Ok(is_wanted)
 }
 
 // Types by reserved words (X.680 clause 17), and one for which two words stand.
@@ -201,6 +214,10 @@ T ::= SEQUENCE { a INTEGER (0..5 } U ::= NULL
 = U = Null ; 2:34 this cannot stand here
 T ::= SEQUENCE { a INTEGER, ..., ..., ..., b NULL }
 = 2:39 this cannot stand here
+T ::= CHOICE { a NULL, ..., ..., b NULL }
+= 2:34 this cannot stand here
+T ::= ENUMERATED { a, ..., ..., b }
+= 2:33 this cannot stand here
 T ::= SEQUENCE { [[ a NULL ]] }
 = 2:18 this cannot stand here
 T ::= INTEGER (0..340282366920938463463374607431768211456)
