@@ -21,7 +21,9 @@ pub struct Additions {
 
 impl Additions {
     /// None.
-    pub fn new() -> Self {
+    pub fn new() -> Self
+        ensures { result ≡ record { start = 0; end = 0 } }
+    {
         Additions { start: 0, end: 0 }
     }
 

@@ -1,5 +1,6 @@
 //! Why a type is not taken.
 
+use crate::request::Request;
 use published::Place;
 use std::alloc::{AllocError, Global};
 use thiserror::Error;
@@ -59,7 +60,7 @@ pub enum Cause<'a> {
     #[error("a number that is not known, or out of range")]
     Number,
     /// Parts beyond the limits of the profile.
-    #[error("parts, which are none or more than 256,")]
+    #[error("no part or more than 256 parts")]
     Parts,
     /// A type that refers to itself.
     #[error("{0} refers to itself")]
@@ -76,14 +77,17 @@ pub enum Cause<'a> {
 }
 
 impl<'a> Cause<'a> {
-    /// What the user can do about it, if anything. It goes on with the place of an open type.
-    pub fn to_do(&self) -> &'static str {
+    /// What the user can do about it that is not asked for yet, if anything. It goes on with the place of an
+    /// open type.
+    pub fn to_do(&self, request: &Request) -> &'static str {
         match self {
             Cause::Open => "; give --as ",
             Cause::NotGiven(_, _) => "; give its file",
             Cause::RepeatedModule(_) => "; give one of its files",
-            Cause::Recursion(_) => "; give --unroll N",
-            Cause::NotInProfile(_) => "; --narrow leaves it out where values may do without it",
+            Cause::Recursion(_) if request.unroll == 0 => "; give --unroll N",
+            Cause::NotInProfile(_) if !request.narrow => {
+                "; --narrow leaves it out where values may do without it"
+            }
             Cause::ComponentsOf(_) => "; write the components out",
             Cause::UnmarkedField => "; write EXPLICIT or IMPLICIT behind the tag",
             _ => "",
@@ -135,11 +139,11 @@ impl Fault<'_> {
         format!(in alloc; "{cause} at {path}")
     }
 
-    /// What it is, where, and what to do.
-    pub fn text(&self, alloc: Global) -> Result<String, AllocError> {
+    /// What it is, where, and what to do that is not asked for yet.
+    pub fn text(&self, alloc: Global, request: &Request) -> Result<String, AllocError> {
         let cause = &self.cause;
         let path = self.path.as_str();
-        let to_do = cause.to_do();
+        let to_do = cause.to_do(request);
         match cause {
             Cause::Open => format!(in alloc; "{cause} at {path}{to_do}{path}=TYPE"),
             _ => format!(in alloc; "{cause} at {path}{to_do}"),

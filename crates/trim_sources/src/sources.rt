@@ -55,11 +55,6 @@ impl<'a> Sources<'a> {
         })
     }
 
-    /// The modules.
-    pub fn modules(&self) -> &'a [Module] {
-        self.modules
-    }
-
     /// The module of this place.
     pub fn module_at(&self, place: usize) -> Option<&'a Module> {
         self.modules.get(place)
@@ -69,17 +64,6 @@ impl<'a> Sources<'a> {
     pub fn assignment_at(&self, spot: Spot) -> Option<&'a Assignment> {
         let module = self.module_at(spot.module)?;
         module.assignments.get(spot.assignment)
-    }
-
-    /// Where the module itself assigns the name.
-    pub fn own(&self, module: usize, name: &'a str) -> Option<Spot> {
-        match self.scopes.get(module)?.assigned.get(&name) {
-            Some(Found::One(assignment)) => Some(Spot {
-                module,
-                assignment: *assignment,
-            }),
-            _ => None,
-        }
     }
 
     /// Where the name is assigned that a module uses.
@@ -129,17 +113,30 @@ impl<'a> Sources<'a> {
         }
     }
 
-    /// Where the modules assign the name, each in its first assignment.
-    pub fn all(&self, alloc: Global, name: &'a str) -> Result<Vec<Spot>, AllocError> {
-        let mut spots = Vec::new(alloc);
+    /// The modules that assign a type to the name, or assign the name more than once, in order of place.
+    pub fn assigning(&self, alloc: Global, name: &'a str) -> Result<Vec<usize>, AllocError> {
+        let mut modules = Vec::new(alloc);
         for module in 0..self.scopes.len() {
-            if let Some(spot) = self.own(module, name) {
-                if self.type_at(spot).is_some() {
-                    spots.push(spot)?;
-                }
+            if self.is_assigned_in(module, name) {
+                modules.push(module)?;
             }
         }
-        Ok(spots)
+        Ok(modules)
+    }
+
+    // Whether the module assigns a type to the name, or assigns the name more than once.
+    fn is_assigned_in(&self, module: usize, name: &'a str) -> bool {
+        let Some(scope) = self.scopes.get(module) else {
+            return false;
+        };
+        match scope.assigned.get(&name) {
+            Some(Found::One(assignment)) => {
+                let assignment = *assignment;
+                self.type_at(Spot { module, assignment }).is_some()
+            }
+            Some(Found::Several) => true,
+            None => false,
+        }
     }
 
     /// The type that is assigned there.

@@ -3,6 +3,7 @@
 use std::alloc::{AllocError, Global};
 use std::io;
 use std::io::ErrorKind;
+use std::test::Fail;
 use trimmer::{CommandLine, Files, Line, LineFault, run};
 
 mod bodies;
@@ -51,6 +52,20 @@ fn ran(alloc: Global, text: &str, words: &str) -> Result<Outcome, LineFault> {
         err: String::from_utf8_lossy(alloc, err.as_slice())?,
         status,
     })
+}
+
+/// The rows of a table: its lines but for those that are empty or begin with `#`. Fails where there are none.
+fn rows_of<'a>(alloc: Global, table: &'a str) -> Result<Vec<&'a str>, Fail> {
+    let mut rows = Vec::new(alloc);
+    for line in table.lines() {
+        if !line.is_empty() && !line.starts_with('#') {
+            rows.push(line)?;
+        }
+    }
+    if rows.is_empty() {
+        return Err("a table without rows".into());
+    }
+    Ok(rows)
 }
 
 /// The text with one space for each run of white space, and none at its ends.

@@ -1,5 +1,6 @@
 //! The lines that the program prints.
 
+use command_words::PrintedPath;
 use published::{Fault, Place};
 use std::alloc::{AllocError, Global};
 use std::io::Write;
@@ -47,9 +48,9 @@ pub fn print_line<E: Write>(line: &String, err: &mut E) {
 fn written_place(alloc: Global, files: &[String], place: Place) -> Result<String, AllocError> {
     let line = place.line;
     let column = place.column;
-    let file = match files.get(place.file as usize) {
+    let file = PrintedPath(match files.get(place.file as usize) {
         Some(file) => file.as_str(),
         None => "",
-    };
+    });
     format!(in alloc; "{file}:{line}:{column}")
 }

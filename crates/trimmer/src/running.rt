@@ -1,12 +1,15 @@
 //! Runs a command line over files.
 
-ghost use Rattle.std.specs.Prelude.{◌≡◌};
+ghost use Rattle.std.specs.Prelude.{◌≡◌, ◌≢◌, ◌⊎◌, IfOk, OnErr, string_bytes};
+ghost use Rattle.std.specs.Io.KnownBytes.{Appends};
 ghost use Rattle.trimmer.specs.Status.{IsStatus, status_of};
+ghost use Rattle.trimmer.specs.Trimmed.{HasWritten};
 
 use crate::checking::trim;
 use crate::command_line::Line;
 use crate::lines::{print_fault, print_line, print_message};
 use crate::reading::Files;
+use command_words::PrintedPath;
 use published::{Fault, Module, read};
 use std::alloc::{AllocError, Global};
 use std::io::{ErrorKind, Write};
@@ -22,10 +25,12 @@ pub fn run<F: Files, W: Write, E: Write>(
     out: &mut W,
     err: &mut E,
 ) -> u8
-    ensures { IsStatus result }
+    ensures status { IsStatus result }
+    ensures written { (result ≡ 0) → HasWritten (W.contents out.old) (W.contents out.new) }
+    ensures quiet { (result ≡ 1) ⊎ (result ≡ 4) → W.contents out.new ≡ W.contents out.old }
 {
     match run_over(alloc, line, files, out, err) {
-        Ok(status) => status_of(status),
+        Ok(end) => status_of(end),
         Err(_) => {
             let _ = err.write_all(b"asn1x-trim: out of memory\n");
             4
@@ -71,7 +76,11 @@ fn run_over<F: Files, W: Write, E: Write>(
     files: &mut F,
     out: &mut W,
     err: &mut E,
-) -> Result<End, AllocError> {
+) -> Result<End, AllocError>
+    ensures written { IfOk result (λ end. status_of end ≡ 0 → HasWritten (W.contents out.old) (W.contents out.new)) }
+    ensures refused { IfOk result (λ end. status_of end ≡ 1 → W.contents out.new ≡ W.contents out.old) }
+    ensures unchanged { OnErr result (W.contents out.new ≡ W.contents out.old) }
+{
     let mut library = Library {
         modules: Vec::new(alloc),
         faults: Vec::new(alloc),
@@ -102,6 +111,7 @@ fn read_all<F: Files, E: Write>(
             Ok(octets) => octets,
             Err(error) if error.kind() == ErrorKind::OutOfMemory => return Err(AllocError),
             Err(_) => {
+                let path = PrintedPath(path.as_str());
                 print_line(&format!(in alloc; "asn1x-trim: cannot read {path}\n")?, err);
                 return Ok(false);
             }
@@ -130,7 +140,11 @@ fn print_trimmed<W: Write, E: Write>(
     trimmed: &Trimmed,
     out: &mut W,
     err: &mut E,
-) -> Result<End, AllocError> {
+) -> Result<End, AllocError>
+    ensures written { IfOk result (λ end. status_of end ≡ 0 → Appends (W.contents out.old) (W.contents out.new) (string_bytes trimmed.now.text)) }
+    ensures taken { IfOk result (λ end. status_of end ≢ 1) }
+    ensures unchanged { OnErr result (W.contents out.new ≡ W.contents out.old) }
+{
     print_messages(alloc, line, trimmed.messages.as_slice(), err)?;
     match out.write_all(trimmed.text.as_bytes()) {
         Ok(()) => Ok(End::Written),

@@ -40,7 +40,7 @@ impl CommandLine for Line {
     fn no_words(alloc: Global, error: &io::Error) -> LineFault {
         match error.kind() {
             ErrorKind::OutOfMemory => LineFault::NoMemory,
-            _ => wrong(alloc, "a word is not UTF-8"),
+            _ => fault_of_kind(command(alloc), WordsFault::Io, "a word is not UTF-8"),
         }
     }
 }

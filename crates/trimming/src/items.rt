@@ -39,7 +39,7 @@ impl<'a> Trimmer<'a> {
         }
     }
 
-    // The items with their numbers. None: one has no number, or several have one.
+    // The items with their numbers. None: one has no number.
     fn numbered(
         &mut self,
         alloc: Global,

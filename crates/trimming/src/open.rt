@@ -101,9 +101,9 @@ impl<'a> Trimmer<'a> {
         if let Ok(spot) = self.sources.find_from(self.work.module, name) {
             return Ok(Some(spot));
         }
-        let spots = self.sources.all(alloc, name)?;
-        match spots.as_slice() {
-            [spot] => Ok(Some(*spot)),
+        let modules = self.sources.assigning(alloc, name)?;
+        match modules.as_slice() {
+            [module] => Ok(self.sources.find_from(*module, name).ok()),
             _ => Ok(None),
         }
     }

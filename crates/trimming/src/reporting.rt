@@ -95,7 +95,7 @@ impl<'a> Trimmer<'a> {
                 _ => refusal.messages.push(Message {
                     place: Some(fault.place),
                     kind: Kind::Refused,
-                    text: fault.text(alloc)?,
+                    text: fault.text(alloc, self.request)?,
                 })?,
             }
         }

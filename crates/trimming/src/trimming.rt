@@ -30,7 +30,7 @@ pub struct Drafted {
 pub struct Refusal {
     /// All of it, in order of place.
     pub messages: Vec<Message>,
-    /// Whether a name is among it that is not assigned, which a part that is no ASN.1 may have assigned.
+    /// Whether a name is among it that was not found, which a part that is no ASN.1 may have assigned.
     pub is_name_missing: bool,
 }
 
@@ -92,38 +92,49 @@ fn drafted_at<'a>(
 // Where the type stands that is asked for.
 fn asked<'a>(alloc: Global, sources: &Sources<'a>, request: &'a Request) -> Result<Spot, Stop> {
     let name = request.name.as_str();
-    if let Some(module) = &request.module {
-        return match sources.find_in(module.as_str(), name) {
-            Ok(spot) => Ok(spot),
-            Err(cause) => Err(refused(alloc, None, with_to_do(alloc, cause)?)),
-        };
+    let found = match &request.module {
+        Some(module) => sources.find_in(module.as_str(), name),
+        None => found_alone(alloc, sources, name)?,
+    };
+    match found {
+        Ok(spot) => Ok(spot),
+        Err(cause) => Err(not_found(alloc, request, cause)?),
     }
-    let spots = sources.all(alloc, name)?;
-    match spots.as_slice() {
-        [spot] => Ok(*spot),
-        [] => Err(refused(
-            alloc,
-            None,
-            format!(in alloc; "no module assigns a type {name}")?,
-        )),
-        spots => match repeated_module(sources, spots) {
-            Some(cause) => Err(refused(alloc, None, with_to_do(alloc, cause)?)),
-            None => Err(refused(alloc, None, modules_with(alloc, sources, name, spots)?)),
+}
+
+// Where the type of this name stands, without the name of a module, or why it is not taken.
+fn found_alone<'a>(
+    alloc: Global,
+    sources: &Sources<'a>,
+    name: &'a str,
+) -> Result<Result<Spot, Cause<'a>>, Stop> {
+    let modules = sources.assigning(alloc, name)?;
+    match modules.as_slice() {
+        [] => {
+            let text = format!(in alloc; "no module assigns a type {name}")?;
+            Err(refused_for(alloc, None, text, true))
+        }
+        [module] => Ok(sources.find_from(*module, name)),
+        modules => match repeated_module(sources, modules) {
+            Some(cause) => Ok(Err(cause)),
+            None => Err(refused(alloc, None, modules_with(alloc, sources, name, modules)?)),
         },
     }
 }
 
-// Why nothing is found, and what to do.
-fn with_to_do(alloc: Global, cause: Cause<'_>) -> Result<String, AllocError> {
-    let to_do = cause.to_do();
-    format!(in alloc; "{cause}{to_do}")
+// That what is asked for is not found, for this reason, and what to do.
+fn not_found(alloc: Global, request: &Request, cause: Cause<'_>) -> Result<Stop, AllocError> {
+    let to_do = cause.to_do(request);
+    let text = format!(in alloc; "{cause}{to_do}")?;
+    let is_name_missing = matches!(cause, Cause::NotAssigned(_) | Cause::NotGiven(_, _));
+    Ok(refused_for(alloc, None, text, is_name_missing))
 }
 
-// That all of these stand in modules of one name, if they do.
-fn repeated_module<'a>(sources: &Sources<'a>, spots: &[Spot]) -> Option<Cause<'a>> {
-    let first = sources.module_at(spots.first()?.module)?;
-    for spot in spots {
-        if sources.module_at(spot.module)?.name.name != first.name.name {
+// That all of these modules have one name, if they do.
+fn repeated_module<'a>(sources: &Sources<'a>, modules: &[usize]) -> Option<Cause<'a>> {
+    let first = sources.module_at(*modules.first()?)?;
+    for module in modules {
+        if sources.module_at(*module)?.name.name != first.name.name {
             return None;
         }
     }
@@ -135,14 +146,14 @@ fn modules_with(
     alloc: Global,
     sources: &Sources<'_>,
     name: &str,
-    spots: &[Spot],
+    modules: &[usize],
 ) -> Result<String, AllocError> {
     let mut text = format!(in alloc; "{name} stands in several modules; give one of ")?;
-    for (place, spot) in spots.iter().enumerate() {
+    for (place, module) in modules.iter().enumerate() {
         if place > 0 {
             text.push_str(", ")?;
         }
-        if let Some(module) = sources.module_at(spot.module) {
+        if let Some(module) = sources.module_at(*module) {
             text.push_str(module.name.name.as_str())?;
             text.push('.')?;
             text.push_str(name)?;
@@ -215,8 +226,13 @@ fn place_of(trimmer: &Trimmer<'_>, spot: Spot) -> Option<Place> {
     Some(assignment.name.place)
 }
 
-/// One refusal.
+/// One refusal, which is about no name that is missing.
 pub fn refused(alloc: Global, place: Option<Place>, text: String) -> Stop {
+    refused_for(alloc, place, text, false)
+}
+
+// One refusal, and whether it is about a name that is missing.
+fn refused_for(alloc: Global, place: Option<Place>, text: String, is_name_missing: bool) -> Stop {
     let mut messages = Vec::new(alloc);
     let message = Message {
         place,
@@ -226,7 +242,7 @@ pub fn refused(alloc: Global, place: Option<Place>, text: String) -> Stop {
     match messages.push(message) {
         Ok(()) => Stop::Refused(Refusal {
             messages,
-            is_name_missing: place.is_none(),
+            is_name_missing,
         }),
         Err(_) => Stop::NoMemory,
     }

@@ -44,6 +44,14 @@ fn a_missing_file(rt: HostRuntime) -> Result<(), Fail> {
 }
 
 #[test]
+fn a_path_with_a_line_feed(rt: HostRuntime) -> Result<(), Fail> {
+    let ran = ran(rt.alloc(), "", "n\n.asn T")?;
+    assert_eq!(rt; ran.err.as_str(), "asn1x-trim: cannot read n\\u{a}.asn\n");
+    assert_eq!(rt; ran.status, 3);
+    Ok(())
+}
+
+#[test]
 fn wrong_words(rt: HostRuntime) -> Result<(), Fail> {
     // (words, status)
     let cases = [

@@ -1,6 +1,6 @@
 //! A module of the profile trims to one whose types are equal to its own.
 
-use super::ran;
+use super::{ran, rows_of};
 use notation::{Fault, parse, resolve};
 use std::alloc::{AllocError, Global};
 use std::test::Fail;
@@ -58,10 +58,8 @@ fn is_row_kept(alloc: Global, row: &str) -> Result<bool, LineFault> {
 
 #[test]
 fn modules_of_the_profile(rt: HostRuntime) -> Result<(), Fail> {
-    for row in MODULES.lines() {
-        if !row.is_empty() {
-            assert!(rt; is_row_kept(rt.alloc(), row)?, "at {row}");
-        }
+    for row in rows_of(rt.alloc(), MODULES)? {
+        assert!(rt; is_row_kept(rt.alloc(), row)?, "at {row}");
     }
     Ok(())
 }

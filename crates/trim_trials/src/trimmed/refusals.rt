@@ -1,6 +1,6 @@
 //! What is refused, each with its place.
 
-use super::{ran, squeezed};
+use super::{ran, rows_of, squeezed};
 use std::alloc::Global;
 use std::test::Fail;
 use trimmer::LineFault;
@@ -27,22 +27,28 @@ T --as T=NULL; T ::= [0] IMPLICIT ANY; m.asn:2:7: refused: IMPLICIT in front of 
 T --as T=NULL; T ::= [0] X.&id; m.asn:2:7: refused: a tag without a keyword in front of a field of a class at T; write EXPLICIT or IMPLICIT behind the tag
 T; T ::= [UNIVERSAL 3] IMPLICIT INTEGER; m.asn:2:7: refused: a tag of the class UNIVERSAL at T
 T; T ::= SEQUENCE { a S DEFAULT {} } S ::= SEQUENCE OF NULL; m.asn:2:30: refused: a DEFAULT of a kind that asn1x does not take at T.a
-T --narrow; T ::= SEQUENCE { a REAL, b P {NULL}, c x < C } C ::= CHOICE { x NULL }; m.asn:2:20: refused: REAL at T.a; --narrow leaves it out where values may do without it m.asn:2:28: refused: a type with parameters at T.b m.asn:2:40: refused: a selection type at T.c
+T --narrow; T ::= SEQUENCE { a REAL, b P {NULL}, c x < C } C ::= CHOICE { x NULL }; m.asn:2:20: refused: REAL at T.a m.asn:2:28: refused: a type with parameters at T.b m.asn:2:40: refused: a selection type at T.c
 T; T ::= SEQUENCE { a EXTERNAL, b TeletexString, c [0] EXPLICIT T61String }; m.asn:2:20: refused: EXTERNAL at T.a; --narrow leaves it out where values may do without it m.asn:2:32: refused: TeletexString at T.b; --narrow leaves it out where values may do without it m.asn:2:62: refused: TeletexString at T.c; --narrow leaves it out where values may do without it
-T; T ::= SEQUENCE { a INSTANCE OF X, b BIT STRING { } }; m.asn:2:20: refused: INSTANCE OF at T.a m.asn:2:37: refused: parts, which are none or more than 256, at T.b
+T; T ::= SEQUENCE { a INSTANCE OF X, b BIT STRING { } }; m.asn:2:20: refused: INSTANCE OF at T.a m.asn:2:37: refused: no part or more than 256 parts at T.b
 T; T ::= SEQUENCE { a N.U, b U, c X } U ::= NULL U ::= NULL X ::= CLASS { &id INTEGER }; m.asn:2:20: refused: U is of the module N, which is in none of the files at T.a; give its file m.asn:2:27: refused: U is assigned more than once at T.b m.asn:2:32: refused: X is no type at T.c
 T; T ::= SEQUENCE { a N.U } END N DEFINITIONS ::= BEGIN U ::= NULL END N DEFINITIONS ::= BEGIN U ::= NULL; m.asn:2:20: refused: the module N stands in the files more than once at T.a; give one of its files
 T; T ::= SEQUENCE { a U } U ::= SEQUENCE { $ }; m.asn:2:20: refused: U is neither assigned nor imported at T.a m.asn:2:41: refused: no token of ASN.1 begins so
 T; T ::= SEQUENCE OF T; m.asn:2:19: refused: T refers to itself at T; give --unroll N
+T --unroll 1; T ::= SEQUENCE OF T; m.asn:2:19: refused: T refers to itself at T
 T; T ::= SET { a U, b V } U ::= W; m.asn:2:20: refused: V is neither assigned nor imported at T.b m.asn:2:30: refused: W is neither assigned nor imported at U
 T; T ::= [v] NULL v INTEGER ::= w; m.asn:2:7: refused: a number that is not known, or out of range at T
 T; T ::= [268435456] NULL; m.asn:2:7: refused: a number that is not known, or out of range at T
 U; T ::= NULL; asn1x-trim: refused: no module assigns a type U
+U; U ::= $; asn1x-trim: refused: no module assigns a type U m.asn:2:7: refused: no token of ASN.1 begins so
+M.U; U ::= $; asn1x-trim: refused: U is neither assigned nor imported m.asn:2:7: refused: no token of ASN.1 begins so
 N.T; T ::= NULL; asn1x-trim: refused: T is of the module N, which is in none of the files; give its file
 T; T ::= NULL END M DEFINITIONS ::= BEGIN T ::= BOOLEAN; asn1x-trim: refused: the module M stands in the files more than once; give one of its files
-M.T; T ::= NULL END M DEFINITIONS ::= BEGIN T ::= BOOLEAN; asn1x-trim: refused: the module M stands in the files more than once; give one of its files
-T; T ::= NULL END N DEFINITIONS ::= BEGIN T ::= NULL END N DEFINITIONS ::= BEGIN T ::= NULL; asn1x-trim: refused: T stands in several modules; give one of M.T, N.T, N.T
-T; T ::= NULL T ::= NULL; asn1x-trim: refused: no module assigns a type T
+M.T; T ::= NULL U ::= $ END M DEFINITIONS ::= BEGIN T ::= BOOLEAN; asn1x-trim: refused: the module M stands in the files more than once; give one of its files
+T; T ::= NULL U ::= $ END N DEFINITIONS ::= BEGIN T ::= NULL END N DEFINITIONS ::= BEGIN T ::= NULL; asn1x-trim: refused: T stands in several modules; give one of M.T, N.T, N.T
+T; T ::= NULL T ::= NULL; asn1x-trim: refused: T is assigned more than once
+M.T; T ::= NULL T ::= NULL; asn1x-trim: refused: T is assigned more than once
+T; T ::= NULL T ::= NULL END N DEFINITIONS ::= BEGIN T ::= NULL; asn1x-trim: refused: T stands in several modules; give one of M.T, N.T
+T --as T.a=V; T ::= SEQUENCE { a ANY } END N DEFINITIONS ::= BEGIN V ::= NULL V ::= NULL; m.asn:2:20: refused: no type, or several, of the name V that --as gives at T.a
 T; T ::= SET { a NULL, b NULL }; m.asn:2:1: refused: the type as it is trimmed has tags that are not distinct, which asn1x refuses with 28
 T --narrow; T ::= SET { a C } C ::= CHOICE { x REAL, y NULL }; m.asn:2:15: refused: a CHOICE without all of its alternatives in a SET at T.a
 T --narrow; T ::= SET { a ANY OPTIONAL }; m.asn:2:15: refused: an open type at T.a; give --as T.a=TYPE
@@ -66,10 +72,8 @@ fn is_as_wanted(alloc: Global, row: &str) -> Result<bool, LineFault> {
 
 #[test]
 fn refusals(rt: HostRuntime) -> Result<(), Fail> {
-    for row in REFUSALS.lines() {
-        if !row.is_empty() {
-            assert!(rt; is_as_wanted(rt.alloc(), row)?, "at {row}");
-        }
+    for row in rows_of(rt.alloc(), REFUSALS)? {
+        assert!(rt; is_as_wanted(rt.alloc(), row)?, "at {row}");
     }
     Ok(())
 }

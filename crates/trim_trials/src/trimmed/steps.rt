@@ -1,6 +1,6 @@
 //! Each step of trimming, before and after.
 
-use super::{ran, squeezed};
+use super::{ran, rows_of, squeezed};
 use std::alloc::Global;
 use std::test::Fail;
 use trimmer::LineFault;
@@ -88,10 +88,8 @@ fn is_as_wanted(alloc: Global, row: &str) -> Result<bool, LineFault> {
 
 #[test]
 fn steps(rt: HostRuntime) -> Result<(), Fail> {
-    for row in STEPS.lines() {
-        if !row.is_empty() && !row.starts_with('#') {
-            assert!(rt; is_as_wanted(rt.alloc(), row)?, "at {row}");
-        }
+    for row in rows_of(rt.alloc(), STEPS)? {
+        assert!(rt; is_as_wanted(rt.alloc(), row)?, "at {row}");
     }
     Ok(())
 }
