@@ -42,7 +42,7 @@ pub fn value_of<'a>(
     }
 }
 
-/// Why contents octets are refused so: that memory ran out, or why they have no value and which of them shows it.
+/// Why contents octets are refused so: out of memory, or why they have no value and which of them shows it.
 pub fn why_refused<'a>(refusal: Refusal, node: &'a Ty, octets: &[u8]) -> (usize, Reason<'a>)
     ensures { refusal ≡ Refusal.NoMemory → result.1 ≡ Reason.NoMemory }
 {

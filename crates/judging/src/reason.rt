@@ -29,7 +29,7 @@ pub enum Reason<'a> {
     Octet(&'a Ty, u8),
     /// A number in a time.
     Number(&'static str, u8),
-    /// Memory ran out.
+    /// Out of memory.
     NoMemory,
 }
 
@@ -40,7 +40,7 @@ impl fmt::Display for Reason<'_> {
             Reason::Missing(count) => {
                 write!(
                     f,
-                    "the input ends inside the contents octets, {count} are missing"
+                    "the input ends inside the contents octets, {count} missing"
                 )
             }
             Reason::NotDue(tag) => {
@@ -67,7 +67,7 @@ impl fmt::Display for Reason<'_> {
                 write!(f, "{name} has no octet {octet:02X}")
             }
             Reason::Number(name, number) => write!(f, "the {name} is {number:02}"),
-            Reason::NoMemory => f.write_str("memory ran out"),
+            Reason::NoMemory => f.write_str("out of memory"),
         }
     }
 }

@@ -67,7 +67,7 @@ fn put_prefix(prefix: &TagPrefix, out: &mut String) -> Result<(), NoMemory> {
 }
 
 fn put_counted(word: &str, count: usize, what: &str, out: &mut String) -> Result<(), NoMemory> {
-    write!(out, "{word}, {count} {what}")?;
+    write!(out, "{word}, {what}: {count}")?;
     Ok(())
 }
 

@@ -31,12 +31,17 @@ pub struct Columns {
 }
 
 impl Columns {
-    /// The texts that are kept.
-    pub fn new(alloc: Global) -> Result<Columns, NoMemory> {
-        let mut columns = Columns {
+    /// No text is kept. Takes no memory.
+    pub fn none(alloc: Global) -> Columns {
+        Columns {
             heads: Vec::new(alloc),
             tags: Vec::new(alloc),
-        };
+        }
+    }
+
+    /// The texts that are kept.
+    pub fn new(alloc: Global) -> Result<Columns, NoMemory> {
+        let mut columns = Columns::none(alloc);
         for depth in 0..SHALLOW {
             columns.keep_heads(alloc, depth, 2)?;
             columns.keep_heads(alloc, depth, 3)?;

@@ -154,11 +154,10 @@ fn print_fault<E: Write>(
                 "{path}: octet {at}: refused {refusal}: no encoding stands here, or none that ends"
             );
         }
-        Fault::CannotWrite => {
-            if let Ok(name) = file_name(alloc, prefix, count) {
-                fault.print(name.as_str(), err);
-            }
-        }
+        Fault::CannotWrite => match file_name(alloc, prefix, count) {
+            Ok(name) => fault.print(name.as_str(), err),
+            Err(_) => fault.print(prefix, err),
+        },
         other => other.print(path, err),
     }
 }

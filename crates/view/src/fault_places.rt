@@ -27,6 +27,20 @@ struct Span {
     end: usize,
 }
 
+// Why nothing more is judged.
+enum Stop {
+    // A growth was refused.
+    NoMemory,
+    // The module was judged as many times as it may be.
+    Exhausted,
+}
+
+impl From<NoMemory> for Stop {
+    fn from(_refused: NoMemory) -> Stop {
+        Stop::NoMemory
+    }
+}
+
 // What is known of the place of a fault.
 enum Search {
     // It stands in this part of the type.
@@ -38,8 +52,18 @@ enum Search {
 }
 
 impl FaultPlaces<'_, '_> {
-    /// The token at which the assigned type is refused with the number; None where the fault is another assignment's.
+    /// The token at which the assigned type is refused with the number, or the assignment's name where that is not
+    /// known; None where the fault is another assignment's.
     pub fn find(&mut self, part: &Part, number: u32) -> Result<Option<usize>, NoMemory> {
+        match self.search(part, number) {
+            Ok(found) => Ok(found),
+            Err(Stop::Exhausted) => Ok(Some(part.first)),
+            Err(Stop::NoMemory) => Err(NoMemory),
+        }
+    }
+
+    // The token at which the assigned type is refused with the number; None where the fault is another assignment's.
+    fn search(&mut self, part: &Part, number: u32) -> Result<Option<usize>, Stop> {
         let mut span = Span {
             first: part.first.saturating_add(2),
             end: part.end,
@@ -55,7 +79,7 @@ impl FaultPlaces<'_, '_> {
     }
 
     // Looks into the type of these tokens, which is refused.
-    fn look_into(&mut self, part: &Part, span: Span, number: u32) -> Result<Search, NoMemory> {
+    fn look_into(&mut self, part: &Part, span: Span, number: u32) -> Result<Search, Stop> {
         let next = span.first.saturating_add(1);
         match self.module.spelling(span.first) {
             "[" => {
@@ -83,7 +107,7 @@ impl FaultPlaces<'_, '_> {
         span: Span,
         first: usize,
         number: u32,
-    ) -> Result<Search, NoMemory> {
+    ) -> Result<Search, Stop> {
         let inner = Span {
             first,
             end: span.end,
@@ -101,7 +125,7 @@ impl FaultPlaces<'_, '_> {
         span: Span,
         brace: usize,
         number: u32,
-    ) -> Result<Search, NoMemory> {
+    ) -> Result<Search, Stop> {
         let items = self.items(Span {
             first: brace.saturating_add(1),
             end: span.end.saturating_sub(1),
@@ -131,7 +155,7 @@ impl FaultPlaces<'_, '_> {
         name: &str,
         token: usize,
         number: u32,
-    ) -> Result<Search, NoMemory> {
+    ) -> Result<Search, Stop> {
         let nothing = Span { first: 0, end: 0 };
         let refused = if number == 25 {
             self.judge(part, nothing, "NULL", name)?
@@ -214,7 +238,7 @@ impl FaultPlaces<'_, '_> {
         span: Span,
         more: &str,
         number: u32,
-    ) -> Result<bool, NoMemory> {
+    ) -> Result<bool, Stop> {
         let name = self.module.spelling(part.first);
         Ok(self.judge(part, span, more, name)? == Some(number))
     }
@@ -226,9 +250,9 @@ impl FaultPlaces<'_, '_> {
         span: Span,
         more: &str,
         name: &str,
-    ) -> Result<Option<u32>, NoMemory> {
+    ) -> Result<Option<u32>, Stop> {
         if self.left == 0 {
-            return Ok(None);
+            return Err(Stop::Exhausted);
         }
         self.left -= 1;
         let text = self
@@ -239,7 +263,7 @@ impl FaultPlaces<'_, '_> {
             Err(fault) => Some(fault),
         };
         match refused {
-            Some(fault) if fault.number == 33 => Err(NoMemory),
+            Some(fault) if fault.number == 33 => Err(Stop::NoMemory),
             Some(fault) => Ok(Some(fault.number)),
             None => Ok(None),
         }

@@ -8,7 +8,7 @@ use simdutf8::basic::from_utf8;
 use std::alloc::Global;
 use std::string::String;
 use strings::TextKind;
-use types::{Alternative, Field, Item, Ty, Value};
+use types::{Field, Ty, Value};
 
 /// How JSON is laid out.
 #[derive(Clone, Copy, Debug)]

@@ -3,7 +3,7 @@
 //! The text is cut at its assignments, and each is parsed by itself, so that one fault does not hide the next.
 
 use crate::fault_places::FaultPlaces;
-use crate::module_text::ModuleText;
+use crate::module_text::{ModuleText, Part};
 use lexis::{Fault, MAX_TEXT, tokens};
 use notation::{parse, resolve};
 use octets::NoMemory;
@@ -12,8 +12,11 @@ use std::alloc::Global;
 use std::string::String;
 use view_faults::{FaultLine, words_of_fault};
 
-// The most names that are resolved.
+// The most names that are resolved. For each the whole module is looked at.
 const MOST_RESOLVED: usize = 1_000;
+
+// What is said of the names behind these.
+const UNRESOLVED: &str = "names behind the first 1,000 are not looked at";
 
 // How many times a module is judged to find the places of its faults.
 const MOST_JUDGED: usize = 1_000;
@@ -98,24 +101,38 @@ fn put_unresolved(
         module: whole,
         left: MOST_JUDGED,
     };
-    for part in whole.parts.iter().take(MOST_RESOLVED) {
-        let name = whole.spelling(part.first);
+    // the part at the place 0 is the header
+    for (place, part) in whole.parts.iter().enumerate() {
         if part.is_header || !whole.is_assigned(part.first) {
             continue;
+        }
+        let name = whole.spelling(part.first);
+        if place > MOST_RESOLVED {
+            return lines.put_note(part.line, part.column, name, UNRESOLVED);
         }
         match resolve(alloc, &module, name) {
             Ok(_) => {}
             Err(Fault { number: 33, .. }) => return Err(NoMemory),
-            Err(fault) => {
-                if let Some(token) = places.find(part, fault.number)? {
-                    let words = words_of_fault(fault.number);
-                    let words = format!(in alloc; "in {name}: {words}")?;
-                    let (line, column) = whole.place(token);
-                    let subject = whole.subject(token);
-                    lines.put(line, column, fault.number, subject, words.as_str())?;
-                }
-            }
+            Err(fault) => put_unresolved_name(&mut places, part, fault.number, lines)?,
         }
     }
     Ok(())
+}
+
+// The fault of a name that is refused with the number, unless it is another assignment's.
+fn put_unresolved_name(
+    places: &mut FaultPlaces<'_, '_>,
+    part: &Part,
+    number: u32,
+    lines: &mut FaultLine<'_, '_>,
+) -> Result<(), NoMemory> {
+    let Some(token) = places.find(part, number)? else {
+        return Ok(());
+    };
+    let name = places.module.spelling(part.first);
+    let words = words_of_fault(number);
+    let words = format!(in places.alloc; "in {name}: {words}")?;
+    let (line, column) = places.module.place(token);
+    let subject = places.module.subject(token);
+    lines.put(line, column, number, subject, words.as_str())
 }

@@ -13,7 +13,7 @@ use octets::NoMemory;
 use std::alloc::Global;
 use std::io::Write;
 use std::string::String;
-use view_faults::{NoType, print_no_type};
+use view_faults::{NoType, print_no_memory, print_no_type};
 
 /// Prints the names of a module, or the type that one of them means, and returns the exit status.
 pub fn show_types<D: FileSystem, W: Write, E: Write>(
@@ -38,11 +38,11 @@ pub fn show_types<D: FileSystem, W: Write, E: Write>(
     let status = match name {
         Some(name) => match put_resolved(alloc, &module, path, name, &mut text, err) {
             Ok(status) => status,
-            Err(_) => return 4,
+            Err(_) => return print_no_memory(path, err),
         },
         None => match put_names(module.assignments.as_slice(), &mut text) {
             Ok(()) => 0,
-            Err(_) => return 4,
+            Err(_) => return print_no_memory(path, err),
         },
     };
     let _ = out.write_all(text.as_bytes());
@@ -64,7 +64,7 @@ fn put_resolved<E: Write>(
         Ok(ty) => {
             let size = put_type(alloc, ty.as_type(), name, "", 0, text)?;
             let (nodes, levels) = (size.nodes, size.levels);
-            write!(text, "{nodes} nodes, {levels} levels\n")?;
+            write!(text, "nodes: {nodes}, levels: {levels}\n")?;
             Ok(0)
         }
         Err(fault) => Ok(print_no_type(path, name, &fault, err)),
@@ -87,7 +87,7 @@ pub fn show_faults<D: FileSystem, W: Write, E: Write>(
     };
     let mut text = String::new(alloc);
     let Ok(count) = put_faults(alloc, path, octets.as_slice(), &mut text) else {
-        return 4;
+        return print_no_memory(path, err);
     };
     let _ = out.write_all(text.as_bytes());
     if count > 0 { 2 } else { 0 }

@@ -6,7 +6,7 @@ use octets::NoMemory;
 use simdutf8::basic::from_utf8;
 use std::alloc::Global;
 use std::string::String;
-use view_faults::FaultLine;
+use view_faults::{FaultLine, words_of_fault};
 
 /// A text and its parts.
 #[derive(Drop)]
@@ -30,6 +30,22 @@ pub struct Part {
     pub line: u32,
     /// The column of its first octet, counted from 1.
     pub column: u32,
+}
+
+impl Part {
+    // The line and the column in the whole text of a fault of the part, which was parsed by itself.
+    fn place_of(&self, fault: Fault) -> (u32, u32) {
+        if self.is_header {
+            return (fault.line, fault.column);
+        }
+        let line = self.line.saturating_add(fault.line.saturating_sub(2));
+        let column = if fault.line == 2 {
+            self.column.saturating_add(fault.column.saturating_sub(1))
+        } else {
+            fault.column
+        };
+        (line, column)
+    }
 }
 
 impl<'a> ModuleText<'a> {
@@ -64,7 +80,7 @@ impl<'a> ModuleText<'a> {
             let is_new = if part.is_header {
                 which > 0 && self.spelling(which - 1) == "BEGIN"
             } else {
-                self.is_assigned(which) || (which == last && self.spelling(which) == "END")
+                self.begins_assignment(which) || (which == last && self.spelling(which) == "END")
             };
             if is_new {
                 part.end = which;
@@ -82,6 +98,11 @@ impl<'a> ModuleText<'a> {
         part.end = self.tokens.len();
         self.parts.push(part)?;
         Ok(())
+    }
+
+    // Whether an assignment begins with the token: it is a name that is assigned, and no type that is.
+    fn begins_assignment(&self, which: usize) -> bool {
+        self.is_assigned(which) && self.spelling(which.saturating_sub(1)) != "::="
     }
 
     /// Whether the token is a name that is assigned.
@@ -215,28 +236,25 @@ impl<'a> ModuleText<'a> {
         fault: Fault,
         lines: &mut FaultLine<'_, '_>,
     ) -> Result<(), NoMemory> {
-        let (line, column) = if part.is_header {
-            (fault.line, fault.column)
-        } else {
-            let line = part.line.saturating_add(fault.line.saturating_sub(2));
-            let column = if fault.line == 2 {
-                part.column.saturating_add(fault.column.saturating_sub(1))
-            } else {
-                fault.column
-            };
-            (line, column)
-        };
-        let which = self.token_at(part, line, column);
+        let (line, column) = part.place_of(fault);
+        let (which, place) = self.token_at(part, line, column);
         let spelling = self.spelling(which);
+        if fault.number == 31 {
+            // what stands here is what could, and is too much
+            let words = words_of_fault(fault.number);
+            return lines.put(line, column, fault.number, spelling, words);
+        }
+        // The END that `text_of` puts behind a part is not in the text: the part ends too early.
+        let number = if which == part.end { 22 } else { fault.number };
         let behind = if which == 0 {
             ""
         } else {
             self.spelling(which - 1)
         };
         let expected = expected_behind(behind);
-        let advice = what_to_do(fault.number, spelling);
+        let advice = what_to_do(number, spelling);
         let words = format!(in alloc; "{expected} could stand here{advice}")?;
-        lines.put(line, column, fault.number, spelling, words.as_str())
+        lines.put(place.line, place.column, number, spelling, words.as_str())
     }
 
     /// Appends a line for each name that is assigned twice, and for each that stands in a type and is not assigned.
@@ -279,28 +297,24 @@ impl<'a> ModuleText<'a> {
     }
 
     // The token of the part that stands at a line and a column, or the one behind the part.
-    fn token_at(&self, part: &Part, line: u32, column: u32) -> usize {
-        let mut place = Place::new();
-        if let Some(token) = self.tokens.get(part.first) {
-            place = Place {
-                at: token.start,
+    fn token_at(&self, part: &Part, line: u32, column: u32) -> (usize, Place) {
+        let mut place = if part.is_header {
+            Place::new()
+        } else {
+            Place {
+                at: self.start(part.first),
                 line: part.line,
                 column: part.column,
-            };
-        }
-        if part.is_header {
-            place = Place::new();
-        }
+            }
+        };
         for which in part.first..part.end {
-            let Some(token) = self.tokens.get(which) else {
-                return which;
-            };
-            place.go_to(self.octets, token.start);
+            place.go_to(self.octets, self.start(which));
             if place.line > line || (place.line == line && place.column >= column) {
-                return which;
+                return (which, place);
             }
         }
-        part.end
+        place.go_to(self.octets, self.start(part.end));
+        (part.end, place)
     }
 }
 

@@ -108,7 +108,7 @@ fn put_value(
         put_contents(alloc, node, shown, out)?;
     }
     if omitted > 0 {
-        write!(out, " and {omitted} octets more")?;
+        write!(out, " (more octets: {omitted})")?;
     }
     Ok(())
 }

@@ -10,9 +10,10 @@ use crate::refusal_pages::show_pages;
 use crate::showing_files::Showing;
 use crate::watched_output::WatchedOutput;
 use crate::{FileSystem, Form, Line, Reading, Task};
+use octets::NoMemory;
 use std::alloc::Global;
 use std::io::{BufWriter, Write};
-use view_faults::{Fault, print_no_type};
+use view_faults::{Fault, print_no_memory, print_no_type};
 
 /// Does what a command line asks, and returns the exit status. Results go to `out`, one line for each fault to `err`.
 /// An output that fails is a fault, but where its reader is gone.
@@ -26,7 +27,7 @@ pub fn run<D: FileSystem, W: Write + Drop, E: Write>(
     ensures { IsStatus result }
 {
     let Ok(mut out) = BufWriter::new(alloc, WatchedOutput::new(out)) else {
-        return 4;
+        return print_no_memory("asn1x-view", err);
     };
     let status = perform(alloc, line, file_system, &mut out, err);
     let _ = out.flush();
@@ -83,19 +84,28 @@ fn show<D: FileSystem, W: Write, E: Write>(
     ensures { IsStatus result }
 {
     let (module, name) = (reading.module.as_str(), reading.name.as_str());
-    let Ok(columns) = Columns::new(alloc) else {
-        return 4;
+    let ty = match type_of(alloc, file_system, module, name) {
+        Ok(ty) => ty,
+        Err(fault) => return print_no_type(module, name, &fault, err),
     };
-    match type_of(alloc, file_system, module, name) {
-        Ok(ty) => Showing {
-            alloc,
-            file_system,
-            ty: &ty,
-            reading,
-            form,
-            columns,
-        }
-        .show_all(out, err),
-        Err(fault) => print_no_type(module, name, &fault, err),
+    let Ok(columns) = columns_of(alloc, form) else {
+        return print_no_memory("asn1x-view", err);
+    };
+    Showing {
+        alloc,
+        file_system,
+        ty: &ty,
+        reading,
+        form,
+        columns,
+    }
+    .show_all(out, err)
+}
+
+// The texts of columns that the lines of a form are made of.
+fn columns_of(alloc: Global, form: Form) -> Result<Columns, NoMemory> {
+    match form {
+        Form::Octets(wanted) if !wanted.only_refused => Columns::new(alloc),
+        Form::Octets(_) | Form::Json { .. } => Ok(Columns::none(alloc)),
     }
 }

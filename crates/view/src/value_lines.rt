@@ -71,7 +71,7 @@ impl<W: Write> ValueLines<'_, W> {
         self.gathered(before, put)
     }
 
-    // Writes what is gathered, if it is much. Of a value for which memory ran out, behind so many octets, nothing is
+    // Writes what is gathered, if it is much. Of a value that ended out of memory, behind so many octets, nothing is
     // written.
     fn gathered(&mut self, before: usize, put: Result<(), NoMemory>) -> Result<(), Unwanted> {
         if put.is_err() {

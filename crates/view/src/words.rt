@@ -55,10 +55,10 @@ fn task_of(alloc: Global, name: &str, matches: &ArgMatches<'_>) -> Result<Task, 
             },
         }),
         "module" => Ok(Task::Module(owned(alloc, matches, "MODULE")?)),
-        "refusal" => Ok(Task::Refusal(number(alloc, matches, "NUMBER")?)),
+        "refusal" => Ok(Task::Refusal(number(alloc, matches, "NUMBER", "NUMBER")?)),
         _ => Ok(Task::Cut {
             input: owned(alloc, matches, "INPUT")?,
-            least: number(alloc, matches, "octets")?,
+            least: number(alloc, matches, "octets", "--octets")?,
             prefix: owned(alloc, matches, "into")?,
         }),
     }
@@ -70,7 +70,7 @@ fn not_a_line(alloc: Global, message: &'static str) -> LineFault {
 
 fn octets_task(alloc: Global, matches: &ArgMatches<'_>) -> Result<Task, LineFault> {
     let value = match matches.get_str("value") {
-        Some(_) => Some(number(alloc, matches, "value")?),
+        Some(_) => Some(number(alloc, matches, "value", "--value")?),
         None => None,
     };
     let wanted = Wanted {
@@ -81,15 +81,53 @@ fn octets_task(alloc: Global, matches: &ArgMatches<'_>) -> Result<Task, LineFaul
     Ok(Task::Show(reading_of(alloc, matches)?, Form::Octets(wanted)))
 }
 
-// The number from 1 on that an argument has.
-fn number(alloc: Global, matches: &ArgMatches<'_>, name: &str) -> Result<u64, LineFault> {
+// The number from 1 on that an argument has, which people know by this word.
+fn number(
+    alloc: Global,
+    matches: &ArgMatches<'_>,
+    name: &str,
+    word: &str,
+) -> Result<u64, LineFault> {
     match matches.get_str(name).unwrap_or("").parse::<u64>() {
         Ok(number) if number > 0 => Ok(number),
-        _ => Err(not_a_line(alloc, "a number from 1 on must stand there")),
+        _ => {
+            let why = format!(in alloc; "{word} wants a number from 1 on")?;
+            Err(wrong(alloc, why.as_str()))
+        }
     }
 }
 
-fn reading_of(alloc: Global, matches: &ArgMatches<'_>) -> Result<Reading, AllocError> {
+// Words that are no command line, since an argument has a value that it cannot have.
+fn wrong(alloc: Global, why: &str) -> LineFault {
+    fault_of_kind(program(alloc), WordsFault::ValueValidation, why)
+}
+
+// How values are read.
+fn reading_of(alloc: Global, matches: &ArgMatches<'_>) -> Result<Reading, LineFault> {
+    let reading = read_words(alloc, matches)?;
+    if has_shared_input(&reading) {
+        let why = "only one of MODULE and INPUT can be standard input";
+        return Err(wrong(alloc, why));
+    }
+    Ok(reading)
+}
+
+// Whether two files are the standard input, of which the second would find nothing.
+fn has_shared_input(reading: &Reading) -> bool {
+    let mut is_taken = reading.module.as_str() == "-";
+    for path in &reading.inputs {
+        if path.as_str() == "-" {
+            if is_taken {
+                return true;
+            }
+            is_taken = true;
+        }
+    }
+    false
+}
+
+// What the words say, whichever files are the standard input.
+fn read_words(alloc: Global, matches: &ArgMatches<'_>) -> Result<Reading, AllocError> {
     let mut inputs = Vec::new(alloc);
     for path in matches.get_strs("INPUT").unwrap_or(&[]) {
         inputs.push(String::from_str(alloc, path)?)?;

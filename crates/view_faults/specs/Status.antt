@@ -10,7 +10,7 @@ use Rattle.view_faults.specs.declared.fault.Fault.TheVariants.{Refused, CannotRe
 use Rattle.view_faults.specs.declared.no_type.NoType.{NoType}
 use Rattle.view_faults.specs.declared.no_type.NoType.TheVariants.{CannotRead as NoModule, Module, NotAssigned, NotBuiltIn}
 
--- 0 where all is done, 1 where octets are refused, 2 a module, 3 a file, 4 where memory ran out
+-- 0 where all is done, 1 where octets are refused, 2 a module, 3 a file, 4 out of memory
 abbrev pub IsEnd : ℕ → Type 0
 IsEnd status = status ≤ 4
 

@@ -1,5 +1,7 @@
 //! Why the program stops, and the lines that say so.
 
+ghost use Rattle.std.specs.Prelude.{◌≡◌};
+
 use crate::Unwanted;
 use octets::NoMemory;
 use program::PrintedPath;
@@ -48,7 +50,6 @@ impl From<Unwanted> for Fault {
 }
 
 impl Fault {
-    ghost use Rattle.std.specs.Prelude.{◌≡◌};
     ghost use Rattle.view_faults.specs.Status.{IsEnd, status_of};
 
     /// Prints the line of a fault of the file. Of refused octets the line says more, and is printed where that is
@@ -59,7 +60,7 @@ impl Fault {
             Fault::CannotWrite => "cannot be written",
             Fault::NotHexadecimal => "is not hexadecimal text, or has more than 4,194,304 octets",
             Fault::NoValue => "has fewer values",
-            Fault::NoMemory => "memory ran out",
+            Fault::NoMemory => "out of memory",
             Fault::Refused(_) | Fault::Output => return,
         };
         let path = PrintedPath(path);
@@ -78,4 +79,12 @@ impl Fault {
             Fault::Output => 0,
         }
     }
+}
+
+/// Prints that there is no more memory for the file, and returns the exit status.
+pub fn print_no_memory<E: Write>(path: &str, err: &mut E) -> u8
+    ensures { result ≡ 4 }
+{
+    Fault::NoMemory.print(path, err);
+    Fault::NoMemory.status()
 }

@@ -32,10 +32,25 @@ impl FaultLine<'_, '_> {
         let path = PrintedPath(self.path);
         let name = fault_name(number);
         let colon = if subject.is_empty() { "" } else { ": " };
+        let subject = PrintedPath(subject);
         write!(
             self.out,
             "{path}:{line}:{column}: refused {number} {name}: {subject}{colon}{words}\n"
         )?;
+        self.count = self.count.saturating_add(1);
+        Ok(())
+    }
+
+    /// Appends a line of what is no fault, but may hide one: its place, the name that it is of, and what it is.
+    pub fn put_note(
+        &mut self,
+        line: u32,
+        column: u32,
+        name: &str,
+        words: &str,
+    ) -> Result<(), NoMemory> {
+        let path = PrintedPath(self.path);
+        write!(self.out, "{path}:{line}:{column}: {name}: {words}\n")?;
         self.count = self.count.saturating_add(1);
         Ok(())
     }

@@ -15,6 +15,6 @@ pub fn words_of_fault(number: u32) -> &'static str {
         30 => "the type does not take this DEFAULT",
         31 => "a limit of asn1x is passed",
         32 => "what stands here is not in the profile",
-        _ => "memory ran out",
+        _ => "out of memory",
     }
 }

@@ -28,12 +28,16 @@ pub fn print_no_type<E: Write>(path: &str, name: &str, fault: &NoType, err: &mut
 {
     let path = PrintedPath(path);
     match fault {
-        NoType::CannotRead(error) if error.kind() == ErrorKind::OutOfMemory => 4,
+        NoType::CannotRead(error) if error.kind() == ErrorKind::OutOfMemory => {
+            let _ = writeln!(err, "{path}: out of memory");
+            4
+        }
         NoType::CannotRead(_) => {
             let _ = writeln!(err, "{path}: cannot be read");
             3
         }
         NoType::NotBuiltIn => {
+            let name = PrintedPath(name);
             let _ = writeln!(
                 err,
                 "{path}: {name} is none of BOOLEAN, INTEGER, NULL and OCTET STRING"
@@ -43,6 +47,7 @@ pub fn print_no_type<E: Write>(path: &str, name: &str, fault: &NoType, err: &mut
         NoType::Module(fault) => print_module_fault(path, name, fault, err),
         NoType::NotAssigned(fault, names) => {
             let status = print_module_fault(path, name, fault, err);
+            let name = PrintedPath(name);
             for near in names {
                 let _ = writeln!(err, "{name} is near {near}");
             }
@@ -60,6 +65,7 @@ fn print_module_fault<E: Write>(path: PrintedPath<'_>, name: &str, fault: &Fault
     let word = fault_name(number);
     let words = words_of_fault(number);
     let colon = if name.is_empty() { "" } else { ": " };
+    let name = PrintedPath(name);
     let _ = writeln!(
         err,
         "{path}:{line}:{column}: {name}{colon}refused {number} {word}: {words}"

@@ -1,5 +1,6 @@
-//! Tests of `walking` and `view`, through what they offer: whole runs of the program, from its words to what it prints
-//! and its status (`runs`, `cut_runs`, `failing_outputs`), and ends of encodings in pieces (`cut_ends`).
+//! Tests of `cutting`, `walking` and `view`, through what they offer: whole runs of the program, from its words to what
+//! it prints and its status (`runs`, `cut_runs`, `failing_outputs`), words that are refused (`refused_words`), and ends
+//! of encodings in pieces (`cut_ends`).
 //!
 //! They stand here and not in those crates, since the check of a crate's tests proves the crate once more.
 #![tactic(auto)]
@@ -12,5 +13,7 @@ mod cut_runs;
 mod failing_outputs;
 #[cfg(test)]
 mod fake;
+#[cfg(test)]
+mod refused_words;
 #[cfg(test)]
 mod runs;

@@ -25,8 +25,9 @@ octets,m,T,in,--value,3 | 3003 020107 3003 020108 | | in: has fewer values; | 1
 octets,m,N,in,none,other | 030206c0 | in:;0000: 0 2+2 [UNIVERSAL 3] N ::= BIT STRING '11'B;other:;0000: 0 2+2 [UNIVERSAL 3] N ::= BIT STRING '11'B; | none: cannot be read; | 3
 octets,m,S,in | 3107 020107 c0022a03 | 0000: 0 2+7 [UNIVERSAL 17] S ::= SET;0002: 1 2+1 [UNIVERSAL 2] .a INTEGER 7;0005: 1 2+2 [PRIVATE 0] .b OBJECT IDENTIFIER 1.2.3; || 0
 octets,m,N,in | 030206c0 | 0000: 0 2+2 [UNIVERSAL 3] N ::= BIT STRING '11'B; || 0
+octets,m,N,- | 030206c0 | 0000: 0 2+2 [UNIVERSAL 3] N ::= BIT STRING '11'B; || 0
 octets,m,C,in | 3105 020107 8500 | 0000: 0 2+5 [UNIVERSAL 17] C ::= SET;0002: 1 2+1 [UNIVERSAL 2] .b INTEGER 7;0005: 1 2+0 [5] .a.y NULL NULL; || 0
-octets,@builtin,OCTET STRING,in | 0421 000102030405060708090a0b0c0d0e0f101112131415161718191a1b1c1d1e1f20 | 0000: 0 2+33 [UNIVERSAL 4] OCTET STRING ::= OCTET STRING '000102030405060708090A0B0C0D0E0F101112131415161718191A1B1C1D1E1F'H and 1 octets more; || 0
+octets,@builtin,OCTET STRING,in | 0421 000102030405060708090a0b0c0d0e0f101112131415161718191a1b1c1d1e1f20 | 0000: 0 2+33 [UNIVERSAL 4] OCTET STRING ::= OCTET STRING '000102030405060708090A0B0C0D0E0F101112131415161718191A1B1C1D1E1F'H (more octets: 1); || 0
 octets,@builtin,OCTET STRING,in,--wide | 0421 000102030405060708090a0b0c0d0e0f101112131415161718191a1b1c1d1e1f20 | 0000: 0 2+33 [UNIVERSAL 4] OCTET STRING ::= OCTET STRING '000102030405060708090A0B0C0D0E0F101112131415161718191A1B1C1D1E1F20'H; || 0
 // what is not canonical, by DER
 octets,m,T,in | 3080 028101 07 80012a 0000 | 0000: 0 2+indef [UNIVERSAL 16] T ::= SEQUENCE (not DER: the indefinite form);0002: 1 3+1 [UNIVERSAL 2] .a INTEGER 7 (not DER: more length octets than needed);0006: 1 2+1 [0] .b BOOLEAN TRUE (not DER: TRUE is not FF);0009: 1 2+0 [UNIVERSAL 0] end of contents; || 0
@@ -49,7 +50,7 @@ octets,@builtin,OCTET STRING,in,--from,cer,--only-refused | 2480 040141 0000 || 
 // Octets that are refused: the number of each, where the fault stands by the clauses of X.690, and the words.
 const REFUSED: &str = "
 M DEFINITIONS IMPLICIT TAGS ::= BEGIN T ::= SEQUENCE { a INTEGER, b [0] BOOLEAN DEFAULT FALSE, c CHOICE { x [1] UTF8String, y [APPLICATION 2] SEQUENCE OF NULL } OPTIONAL, d [3] EXPLICIT ENUMERATED { p(0), q(1) } OPTIONAL } S ::= SET { a INTEGER, b [PRIVATE 0] OBJECT IDENTIFIER } G ::= GeneralizedTime U ::= UTCTime V ::= NumericString P ::= BMPString N ::= BIT STRING R ::= RELATIVE-OID END:
-octets,m,T,in,--only-refused | 3003 0201 || in: octet 4: .a: refused 1 Truncated: the input ends inside the contents octets, 1 are missing; | 1
+octets,m,T,in,--only-refused | 3003 0201 || in: octet 4: .a: refused 1 Truncated: the input ends inside the contents octets, 1 missing; | 1
 octets,m,T,in,--only-refused | 3003 || in: octet 2: T: refused 1 Truncated: the input ends where an identifier must stand; | 1
 octets,m,T,in,--only-refused | 30 || in: octet 1: T: refused 1 Truncated: the input ends inside the length octets; | 1
 octets,m,T,in,--only-refused | 3080 020107 00 || in: octet 6: T: refused 1 Truncated: the input ends before the end-of-contents octets; | 1
@@ -62,7 +63,7 @@ octets,m,T,in,--only-refused | 3002 0280 || in: octet 3: .a: refused 3 Form: a p
 octets,m,T,in,--only-refused | 3003 020207 || in: octet 3: .a: refused 4 Length: it goes on past the end of what holds it; | 1
 octets,m,T,in,--only-refused | 30ff || in: octet 1: T: refused 4 Length: malformed length octets, or more than 1,048,576 (the limit is asn1x's own); | 1
 octets,m,T,in,--only-refused | 3007 020107 a300 0000 || in: octet 7: .d: refused 4 Length: nothing stands in an explicit tag; | 1
-octets,m,T,in,--only-refused | 3005 020107 0000 || in: octet 5: T: refused 5 EndOfContents: 00 stands where a part must begin; | 1
+octets,m,T,in,--only-refused | 3005 020107 0000 || in: octet 5: T: refused 5 EndOfContents: universal 0, the tag of end-of-contents octets, stands where a part must begin; | 1
 octets,m,T,in,--only-refused | 3080 020107 0001 || in: octet 6: T: refused 5 EndOfContents: 00 begins end-of-contents octets, and these are not 00 00, or not where they may end; | 1
 octets,m,T,in,--only-refused | 3004 02020001 || in: octet 4: .a: refused 6 Contents: the first nine bits of an INTEGER are equal; | 1
 octets,m,T,in,--only-refused | 3002 0200 || in: octet 3: .a: refused 6 Contents: INTEGER has 1 to 1,024 contents octets (the limit is asn1x's own), and these are 0; | 1
@@ -88,6 +89,8 @@ octets,m,T,none,in,--only-refused | 05 || none: cannot be read;in: octet 0: T: r
 octets,m,X,in | || m:1:1: X: refused 24 UnknownType: the name, or one that it reaches, is not assigned; | 2
 octets,none,X,in | || none: cannot be read; | 3
 octets,@builtin,X,in | || @builtin: X is none of BOOLEAN, INTEGER, NULL and OCTET STRING; | 64
+octets,@builtin,X\tY,in | || @builtin: X\\u{9}Y is none of BOOLEAN, INTEGER, NULL and OCTET STRING; | 64
+octets,m,X\tY,in | || m:1:1: X\\u{9}Y: refused 24 UnknownType: the name, or one that it reaches, is not assigned; | 2
 ";
 
 // The other commands.
@@ -101,8 +104,8 @@ json,m,P,in | 1e04 00e9 20ac | \"é€\"; || 0
 json,m,D,in | 300b 2406 040141 040142 020107 3080 2480 2480 040141 0000 040142 0000 0201ff 0000 | {\"s\":\"4142\",\"n\":7};{\"s\":\"4142\",\"n\":-1}; || 0
 json,@builtin,INTEGER,in | 0207 20000000000001 | 9007199254740993; || 0
 json,@builtin,OCTET STRING,in | 0402 0aff 05 | \"0AFF\"; | in: octet 4: OCTET STRING: refused 2 Identifier: no part that begins with [UNIVERSAL 5] can stand here; | 1
-types,m | | 1: T ::= SEQUENCE, 4 components; 1: N ::= BIT STRING, 1 named bits; 1: P ::= BMPString; 1: D ::= SEQUENCE, 2 components; || 0
-types,m,T | | T [UNIVERSAL 16] SEQUENCE; a [UNIVERSAL 2] INTEGER; b [0] BOOLEAN DEFAULT FALSE; c CHOICE OPTIONAL; x [1] UTF8String; y [APPLICATION 2] SEQUENCE OF; [UNIVERSAL 5] NULL; d [3] EXPLICIT OPTIONAL; [UNIVERSAL 10] ENUMERATED; p(0); q(1);9 nodes, 2 levels; || 0
+types,m | | 1: T ::= SEQUENCE, components: 4; 1: N ::= BIT STRING, named bits: 1; 1: P ::= BMPString; 1: D ::= SEQUENCE, components: 2; || 0
+types,m,T | | T [UNIVERSAL 16] SEQUENCE; a [UNIVERSAL 2] INTEGER; b [0] BOOLEAN DEFAULT FALSE; c CHOICE OPTIONAL; x [1] UTF8String; y [APPLICATION 2] SEQUENCE OF; [UNIVERSAL 5] NULL; d [3] EXPLICIT OPTIONAL; [UNIVERSAL 10] ENUMERATED; p(0); q(1);nodes: 9, levels: 2; || 0
 types,m,Q | || m:1:1: Q: refused 24 UnknownType: the name, or one that it reaches, is not assigned; | 2
 module,m | | || 0
 M DEFINITIONS ::= BEGIN A ::= INTEGER (5) B ::= SEQUENCE { a ANY } C ::= Dd END:
@@ -127,8 +130,18 @@ M DEFINITIONS ::= BEGIN A ::= SEQUENCE { b B OPTIONAL } B ::= SET OF A C ::= SEQ
 module,m | | m:1:44: refused 25 Cycle: B: in A: the type reaches itself;m:1:70: refused 25 Cycle: A: in B: the type reaches itself; || 2
 M DEFINITIONS ::= BEGIN A ::= # END:
 module,m | | m:1:31: refused 21 Token: what stands here is no token, or a comment is not closed, and what stands behind it is not looked at; || 2
+M DEFINITIONS ::= BEGIN T ::= [268435456] NULL END:
+module,m | | m:1:32: refused 31 TooLarge: 268435456: a limit of asn1x is passed; || 2
 M DEFINITIONS BEGIN END:
 module,m | | m:1:15: refused 22 Syntax: BEGIN: EXPLICIT, IMPLICIT or AUTOMATIC TAGS, or ::= could stand here; || 2
+M DEFINITIONS:
+module,m | | m:1:14: refused 22 Syntax: EXPLICIT, IMPLICIT or AUTOMATIC TAGS, or ::= could stand here; || 2
+M DEFINITIONS ::= BEGIN T ::= END:
+module,m | | m:1:31: refused 22 Syntax: END: a type, or BEGIN behind a header could stand here; || 2
+M DEFINITIONS ::= BEGIN T ::= U ::= NULL END:
+module,m | | m:1:33: refused 22 Syntax: ::=: OPTIONAL, DEFAULT, a comma or } behind a type, the next assignment, or ::= behind a name could stand here; || 2
+M DEFINITIONS ::= BEGIN T ::= SEQUENCE { a NULL, U ::= NULL END:
+module,m | | m:1:50: refused 22 Syntax: U: a name with a small letter could stand here; || 2
 refusal,9 | | 9 Repeated; A component of a SET stands twice. Returned by the readers.; for example: SET of an INTEGER, 31 06 02 01 07 02 01 07.; || 0
 refusal,20 | || asn1x-view: no refusal has the number 20: they are 1 to 17 and 21 to 33; | 64
 ";

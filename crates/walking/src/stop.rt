@@ -75,7 +75,7 @@ impl<'a> Walk<'a> {
         self.halt(Stop::outside(refusal, self.taken, reason))
     }
 
-    // Goes no further, since memory ran out.
+    // Goes no further, out of memory.
     #[inline(never)]
     pub(crate) fn no_memory(&mut self) -> Stopped {
         self.halt_here(Refusal::NoMemory, Reason::NoMemory)

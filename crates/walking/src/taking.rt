@@ -116,8 +116,10 @@ impl<'a> Walk<'a> {
         let start = self.taken.saturating_add(opening.head());
         let later = behind(octets, start.saturating_add(contents.len()));
         let notes = self.segment_notes(self.line.part.node, opening, contents, later);
-        if let Err((refusal, reason)) = self.join(contents) {
-            return Err(self.halt_in_part(refusal, start, reason));
+        if !self.is_taken {
+            if let Err((refusal, reason)) = self.join(contents) {
+                return Err(self.halt_in_part(refusal, start, reason));
+            }
         }
         if let Some(top) = self.open.last_mut() {
             top.count = top.count.saturating_add(1);

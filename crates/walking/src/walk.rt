@@ -24,7 +24,7 @@ pub struct Walk<'a> {
     pub(crate) taken: usize,
     pub(crate) open: Vec<Open<'a>>,
     pub(crate) places: Places,
-    // the string whose segments come
+    // the string whose segments come, if it is judged here
     pub(crate) joined: Joined,
     // whether a reader has taken the octets, so that what it has judged need not be judged here
     pub(crate) is_taken: bool,
@@ -82,11 +82,6 @@ impl<'a> Walk<'a> {
     /// Why the walk goes no further, if `next_line` has said that it does not.
     pub fn stop(&self) -> Option<&Stop<'a>> {
         self.stop.as_ref()
-    }
-
-    /// How many octets have been walked over.
-    pub fn taken(&self) -> usize {
-        self.taken
     }
 
     /// Appends the path of the part, which stands in `depth` open encodings: the names of what is around it, and its
@@ -192,11 +187,11 @@ impl<'a> Walk<'a> {
         if self.open.is_empty() {
             self.is_over = true;
         }
-        if let Held::Segments(_) = open.held {
-            return self.close_string(open.part);
-        }
         if self.is_taken {
             return Ok(());
+        }
+        if let Held::Segments(_) = open.held {
+            return self.close_string(open.part);
         }
         match why_not_closed(&open) {
             Some((refusal, reason)) => Err(self.halt(Stop::of(open.part, refusal, at, reason))),
@@ -253,7 +248,7 @@ impl<'a> Walk<'a> {
             Ok(read) => read,
             Err(refusal) => return Err(self.no_identifier(refusal)),
         };
-        let default = self.due(tag, constructed)?;
+        let default = self.due(tag)?;
         let opening = self.opening(constructed, identifier, rest)?;
         if opening.constructed {
             self.open_part(default, &opening, octets)
