@@ -20,7 +20,7 @@
 # says so, and json is left out.
 #
 # expected.sh makes those files, by other tools. A program that calls the library is held to asn1x itself too, over a
-# module and values that are refused. The status is 1 where anything differs, and 2 where something is missing.
+# module, values and text that are refused, a file that is missing and, by the status alone, wrong words. The status is 1 where anything differs, and 2 where something is missing.
 set -eu
 
 folder=$(cd "$(dirname "$0")" && pwd)
@@ -111,6 +111,15 @@ over_rows() {
     done <rows
 }
 
+# Compares what the program says of these words with what asn1x says of them; $1 is what they are.
+as_asn1x() {
+    what_is=$1
+    shift
+    "$asn1x" "$@" >"$work/wanted" 2>&1 || echo "status $?" >>"$work/wanted"
+    run "$@"
+    compare "$what_is" "$work/wanted"
+}
+
 # Compares what the program says of what is refused, a line of refused.rows each, with what asn1x says.
 over_refused() {
     name=refused passed=
@@ -119,17 +128,18 @@ over_refused() {
         for task in check show convert; do
             [ $task != convert ] || words="$words --to der"
             # shellcheck disable=SC2086
-            "$asn1x" $task refused.asn "$type" "$work/octets" --hex $words >"$work/wanted" 2>&1 ||
-                echo "status $?" >>"$work/wanted"
-            # shellcheck disable=SC2086
-            run $task refused.asn "$type" "$work/octets" --hex $words
-            compare "$what to $task" "$work/wanted"
+            as_asn1x "$what to $task" $task refused.asn "$type" "$work/octets" --hex $words
             [ $task = show ] || continue
             # shellcheck disable=SC2086
             run each refused.asn "$type" "$work/octets" --hex $words --to text
             compare "$what to each" "$work/wanted"
         done
     done <refused.rows
+    as_asn1x 'missing to check' check refused.asn Flags "$work/missing" --hex
+    echo 'status 64' >"$work/wanted"
+    run convert refused.asn Flags "$work/octets" --hex --to xer
+    tail -n 1 "$work/said" >"$work/last" && mv "$work/last" "$work/said"
+    compare 'wrong words' "$work/wanted"
     printf '%-14s %s\n' "$name" "${passed%,}"
 }
 

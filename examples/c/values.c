@@ -4,7 +4,8 @@
  *     values check|show|convert MODULE TYPE FILE --hex [--from ber|cer|der] [--to cer|der]
  *     values each MODULE TYPE FILE --hex [--from ber|cer|der] [--to cer|der|text]
  *
- * FILE is hexadecimal text. `each` takes the octets in pieces, and writes a line for each value as it completes.
+ * FILE is hexadecimal text. `each` takes the octets in pieces, and writes a line for each value as it completes. The
+ * statuses are those of asn1x.
  */
 #include <asn1x.h>
 #include <stdio.h>
@@ -16,23 +17,26 @@ static const size_t PIECE = 50;
 /* What `each` writes where it is not encodings by a rule. */
 enum { TEXT = ASN1X_DER + 1 };
 
+/* The statuses of asn1x. */
+enum { REFUSED = 1, MODULE_REFUSED = 2, DEVICE_FAILED = 3, OUT_OF_MEMORY = 4, WRONG_WORDS = 64 };
+
 /* Octets, and how many there are. */
 struct octets {
     uint8_t *at;
     size_t length;
 };
 
-static void fail(const char *why, const char *what)
+static void fail(int status, const char *why, const char *what)
 {
     fprintf(stderr, "asn1x: %s%s\n", why, what);
-    exit(3);
+    exit(status);
 }
 
 static uint8_t *room_for(size_t octets)
 {
     uint8_t *at = (uint8_t *)malloc(octets ? octets : 1);
     if (!at)
-        fail("out of memory", "");
+        fail(OUT_OF_MEMORY, "out of memory", "");
     return at;
 }
 
@@ -43,11 +47,11 @@ static struct octets read_file(const char *path)
     if (file && fseek(file, 0, SEEK_END) == 0)
         length = ftell(file);
     if (length < 0)
-        fail("cannot read ", path);
+        fail(DEVICE_FAILED, "cannot read ", path);
     rewind(file);
     struct octets all = {room_for((size_t)length), (size_t)length};
     if (fread(all.at, 1, all.length, file) != all.length)
-        fail("cannot read ", path);
+        fail(DEVICE_FAILED, "cannot read ", path);
     fclose(file);
     return all;
 }
@@ -69,13 +73,13 @@ static struct octets unhex(struct octets text)
             continue;
         int value = digit(it);
         if (value < 0)
-            fail("not hexadecimal", "");
+            fail(REFUSED, "not hexadecimal", "");
         uint8_t *to = text.at + digits / 2;
         *to = (uint8_t)(digits % 2 ? *to * 16 + value : value);
         digits++;
     }
     if (digits % 2)
-        fail("not hexadecimal", "");
+        fail(REFUSED, "not hexadecimal", "");
     text.length = digits / 2;
     return text;
 }
@@ -86,7 +90,7 @@ static int rule_of(const char *name)
     for (int i = ASN1X_BER; i <= TEXT; i++)
         if (strcmp(name, names[i]) == 0)
             return i;
-    fail("no such rule: ", name);
+    fail(WRONG_WORDS, "no such rule: ", name);
     return -1;
 }
 
@@ -107,7 +111,7 @@ static int status_of(uint32_t refusal, uint64_t values)
     fflush(stdout);
     fprintf(stderr, "asn1x: refused %u %s after %llu values\n", (unsigned)refusal, name_of(refusal),
             (unsigned long long)values);
-    return refusal == ASN1X_NO_MEMORY ? 4 : refusal == ASN1X_SINK_FAULT ? 3 : 1;
+    return refusal == ASN1X_NO_MEMORY ? OUT_OF_MEMORY : refusal == ASN1X_SINK_FAULT ? DEVICE_FAILED : REFUSED;
 }
 
 static void print_digits(const uint8_t *octets, size_t length)
@@ -194,13 +198,21 @@ static int each(asn1x_type *type, int from, int to, struct octets octets)
     return status_of(one.refusal, values);
 }
 
+/* Text is written by `each` alone, and nothing is read by it. */
+static void read_rules(int count, char **words, int *from, int *to)
+{
+    for (int i = 6; i + 1 < count; i += 2)
+        *(strcmp(words[i], "--to") == 0 ? to : from) = rule_of(words[i + 1]);
+    if (*from == TEXT || (*to == TEXT && strcmp(words[1], "each") != 0))
+        fail(WRONG_WORDS, "no such rule: ", "text");
+}
+
 int main(int count, char **words)
 {
     int from = ASN1X_BER, to = ASN1X_DER;
-    if (count < 6 || strcmp(words[5], "--hex") != 0)
-        fail("usage: values check|show|convert|each MODULE TYPE FILE --hex [--from RULE] [--to RULE]", "");
-    for (int i = 6; i + 1 < count; i += 2)
-        *(strcmp(words[i], "--to") == 0 ? &to : &from) = rule_of(words[i + 1]);
+    if (count < 6 || count % 2 != 0 || strcmp(words[5], "--hex") != 0)
+        fail(WRONG_WORDS, "usage: values check|show|convert|each MODULE TYPE FILE --hex [--from RULE] [--to RULE]", "");
+    read_rules(count, words, &from, &to);
 
     struct octets module = read_file(words[2]);
     asn1x_type type = {0};
@@ -209,7 +221,7 @@ int main(int count, char **words)
     if (fault.number != ASN1X_OK) {
         fprintf(stderr, "asn1x: module refused %u %s at %u:%u\n", (unsigned)fault.number, name_of(fault.number),
                 (unsigned)fault.line, (unsigned)fault.column);
-        return fault.number == ASN1X_MODULE_NO_MEMORY ? 4 : 2;
+        return fault.number == ASN1X_MODULE_NO_MEMORY ? OUT_OF_MEMORY : MODULE_REFUSED;
     }
     struct octets octets = unhex(read_file(words[4]));
     int status = strcmp(words[1], "check") == 0  ? check(&type, from, octets)
