@@ -1,6 +1,6 @@
 PREFIX ?= $(HOME)/.local
 
-.PHONY: demo examples test edits growths install companions try clean rt
+.PHONY: demo examples test edits growths install companions try clean rt tools_of_c
 
 # Converts 01 01 2a, a BOOLEAN under BER, to DER, then checks, shows and converts the values of examples/, by a
 # program that is compiled once, without a proof. examples/demo/ has the words of each run. Of the text of a
@@ -48,8 +48,8 @@ growths: rt
 	@bench/growths.sh
 
 # Proves the program and each library that it stands on, and puts it on the path, with its manual page and completion.
-# Beside it stands the library for callers of C.
-install: rt
+# Beside it stands the library for callers of C, whose tools are looked for before the proof, which takes long.
+install: rt tools_of_c
 	@install/proved.sh asn1x
 	@$(call put,crates/asn1x/out/asn1x)
 	@echo 'installed $(program), which is proved, and its manual page (man asn1x)'
@@ -80,6 +80,11 @@ clean:
 
 rt:
 	@command -v rt >/dev/null || { echo "rt is missing: put the kit's bin folder on the path" >&2; exit 1; }
+
+tools_of_c:
+	@for tool in cc ar; do \
+	    command -v $$tool >/dev/null || { echo "$$tool is missing: the library for callers of C needs it" >&2; exit 1; }; \
+	done
 
 in_program = cd crates/asn1x &&
 shown = calls.asn calls.hex certificates.asn certificates.hex revoked.hex usage.hex

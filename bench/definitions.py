@@ -151,7 +151,8 @@ def clauses_of(item, exports, hidden_traits):
     for line in heads_of(item, "    "):
         if item[0].startswith("impl") and " for " not in item[0] and re.match(r"    (pub )?fn ", line):
             public = line.startswith("    pub ")
-        kept += [line] if public else []
+        # What is imported is not yet cited.
+        kept += [line] if public and not line.lstrip().startswith("ghost use ") else []
     return kept
 
 

@@ -87,6 +87,9 @@ def main(words):
         return 1
     if "--look" in words:
         return 0
+    if not shutil.which("rt"):
+        print("edits: rt is missing: put the kit's bin folder on the path", file=sys.stderr)
+        return 1
     return 0 if all([tried(crate) for crate in crates]) else 1
 
 

@@ -6,9 +6,9 @@
 Of functions: the lines of the body between its braces, and those of the clauses above it. Told are bodies of more than
 40 lines, files of more than 350, and private functions that have more lines of clauses than of code, each list with its
 number; with --all, all of these, else the first ten. The signature is not counted, nor a contract of one line. Tests'
-crates are left out, since their bodies are tables. Of the others a body that is a table is counted, not told: one `match` of a name or a field, without
-guards and with nothing around it, each arm of which is a text, a number, a character or a truth as it stands. The
-status is 1 where a body or a file is longer than that.
+crates are left out, since their bodies are tables. Of the others a body that is a table is counted, not told: one
+`match` of a name or a field, without guards and with nothing around it, each arm of which is a text, a number, a
+character or a truth as it stands. The status is 1 where a body or a file is longer than that.
 """
 
 import re

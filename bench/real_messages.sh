@@ -8,8 +8,8 @@
 # set. FOLDER has the texts, as rfc5280.txt. It needs openssl, 3.0 or later, cmp and xxd. openssl makes a certificate, a
 # revocation list, a request and a response of OCSP, a request and a token of a time stamp, and signed data, all in DER,
 # which must come out as they are. The messages of LDAP and SNMP are those of examples/, and become what other tools
-# made of them (examples/expected/). A line is printed for each kind. The status is 1 where one is refused or comes out
-# otherwise; a kind is passed over whose texts are missing.
+# made of them (examples/expected/). A line is printed for each kind, and last how many came out so. The status is 1 where
+# one is refused or comes out otherwise, or none does; a kind is passed over whose texts are missing.
 #
 # TimeStampResp is left out: in RFC 3161 a comment has the brace in it that ends PKIStatus.
 set -u
@@ -27,7 +27,7 @@ program=$(realpath "$(command -v "$program")") asn1x=$(realpath "$(command -v "$
 work=$(mktemp -d) || exit 1
 trap 'rm -rf "$work"' EXIT
 cd "$work" || exit 1
-status=0
+status=0 converted=0
 
 # Says what openssl said, where the command fails.
 quietly() {
@@ -127,6 +127,7 @@ convert() {
         status=1
     else
         echo "$from: $type as it should be, $(wc -c <"$from") octets"
+        converted=$((converted + 1))
     fi
 }
 
@@ -148,4 +149,6 @@ content='--as ContentInfo.content=SignedData --as CryptographicMessageSyntax2004
     convert ldap_long Lightweight-Directory-Access-Protocol-V3.LDAPMessage 4511 ldap_long.der --unroll 3
     convert snmp COMMUNITY-BASED-SNMPv2.Message '1901 3416 2578' snmp.der --as Message.data=PDUs
 }
+echo "$converted kinds of messages as they should be"
+[ $converted -gt 0 ] || { echo "real_messages: there are no texts in $texts" >&2; exit 1; }
 exit $status

@@ -11,7 +11,7 @@
 # types, how many came through, and for the others how often each first reason came.
 #
 # bench/real_messages.sh, which this runs at the end, converts messages by modules that are trimmed from these texts.
-# The status is 1 where that fails, or where there are no modules.
+# The status is 1 where that fails, or has no texts, or where there are no modules.
 set -u
 
 top=$(cd "$(dirname "$0")/.." && pwd) || exit 1
@@ -25,12 +25,17 @@ trap 'rm -rf "$work"' EXIT
 mkdir "$work/rfc"
 export program work
 
-# The files. Debian packs the texts of RFCs.
+# The files. Debian packs the texts of RFCs; all of these texts stand in one folder, for real_messages.sh.
 for folder; do
-    [ -d "$folder" ] && find "$folder/" -type f \( -name '*.asn' -o -name '*.asn1' -o -name 'rfc*.txt' \)
-    [ -d "$folder" ] && find "$folder/" -type f -name 'rfc*.txt.gz' | while read -r file; do
+    [ -d "$folder" ] || continue
+    folder=$(realpath "$folder")
+    find "$folder/" -type f \( -name '*.asn' -o -name '*.asn1' \)
+    find "$folder/" -type f \( -name 'rfc*.txt' -o -name 'rfc*.txt.gz' \) | while read -r file; do
         text=$work/rfc/$(basename "$file" .gz)
-        gzip -dc "$file" >"$text" && echo "$text"
+        case $file in
+        *.gz) gzip -dc "$file" >"$text" ;;
+        *) ln -sf "$file" "$text" ;;
+        esac && echo "$text"
     done
 done >"$work/all"
 xargs -r -d '\n' grep -lE '(^|[^A-Za-z-])DEFINITIONS([^A-Za-z-]|$)' <"$work/all" | sort -u >"$work/files"

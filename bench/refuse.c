@@ -3,8 +3,8 @@
  *
  *     REFUSED=N GROWTHS=FILE LD_PRELOAD=refuse.so PROGRAM ..
  *
- * answers the Nth call of malloc, calloc or realloc as where memory runs out, and writes into FILE how many
- * calls there were. REFUSED=0 refuses none.
+ * has the Nth call of malloc, calloc or realloc return NULL, as where memory runs out, and writes into FILE how
+ * many calls there were. REFUSED=0 refuses none.
  */
 #include <errno.h>
 #include <fcntl.h>

@@ -11,7 +11,7 @@
 #     the line of the module's fault 33, where its type is not yet known;
 #     the line of refusal 17, and on standard output what stands for the values that it counts;
 #
-# or it can do without the growth, and gives the very answer of ample memory. Any other answer is a failure.
+# or it can do without the growth, and does just what it does with ample memory. Anything else is a failure.
 # A line is printed for each command: it takes a few seconds.
 set -euo pipefail
 shopt -s inherit_errexit
@@ -77,7 +77,7 @@ run() {
         >out 2>err </dev/null || status=$?
 }
 
-# Whether the answer is that memory ran out, no earlier than in the phase that was reached.
+# Whether the run says that memory ran out, no earlier than in the phase that was reached.
 is_refusal() {
     local line
     line=$(<err)

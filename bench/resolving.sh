@@ -12,6 +12,7 @@ shopt -s inherit_errexit
 
 # shellcheck source=bench/over_libraries.sh
 . "$(dirname "${BASH_SOURCE[0]}")/over_libraries.sh"
+command -v cc >/dev/null || { echo 'resolving: cc is missing' >&2; exit 1; }
 run_over resolving 'notation types'
 cc -O2 -o "$work/floor" "$top/bench/floor.c"
 read -r _ resident < <("$work/floor" measure 1 "$work/crates/resolving/out/resolving")

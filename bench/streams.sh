@@ -5,8 +5,8 @@
 #     bench/streams.sh [PROGRAM]
 #
 # PROGRAM is crates/asn1x/out/asn1x unless given, which `rt run` in crates/asn1x builds. A line is printed for
-# each case: `ok` where the standard output, the standard error and the status are those that README.md says, else
-# what was found. The status is 1 where a case failed.
+# each case: `ok` where the standard output, the standard error and the status are those that docs/REFUSALS.md
+# says, else what was found. The status is 1 where a case failed.
 # shellcheck disable=SC2002
 set -u
 

@@ -12,6 +12,7 @@ shopt -s inherit_errexit
 crate=asn1x_trim
 # shellcheck source=bench/built.sh
 . "$(dirname "${BASH_SOURCE[0]}")/built.sh"
+command -v cc >/dev/null || fail 'cc is missing'
 cc -O2 -o "$work/floor" "$top/bench/floor.c"
 status=0
 

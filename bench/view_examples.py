@@ -13,6 +13,7 @@ Prints what agrees and what differs, and ends with 1 where something does.
 import glob
 import os
 import re
+import shutil
 import subprocess
 import sys
 import tempfile
@@ -30,6 +31,8 @@ def main():
     for program in (ASN1X, VIEW):
         if not os.access(program, os.X_OK):
             sys.exit(f"{program} is missing: build it first")
+    if not shutil.which("openssl"):
+        sys.exit("openssl is missing")
     faults = 0
     with tempfile.TemporaryDirectory() as folder:
         for name, (module, ty) in EXAMPLES.items():

@@ -4,7 +4,7 @@
 Runs from the top. Needs both built programs: ASN1X and VIEW name them, else those in crates/*/out are taken.
 By each rule, for each row: the status and the number of a refusal are those of `asn1x check`; the offsets of the lines
 follow from one another and end where the octets do; the values of the lines and of the JSON are those of `asn1x show`.
-Prints what differs and how many rows were compared, and ends with 1 where something differs.
+Prints what differs and how many rows were compared, and ends with 1 where something differs or no row was compared.
 """
 import glob
 import json
@@ -33,7 +33,7 @@ def main():
                         differing += 1
                         print(f"{os.path.basename(path)}: {row[:100]}: {fault}")
     print(f"{compared} rows compared, {differing} differences")
-    return 1 if differing else 0
+    return 1 if differing or not compared else 0
 
 
 def rows_of(path):

@@ -12,7 +12,7 @@
 #define ASK ((size_t)0x500000000000)
 #define NUMBERS ((size_t)1000000)
 
-/* How std is answered: whether there is memory, and where. */
+/* What std gets: whether there is memory, and where. */
 struct room {
     size_t is_granted;
     void *at;
@@ -22,7 +22,7 @@ struct room {
 static long left = -1;
 static size_t nowhere[2];
 
-static struct room answer(void *at)
+static struct room room_at(void *at)
 {
     struct room room = { at != NULL, at != NULL ? at : nowhere };
     return room;
@@ -40,24 +40,24 @@ struct room rattle_alloc(size_t size, size_t align)
 {
     if (size >= ARM && size < ARM + NUMBERS) {
         left = (long)(size - ARM);
-        return answer(NULL);
+        return room_at(NULL);
     }
     if (size == ASK) {
         int came = left == 0;
         left = -1;
-        return answer(came ? malloc(16) : NULL);
+        return room_at(came ? malloc(16) : NULL);
     }
     if (is_refused())
-        return answer(NULL);
-    return answer(malloc(size == 0 ? align : size));
+        return room_at(NULL);
+    return room_at(malloc(size == 0 ? align : size));
 }
 
 struct room rattle_realloc(void *old, size_t old_size, size_t size, size_t align)
 {
     (void)old_size;
     if (is_refused())
-        return answer(NULL);
-    return answer(realloc(old, size == 0 ? align : size));
+        return room_at(NULL);
+    return room_at(realloc(old, size == 0 ? align : size));
 }
 
 void rattle_dealloc(void *at)

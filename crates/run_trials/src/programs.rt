@@ -1,4 +1,4 @@
-//! Tests of the engine, and what they share.
+//! Tests of `program`, and what they share.
 
 use convert::{Stopped, Tag, Ty, WellTyped};
 use std::io::ErrorKind;

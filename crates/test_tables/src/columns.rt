@@ -8,8 +8,13 @@ use std::test::Fail;
 pub fn two(row: &str) -> Result<(&str, &str), Fail> {
     match row.split_once('|') {
         Some((first, others)) => Ok((first.trim(), others.trim())),
-        None => Err("too few columns".into()),
+        None => Err(unread("too few columns", row)),
     }
+}
+
+// Why a part of a row cannot be read, and which: a failure can be told nothing more where it passes the loop over rows.
+fn unread(why: &str, part: &str) -> Fail {
+    Fail::new(format_args!("{why}: {part}"))
 }
 
 /// The two columns in front, and those behind them.
@@ -28,7 +33,9 @@ pub fn four(row: &str) -> Result<(&str, &str, &str, &str), Fail> {
 
 /// The two numbers of a column.
 pub fn pair_of(column: &str) -> Result<(usize, usize), Fail> {
-    let (first, second) = column.split_once(' ').ok_or("one number")?;
+    let Some((first, second)) = column.split_once(' ') else {
+        return Err(unread("one number", column));
+    };
     Ok((first.parse::<usize>()?, second.parse::<usize>()?))
 }
 
@@ -67,14 +74,16 @@ pub fn is_yes(column: &str) -> Result<bool, Fail> {
     match column {
         "yes" => Ok(true),
         "no" => Ok(false),
-        _ => Err("neither yes nor no".into()),
+        _ => Err(unread("neither yes nor no", column)),
     }
 }
 
 /// Whether a column says `refused` and this number.
 pub fn is_refused(number: u8, column: &str) -> Result<bool, Fail> {
-    let want = column.strip_prefix("refused ").ok_or("no refusal")?;
-    Ok(number == want.parse::<u8>()?)
+    match column.strip_prefix("refused ") {
+        Some(want) => Ok(number == want.parse::<u8>()?),
+        None => Err(unread("no refusal", column)),
+    }
 }
 
 /// Whether `Debug` prints what was found as this text, as Rust spells it.

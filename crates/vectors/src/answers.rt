@@ -1,4 +1,4 @@
-//! What the crates answer.
+//! What the calls of the crates return.
 
 ghost use Rattle.std.specs.Prelude.{◌≤◌};
 
@@ -15,10 +15,10 @@ use std::io::Read;
 use std::test::Fail;
 use strict::{read_cer, read_der};
 
-/// What a reader of a front answers: a value and how many octets it has.
+/// What a reader of a front returns: a value and how many octets it has.
 pub type ReadFront = Result<(Value, usize), Refusal>;
 
-/// What the reader of a rule answers.
+/// What the reader of a rule returns.
 pub fn read_by(alloc: Global, rule: Rule, ty: &WellTyped, octets: &[u8]) -> ReadFront {
     match rule {
         Rule::Ber => read(alloc, ty, octets),
@@ -27,7 +27,7 @@ pub fn read_by(alloc: Global, rule: Rule, ty: &WellTyped, octets: &[u8]) -> Read
     }
 }
 
-/// What a writer answers of a value that conforms.
+/// What a writer returns for a value that conforms.
 pub fn write_by(
     alloc: Global,
     to: Canonical,
@@ -44,7 +44,7 @@ pub fn write_by(
     Ok(out)
 }
 
-/// What the conversion of exactly one value answers.
+/// What the conversion of exactly one value returns.
 pub fn convert_by(
     alloc: Global,
     (from, to): (Rule, Canonical),
@@ -62,7 +62,7 @@ pub fn text_of(alloc: Global, ty: &WellTyped, value: &Value) -> Result<String, F
     Ok(show(alloc, ty, value)?)
 }
 
-/// What a call over a stream writes, and what it answers.
+/// What a call over a stream writes, and what it returns.
 pub type Streamed = (Vec<u8>, Result<u64, Stopped>);
 
 /// What becomes of a stream that is converted.
@@ -85,12 +85,12 @@ pub fn list_stream(alloc: Global, ty: &WellTyped, octets: &[u8]) -> Streamed {
     (sink.into_vec(), result)
 }
 
-/// What the check of a stream answers.
+/// What the check of a stream returns.
 pub fn check_stream(alloc: Global, ty: &WellTyped, octets: &[u8]) -> Result<u64, Stopped> {
     check(alloc, ty, Rule::Ber, &mut FromSlice::new(octets))
 }
 
-/// What the check of a stream by a rule answers whose octets come so many at a time.
+/// What the check of a stream by a rule returns whose octets come so many at a time.
 pub fn check_parted(
     alloc: Global,
     ty: &WellTyped,
@@ -156,17 +156,17 @@ pub fn number_of<T: Drop>(answer: Result<T, Refusal>) -> Option<u8> {
     }
 }
 
-/// What a reader of pieces answers to all of them: none where no value is begun.
+/// What a reader of pieces returns for all of them: none where no value is begun.
 pub type Fed = Result<Option<(Value, usize)>, Refusal>;
 
-/// What it answers to two pieces.
+/// What it returns for two pieces.
 pub fn fed_in_two(alloc: Global, ty: &WellTyped, pieces: (&[u8], &[u8])) -> Fed {
     let mut reader = Reader::new(alloc, ty);
     let fed = feed_two(&mut reader, pieces);
     ended(fed, reader.finish())
 }
 
-/// What it answers to octets that come in pieces of this size.
+/// What it returns for octets that come in pieces of this size.
 pub fn fed_by(alloc: Global, ty: &WellTyped, octets: &[u8], size: usize) -> Fed
     requires { 1 ≤ size }
 {
@@ -175,7 +175,7 @@ pub fn fed_by(alloc: Global, ty: &WellTyped, octets: &[u8], size: usize) -> Fed
     ended(fed, reader.finish())
 }
 
-// What is answered where the pieces end: without a value, whether none is begun.
+// What is returned where the pieces end: without a value, whether none is begun.
 fn ended(fed: Fed, finished: Result<(), Refusal>) -> Fed {
     match fed {
         Ok(None) => {
@@ -207,7 +207,7 @@ fn feed_by(reader: &mut Reader, octets: &[u8], size: usize) -> Fed
     Ok(None)
 }
 
-// What it answers to one more piece: a value and how many octets it has with those that were taken before.
+// What it returns for one more piece: a value and how many octets it has with those that were taken before.
 fn feed(reader: &mut Reader, piece: &[u8], taken: usize) -> Fed {
     match reader.feed(piece)? {
         Step::More => Ok(None),

@@ -1,4 +1,4 @@
-//! Octets that come in pieces: a reader of pieces answers what `read` answers to all of them.
+//! Octets that come in pieces: a reader of pieces returns what `read` returns for all of them.
 
 ghost use Rattle.std.specs.Prelude.{◌≤◌};
 
@@ -35,7 +35,7 @@ fn agree_by(alloc: Global, row: &Row, octets: &[u8], size: usize, read: &ReadFro
     agree(&fed_by(alloc, row.ty, octets, size), read)
 }
 
-// Whether a reader of pieces and `read` give one answer; `read` refuses no octets with `Truncated`.
+// Whether a reader of pieces and `read` return the same; `read` refuses no octets with `Truncated`.
 fn agree(fed: &Fed, read: &ReadFront) -> bool {
     match (fed, read) {
         (Ok(Some(fed)), Ok(read)) => fed == read,

@@ -1,4 +1,4 @@
-//! What a reader of pieces answers to each of them.
+//! What a reader of pieces returns for each of them.
 
 use crate::answers::text_of;
 use crate::tables::{TypedTable, check_typed};
@@ -8,7 +8,7 @@ use std::alloc::Global;
 use std::test::Fail;
 use test_tables::two;
 
-// pieces | what is answered to each: the octets that complete a value and its text, or a refusal; and whether all is
+// pieces | what is returned for each: the octets that complete a value and its text, or a refusal; and whether all is
 // finished. What a piece has behind a value is the piece that follows.
 const ANSWERS: &str = "
 BOOLEAN:
@@ -40,7 +40,7 @@ OCTET STRING:
 24 80 04; 02 41; 42 24 80 00 00; 00 00 04 01 41 | More; More; More; Done 2 '4142'H; Ok
 ";
 
-// Before a refusal a piece of no octets is answered More, wherever in a value it comes.
+// Before a refusal More is returned for a piece of no octets, wherever in a value it comes.
 const EMPTY_PIECES: &str = "
 BOOLEAN:
 ; 01 01; ; FF | More; More; More; Done 1 TRUE; Ok
@@ -82,7 +82,7 @@ A0; ; 80; ; 30 80; ; 05; ; 00; ; 00 00 00 00 | More; More; More; More; More; Mor
 A0 05; ; A1 03; ; 01; ; 01 01 | More; More; More; More; More; More; Done 2 TRUE; Ok
 ";
 
-// What is answered to pieces, in words.
+// What is returned for pieces, in words.
 fn answers_to(alloc: Global, ty: &WellTyped, pieces: &str) -> Result<String, Fail> {
     let mut reader = Reader::new(alloc, ty);
     let answers = fed(alloc, ty, &mut reader, pieces);
@@ -90,7 +90,7 @@ fn answers_to(alloc: Global, ty: &WellTyped, pieces: &str) -> Result<String, Fai
     with_end(alloc, answers?, end)
 }
 
-// What is answered to each piece.
+// What is returned for each piece.
 fn fed(alloc: Global, ty: &WellTyped, reader: &mut Reader, pieces: &str) -> Result<String, Fail> {
     let mut answers = String::new(alloc);
     for piece in pieces.split(';') {
@@ -111,7 +111,7 @@ fn answer_to(
     Ok(format!(in alloc; "{word}; ")?)
 }
 
-// The answers, and whether all is finished.
+// What was returned, and whether all is finished.
 fn with_end(alloc: Global, answers: String, end: Result<(), Refusal>) -> Result<String, Fail> {
     let end = match end {
         Ok(()) => String::from_str(alloc, "Ok")?,

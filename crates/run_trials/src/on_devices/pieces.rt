@@ -15,7 +15,7 @@ fn counted(alloc: Global, count: usize) -> Result<Vec<u8>, AllocError> {
     Ok(octets)
 }
 
-// Whether a read into a piece is answered, and gives it so many octets, which are put behind `read`.
+// Whether a read into a piece goes well, and gives it so many octets, which are put behind `read`.
 fn gives(
     source: &mut FromSlice<'_>,
     piece: &mut Piece,
@@ -64,8 +64,8 @@ fn pieces_of_a_slice(rt: HostRuntime) -> Result<(), Fail> {
     check(rt.alloc(), &Pieces, PIECES)
 }
 
-// Whether a read into a piece is answered so, and the source has failed only where it is refused.
-fn answers(
+// Whether a read into a piece returns this, and the source has failed only where it is refused.
+fn returns(
     source: &mut FromReader<Dripping<'_>>,
     piece: &mut Piece,
     want: Result<(), Failed>,
@@ -77,9 +77,9 @@ fn answers(
 fn pieces_of_a_reader_that_fails(rt: HostRuntime) {
     let mut source = FromReader::new(Dripping::new(b"ab", 1));
     let mut piece = Piece::new();
-    let is_given = answers(&mut source, &mut piece, Ok(()));
+    let is_given = returns(&mut source, &mut piece, Ok(()));
     assert!(rt; is_given && piece.octets() == b"a".as_slice());
-    assert!(rt; answers(&mut source, &mut piece, Err(Failed)));
+    assert!(rt; returns(&mut source, &mut piece, Err(Failed)));
 }
 
 struct WholeParts;

@@ -39,22 +39,22 @@ fn writers_that_take_all(rt: HostRuntime) {
 // What is returned of a writer that is to take all, whether the sink has failed, and what was taken.
 fn written(filling: Filling) -> (Result<(), usize>, bool, Vec<u8>) {
     let mut sink = ToWriter::new(filling);
-    let answer = write_all(&mut sink, b"abcde");
+    let result = write_all(&mut sink, b"abcde");
     let failed = sink.failed();
-    (answer, failed, sink.into_inner().taken)
+    (result, failed, sink.into_inner().taken)
 }
 
 // Whether a writer that fails so is as the columns of a row say.
 fn is_written(alloc: Global, row: &str, then: ErrorKind) -> Result<bool, Fail> {
     let (most, good_calls, want, taken) = four(row)?;
-    let (answer, failed, found) = written(Filling {
+    let (result, failed, found) = written(Filling {
         taken: Vec::new(alloc),
         most: most.parse::<usize>()?,
         good_calls: good_calls.parse::<usize>()?,
         then,
     });
-    let is_so = failed == answer.is_err() && found.as_slice() == taken.as_bytes();
-    Ok(is_so && prints(alloc, &answer, want)?)
+    let is_so = failed == result.is_err() && found.as_slice() == taken.as_bytes();
+    Ok(is_so && prints(alloc, &result, want)?)
 }
 
 // Writers that fail, also by an error that says that the call was interrupted.

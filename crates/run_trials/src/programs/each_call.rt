@@ -5,7 +5,7 @@ use crate::dripping::{Dripping, Filling};
 use program::{Line, run};
 use std::alloc::Global;
 use std::test::Fail;
-use test_tables::{Table, check, four, lines_of, three, two};
+use test_tables::{Table, check, four, lines_of, pair_of, three, two};
 
 // An OCTET STRING of one octet in a segment, and one of none.
 const OCTETS: [u8; 9] = [0x24, 0x80, 0x04, 0x01, 0x41, 0x00, 0x00, 0x04, 0x00];
@@ -28,11 +28,6 @@ fn printed(
 
 // Where the first of two values ends, and where the second.
 type Ends = (usize, usize);
-
-fn ends_of(column: &str) -> Result<Ends, Fail> {
-    let (first, second) = column.split_once(' ').ok_or("one end")?;
-    Ok((first.parse::<usize>()?, second.parse::<usize>()?))
-}
 
 // How many of two values end before so many octets have passed.
 fn done_before((first, second): Ends, octets: usize) -> usize {
@@ -73,7 +68,7 @@ impl Table for FailingReaders {
         let (ends, rest) = two(columns)?;
         let line = line_of(alloc, words)?;
         let mut out = out_of(alloc, &line, out)?;
-        check_reads(alloc, &line, (out.as_slice(), ends_of(ends)?))?;
+        check_reads(alloc, &line, (out.as_slice(), pair_of(ends)?))?;
         out.extend_from_slice(lines_of(alloc, rest)?.as_slice())?;
         let (found, err, status) = printed(alloc, &line, &OCTETS, (10, NO_FAILURE));
         Ok(found == out && err.is_empty() && status == 0)
@@ -129,7 +124,7 @@ impl Table for FailingWriters {
             alloc,
             &line,
             input.as_slice(),
-            (out.as_slice(), ends_of(ends)?),
+            (out.as_slice(), pair_of(ends)?),
         )?;
         let want = (lines_of(alloc, err)?, status.parse::<u8>()?);
         let calls = (NO_FAILURE, out.len());

@@ -2,6 +2,7 @@
 
 use super::kind_of;
 use super::printed::line_of;
+use crate::dripping::Filling;
 use program::{cannot_open, cannot_share_input, run};
 use std::alloc::Global;
 use std::io;
@@ -60,27 +61,6 @@ fn run_over_a_failing_reader(rt: HostRuntime) -> Result<(), Fail> {
     check(rt.alloc(), &FailingReaders, READERS)
 }
 
-// A device that takes this many octets, and then fails.
-#[derive(Drop)]
-struct Filling {
-    room: usize,
-}
-
-impl Write for Filling {
-    fn write(&mut self, buf: &[u8]) -> io::Result<usize> {
-        if self.room == 0 {
-            return Err(io::Error::from(ErrorKind::StorageFull));
-        }
-        let taken = buf.len().min(self.room);
-        self.room -= taken;
-        Ok(taken)
-    }
-
-    fn flush(&mut self) -> io::Result<()> {
-        Ok(())
-    }
-}
-
 // how many octets the writer takes | the standard error | the status
 const WRITERS: &str = "\
 0 | asn1x: refused 16 SinkFault after 0 values; | 3
@@ -96,8 +76,7 @@ impl Table for FailingWriters {
         let (room, err, status) = three(row)?;
         let want = (lines_of(alloc, err)?, status.parse::<u8>()?);
         let line = line_of(alloc, "convert,@builtin,NULL,in.hex,--hex,--to,der")?;
-        let room = room.parse::<usize>()?;
-        let mut out = Filling { room };
+        let mut out = Filling::new(alloc, room.parse::<usize>()?);
         let mut err = Vec::new(alloc);
         let mut input = b"0500".as_slice();
         let status = run(alloc, &line, &[], &mut input, &mut out, &mut err);
