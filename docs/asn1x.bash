@@ -46,7 +46,7 @@ _asn1x() {
             value=
         elif [[ $at == --from || $at == --to ]]; then
             value=$at
-        elif [[ $at != -* ]]; then
+        elif [[ $at == - || $at != -* ]]; then
             places+=("$at")
         fi
     done
