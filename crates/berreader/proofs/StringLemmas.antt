@@ -12,7 +12,7 @@ use Rattle.types.specs.declared.value.Value.{Value}
 use Rattle.types.specs.Shape.{Shape, Val}
 use Rattle.types.specs.View.{ty_view}
 use Rattle.types.proofs.NestingLemmas.{identifier_above}
-use Rattle.encoding_parts.specs.declared.joined.Kind.{Kind}
+use Rattle.encoding_parts.specs.declared.joined.SegmentKind.{SegmentKind}
 use Rattle.berreader.specs.declared.nest.Nest.{Nest}
 use Rattle.berreader.specs.declared.nest.Next.{Next}
 use Rattle.berreader.specs.declared.nest.OpenString.{OpenString}
@@ -123,7 +123,7 @@ cannot_finish nest string passed octets sound h none f =
     (string_front (levels_left layers) string.kind node (end_inside layers) nest.taken (passed ++ octets) h.kind front))
 
 -- a constructed string begins
-pub string_opened : (nest : Nest) (octets : List ℕ) (next : Next) (kind : Kind) (segments : Segments) (end levels used : ℕ) → IsReadNext nest octets next → IsLeaf (ty_view next.node.now) → next.constructed ≡ true → end ≡ end_inside (layers_of nest.layers) → levels ≡ levels_left (layers_of nest.layers)
+pub string_opened : (nest : Nest) (octets : List ℕ) (next : Next) (kind : SegmentKind) (segments : Segments) (end levels used : ℕ) → IsReadNext nest octets next → IsLeaf (ty_view next.node.now) → next.constructed ≡ true → end ≡ end_inside (layers_of nest.layers) → levels ≡ levels_left (layers_of nest.layers)
     → IsBegun (ty_view next.node.now) end nest.taken next.identifier levels octets kind segments used → IsOpenedString nest nest octets (record { next = next; kind = kind; segments = segments }) used
 string_opened nest octets next kind segments end levels used read leaf constructed ends deep b =
     let layers = layers_of nest.layers in

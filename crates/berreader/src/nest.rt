@@ -10,7 +10,7 @@ ghost use Rattle.berreader.specs.Nest.{CanFinish, EndsInside, IsEndHere, IsEndIn
 ghost use Rattle.berreader.specs.Strings.{IsClosed, IsFound, IsSoundString, IsString};
 
 use crate::stack::{Open, Stack};
-use encoding_parts::{Kind, Segments, read_end, refusal_inside};
+use encoding_parts::{SegmentKind, Segments, read_end, refusal_inside};
 use octets::Tag;
 use std::alloc::Global;
 use types::{Refusal, Ty, Value};
@@ -50,7 +50,7 @@ pub struct OpenString<'a> {
     /// The part that it is.
     pub next: Next<'a>,
     /// Which strings its segments are.
-    pub kind: Kind,
+    pub kind: SegmentKind,
     /// What has come of it.
     pub segments: Segments,
 }

@@ -16,7 +16,7 @@ use Rattle.types.specs.Form.{IsPrimitive}
 use Rattle.types.specs.Leaf.{tag_of, IsLeaf}
 use Rattle.types.specs.Shape.{Shape, Val}
 use Rattle.types.specs.View.{value_view}
-use Rattle.encoding_parts.specs.declared.joined.Kind.{Kind}
+use Rattle.encoding_parts.specs.declared.joined.SegmentKind.{SegmentKind}
 use Rattle.encoding_parts.specs.declared.segments.Segments.{Segments}
 use Rattle.encoding_parts.specs.Contents.{HoldsValue}
 use Rattle.encoding_parts.specs.Joined.{value_of}
@@ -58,20 +58,20 @@ leaf_filled levels type tag contents octets value used true answer leaf same goo
     subst (λ a. IfSome a (λ n. IsRead levels type octets value n)) (sym is) read
 
 -- so many octets of a constructed string have been taken, of which so many had been at first
-pub record IsTakenSoFar (kind : Kind) (old new : Segments) (octets : List ℕ) (start at : ℕ) : Type 0 where
+pub record IsTakenSoFar (kind : SegmentKind) (old new : Segments) (octets : List ℕ) (start at : ℕ) : Type 0 where
   pub there : at ≤ length octets
   pub sound : IsSound kind new
   pub passed : (levels end identifier : ℕ) → IsPassed kind levels end 0 identifier old (take start octets) → IsPassed kind levels end 0 identifier new (take at octets)
 
-pub none_taken : (kind : Kind) (old : Segments) (octets : List ℕ) (start : ℕ) → start ≤ length octets → IsSound kind old → IsTakenSoFar kind old old octets start start
+pub none_taken : (kind : SegmentKind) (old : Segments) (octets : List ℕ) (start : ℕ) → start ≤ length octets → IsSound kind old → IsTakenSoFar kind old old octets start start
 none_taken kind old octets start there sound = record { there = there; sound = sound; passed = λ levels end identifier h. h }
 
 -- what was taken behind some octets
-pub taken_behind : (kind : Kind) (old new : Segments) (octets : List ℕ) (at used : ℕ) → IsTaken kind old new (take (length octets - at) (drop at octets)) used → IsTaken kind old new (drop at octets) used
+pub taken_behind : (kind : SegmentKind) (old new : Segments) (octets : List ℕ) (at used : ℕ) → IsTaken kind old new (take (length octets - at) (drop at octets)) used → IsTaken kind old new (drop at octets) used
 taken_behind kind old new octets at used h = subst (λ o. IsTaken kind old new o used) (take_rest octets at) h
 
 -- and then some that were taken
-pub more_taken : (kind : Kind) (old mid new : Segments) (octets : List ℕ) (start at used : ℕ) → IsTakenSoFar kind old mid octets start at → IsTaken kind mid new (take (length octets - at) (drop at octets)) used → IsSound kind new → IsTakenSoFar kind old new octets start (at + used)
+pub more_taken : (kind : SegmentKind) (old mid new : Segments) (octets : List ℕ) (start at used : ℕ) → IsTakenSoFar kind old mid octets start at → IsTaken kind mid new (take (length octets - at) (drop at octets)) used → IsSound kind new → IsTakenSoFar kind old new octets start (at + used)
 more_taken kind old mid new octets start at used h taken sound =
     let behind = taken_behind kind mid new octets at used taken in
     record {
@@ -82,14 +82,14 @@ more_taken kind old mid new octets start at used h taken sound =
     }
 
 -- an end, or octets of a segment, bring the last end nearer
-pub nearer : (kind : Kind) (mid new : Segments) (octets : List ℕ) (at used : ℕ) → at ≤ length octets → IsTaken kind mid new (take (length octets - at) (drop at octets)) used → length new.frames.items < length mid.frames.items + used
+pub nearer : (kind : SegmentKind) (mid new : Segments) (octets : List ℕ) (at used : ℕ) → at ≤ length octets → IsTaken kind mid new (take (length octets - at) (drop at octets)) used → length new.frames.items < length mid.frames.items + used
     → length new.frames.items + (length octets - (at + used)) < length mid.frames.items + (length octets - at)
 nearer kind mid new octets at used there taken smaller =
     let behind = taken_behind kind mid new octets at used taken in
     omega (arith, there, behind.there, length-drop at octets, smaller)
 
 -- a constructed string whose last end has come was read
-pub string_read : (levels : ℕ) (type : Shape) (kind : Kind) (end i start used : ℕ) (octets : List ℕ) (first last : Segments) (v : Val) → IsLeaf type → IsGoodType type → IsIdentifier (tag_of type) true (take i octets) → IsBegun type end 0 i levels octets kind first start
+pub string_read : (levels : ℕ) (type : Shape) (kind : SegmentKind) (end i start used : ℕ) (octets : List ℕ) (first last : Segments) (v : Val) → IsLeaf type → IsGoodType type → IsIdentifier (tag_of type) true (take i octets) → IsBegun type end 0 i levels octets kind first start
     → IsPassed kind levels end 0 i last (take used octets) → IsSound kind last → last.frames.items ≡ [] → v ≡ value_of type last.joined → Conforms type v → IsPartOf levels type v (take used octets)
 string_read levels type kind end i start used octets first last v leaf good id begun passed sound closed is conforms =
     let front = take used octets in

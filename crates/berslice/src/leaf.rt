@@ -9,7 +9,7 @@ ghost use Rattle.berslice.specs.Heads.{IsIdentifierOf};
 ghost use Rattle.berslice.specs.Reading.{IsRead};
 
 use crate::heads::{Identifier, begun, behind, primitive};
-use encoding_parts::{Kind, Segments, begin_string, fill, is_identifier, short_primitive};
+use encoding_parts::{SegmentKind, Segments, begin_string, fill, is_identifier, short_primitive};
 use octets::{MAX_ENCODING, Tag};
 use std::alloc::Global;
 use types::{Ty, Value};
@@ -117,7 +117,12 @@ fn read_string(
 
 // Takes the segments of a constructed string of which the first `start` octets have been taken, up to its last end, and
 // returns how many octets it has.
-fn pass_segments(string: &mut Segments, kind: Kind, octets: &[u8], start: usize) -> Option<usize>
+fn pass_segments(
+    string: &mut Segments,
+    kind: SegmentKind,
+    octets: &[u8],
+    start: usize,
+) -> Option<usize>
     requires there { start ≤ length octets.now }
     requires sound { IsSound kind string.old }
     ensures there { IfSome result (λ used. used ≤ length octets.now) }

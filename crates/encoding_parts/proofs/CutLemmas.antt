@@ -13,8 +13,8 @@ use Rattle.octets.proofs.FrontLemmas.{whole_front}
 use Rattle.types.specs.Leaf.{IsLeaf}
 use Rattle.types.specs.Shape.{Shape}
 use Rattle.encoding_parts.specs.declared.frame.Frame.{Frame}
-use Rattle.encoding_parts.specs.declared.joined.Kind.{Kind}
-use Rattle.encoding_parts.specs.declared.joined.Kind.TheVariants.{Bits, Octets}
+use Rattle.encoding_parts.specs.declared.joined.SegmentKind.{SegmentKind}
+use Rattle.encoding_parts.specs.declared.joined.SegmentKind.TheVariants.{Bits, Octets}
 use Rattle.encoding_parts.specs.declared.segments.Segments.{Segments}
 use Rattle.encoding_parts.specs.Cut.{AreContentsCut, IsCutBehind, IsCutInside, IsEndCut, IsIdentifierCut, IsLengthCut, IsPartCut, IsPrimitiveCut, IsStringCut}
 use Rattle.encoding_parts.specs.Head.{IsReadTag, IsReadDefinite}
@@ -109,15 +109,15 @@ sized_window room i octets size rest fits joined =
     ap (take room) (take_rest octets i ∙ joined) ∙ ap (λ n. take n (size ++ rest)) count ∙ take-append-add size rest (room - length size)
 
 -- a segment is an encoding of a string
-segment_leaf : (tag : Tag) (kind : Kind) → IsLeaf (string_shape tag kind)
+segment_leaf : (tag : Tag) (kind : SegmentKind) → IsLeaf (string_shape tag kind)
 segment_leaf tag Bits = tt
 segment_leaf tag Octets = tt
 
-segment_string : (tag : Tag) (kind : Kind) → IsString (string_shape tag kind)
+segment_string : (tag : Tag) (kind : SegmentKind) → IsString (string_shape tag kind)
 segment_string tag Bits = tt
 segment_string tag Octets = tt
 
-segment_length : (tag : Tag) (kind : Kind) (n : ℕ) → 1 ≤ n → CanHaveLength (string_shape tag kind) n
+segment_length : (tag : Tag) (kind : SegmentKind) (n : ℕ) → 1 ≤ n → CanHaveLength (string_shape tag kind) n
 segment_length tag Bits n some = some
 segment_length tag Octets n some = tt
 
@@ -126,7 +126,7 @@ end_within frame frames top all =
     let first : IsWithin frame = All-head IsWithin frame top.0 (subst (All IsWithin) top.1 all) in
     first.end
 
-pub segment_primitive : (kind : Kind) (s : Segments) (frame : Frame) (i : ℕ) (octets : List ℕ) → IsTop frame s.frames.items → IsSound kind s → s.joined.unused ≡ 0 → IsReadTag (segment_of kind) frame.end s.taken octets false i
+pub segment_primitive : (kind : SegmentKind) (s : Segments) (frame : Frame) (i : ℕ) (octets : List ℕ) → IsTop frame s.frames.items → IsSound kind s → s.joined.unused ≡ 0 → IsReadTag (segment_of kind) frame.end s.taken octets false i
     → IsLengthCut frame.end (s.taken + i) (drop i octets) ⊎ ((n : ℕ) × AreContentsCut n frame.end (s.taken + i) (drop i octets)) → IsCutInside kind s frame octets
 segment_primitive kind s frame i octets top sound whole read cut =
     let tag = segment_of kind in
@@ -136,7 +136,7 @@ segment_primitive kind s frame i octets top sound whole read cut =
           (λ size rest n some within sized fits joined. segment_length tag kind n some) cut;
     }))
 
-pub segment_constructed : (kind : Kind) (s : Segments) (frame : Frame) (i : ℕ) (octets : List ℕ) → s.joined.unused ≡ 0 → length s.frames.items < s.levels → IsReadTag (segment_of kind) frame.end s.taken octets true i
+pub segment_constructed : (kind : SegmentKind) (s : Segments) (frame : Frame) (i : ℕ) (octets : List ℕ) → s.joined.unused ≡ 0 → length s.frames.items < s.levels → IsReadTag (segment_of kind) frame.end s.taken octets true i
     → IsLengthCut frame.end (s.taken + i) (drop i octets) → IsCutInside kind s frame octets
 segment_constructed kind s frame i octets whole few read cut =
     let tag = segment_of kind in
@@ -165,11 +165,11 @@ end_cut_within frame taken limit octets place room h =
     ]
 
 -- those of a string that has begun are within the limit
-inside_within : (kind : Kind) (s : Segments) (frame : Frame) (octets : List ℕ) → IsWithin frame → s.taken ≤ MAX_ENCODING → IsCutInside kind s frame octets → s.taken + length octets ≤ MAX_ENCODING
+inside_within : (kind : SegmentKind) (s : Segments) (frame : Frame) (octets : List ℕ) → IsWithin frame → s.taken ≤ MAX_ENCODING → IsCutInside kind s frame octets → s.taken + length octets ≤ MAX_ENCODING
 inside_within kind s frame octets within place (inl cut) = omega (arith, cut.fits, within.end)
 inside_within kind s frame octets within place (inr (inl h)) =
     omega (arith, part_within (segment_of kind) (string_shape (segment_of kind) kind) (s.levels - length s.frames.items) frame.end s.taken octets h.cut, within.end)
 inside_within kind s frame octets within place (inr (inr cut)) = end_cut_within frame s.taken MAX_ENCODING octets place within.room cut
 
-pub string_within : (kind : Kind) (s : Segments) (octets : List ℕ) → IsSound kind s → IsStringCut kind s octets → s.taken + length octets ≤ MAX_ENCODING
+pub string_within : (kind : SegmentKind) (s : Segments) (octets : List ℕ) → IsSound kind s → IsStringCut kind s octets → s.taken + length octets ≤ MAX_ENCODING
 string_within kind s octets sound h = inside_within kind s h.frame octets (All-head IsWithin h.frame h.top.0 (subst (All IsWithin) h.top.1 sound.within)) sound.place h.cut

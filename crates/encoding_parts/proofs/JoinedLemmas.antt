@@ -6,36 +6,36 @@ use Rattle.octets.specs.Rule.{ber}
 use Rattle.primitives.specs.Bits.{IsBits, IsFrontOf, bits_of, bits_before, CanBeUnused}
 use Rattle.primitives.proofs.BitsLemmas.{one_bits_value, length-bits_of, bits_of-append, IsBits-from_front}
 use Rattle.types.specs.FirstTags.{IsUsable}
-use Rattle.encoding_parts.specs.declared.joined.Kind.{Kind}
-use Rattle.encoding_parts.specs.declared.joined.Kind.TheVariants.{Bits, Octets}
+use Rattle.encoding_parts.specs.declared.joined.SegmentKind.{SegmentKind}
+use Rattle.encoding_parts.specs.declared.joined.SegmentKind.TheVariants.{Bits, Octets}
 use Rattle.encoding_parts.specs.declared.joined.Joined.{Joined}
 use Rattle.encoding_parts.specs.Joined.{Element, segment_of, HoldsPiece, IsWholePiece, string_held, AreHeld, AreBitsHeld, IsJoined}
 use Rattle.std.proofs.lemmas.List.Elements.{All-append, All-tail, All-from_get_or}
 
-pub kept_segment : (kind : Kind) → IsUsable (segment_of kind)
+pub kept_segment : (kind : SegmentKind) → IsUsable (segment_of kind)
 kept_segment Bits = λ u. omega arith
 kept_segment Octets = λ u. omega arith
 
-pub one_piece : (kind : Kind) (p q : List (Element kind)) (c : List ℕ) → HoldsPiece kind p c → HoldsPiece kind q c → p ≡ q
+pub one_piece : (kind : SegmentKind) (p q : List (Element kind)) (c : List ℕ) → HoldsPiece kind p c → HoldsPiece kind q c → p ≡ q
 one_piece Bits p q c h k = one_bits_value ber ber p q c h k
 one_piece Octets p q c h k = sym h ∙ k
 
-pub joins_whole : (kind : Kind) (a b : List (Element kind)) → IsWholePiece kind a → IsWholePiece kind b → IsWholePiece kind (a ++ b)
+pub joins_whole : (kind : SegmentKind) (a b : List (Element kind)) → IsWholePiece kind a → IsWholePiece kind b → IsWholePiece kind (a ++ b)
 joins_whole Bits a b h k = (h.0 + k.0, omega (arith, length-append a b, h.1, k.1))
 joins_whole Octets a b h k = tt
 
-pub parts_whole : (kind : Kind) (a b : List (Element kind)) → IsWholePiece kind a → IsWholePiece kind (a ++ b) → IsWholePiece kind b
+pub parts_whole : (kind : SegmentKind) (a b : List (Element kind)) → IsWholePiece kind a → IsWholePiece kind (a ++ b) → IsWholePiece kind b
 parts_whole Bits a b h k = (k.0 - h.0, omega (arith, length-append a b, h.1, k.1))
 parts_whole Octets a b h k = tt
 
-pub empty_whole : (kind : Kind) → IsWholePiece kind []
+pub empty_whole : (kind : SegmentKind) → IsWholePiece kind []
 empty_whole Bits = (0, refl)
 empty_whole Octets = tt
 
 pub length-bits_before : (octets : List ℕ) (unused : ℕ) → length (bits_before octets unused) ≡ 8 * length octets - unused
 length-bits_before octets unused = length-take-le (8 * length octets - unused) (bits_of octets) (omega (arith, length-bits_of octets))
 
-pub whole_held : (kind : Kind) (octets : List ℕ) (unused : ℕ) → unused ≡ 0 → IsWholePiece kind (string_held kind octets unused)
+pub whole_held : (kind : SegmentKind) (octets : List ℕ) (unused : ℕ) → unused ≡ 0 → IsWholePiece kind (string_held kind octets unused)
 whole_held Bits octets unused none = (length octets, length-bits_before octets unused ∙ omega (arith, none))
 whole_held Octets octets unused none = tt
 
@@ -44,7 +44,7 @@ pub few_unused : (unused : ℕ) (octets : List ℕ) → CanBeUnused unused octet
 few_unused unused [] h = omega (arith, h.none refl)
 few_unused unused (o ∷ octets) h = omega (arith, h.at_most_7)
 
-pub unused_whole : (kind : Kind) (octets : List ℕ) (unused : ℕ) → AreHeld kind octets unused → IsWholePiece kind (string_held kind octets unused) → unused ≡ 0
+pub unused_whole : (kind : SegmentKind) (octets : List ℕ) (unused : ℕ) → AreHeld kind octets unused → IsWholePiece kind (string_held kind octets unused) → unused ≡ 0
 unused_whole Bits octets unused h whole =
     omega (arith, h.unused_bits.at_most_7, few_unused unused octets h.unused_bits, length-bits_before octets unused, whole.1)
 unused_whole Octets octets unused h whole = h.no_bits

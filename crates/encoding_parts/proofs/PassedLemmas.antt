@@ -8,7 +8,7 @@ use Rattle.types.specs.Form.{IsPrimitive, IsConstructed}
 use Rattle.types.specs.Strings.{AreSegments}
 use Rattle.types.proofs.NestingLemmas.{definite_above, constructed_above}
 use Rattle.encoding_parts.specs.declared.frame.Frame.{Frame}
-use Rattle.encoding_parts.specs.declared.joined.Kind.{Kind}
+use Rattle.encoding_parts.specs.declared.joined.SegmentKind.{SegmentKind}
 use Rattle.encoding_parts.specs.Completing.{Completes, IsEndOf, Opens, IsOpening}
 use Rattle.encoding_parts.specs.Joined.{Element, segment_of, HoldsPiece, IsWholePiece}
 use Rattle.encoding_parts.specs.Passed.{AreNestedSegments, StandsIn}
@@ -18,22 +18,22 @@ use Rattle.encoding_parts.proofs.DepthLemmas.{SegmentsWithin, match_parts, neste
 use Rattle.encoding_parts.proofs.JoinedLemmas.{empty_whole, joins_whole, kept_segment, parts_whole}
 use Rattle.encoding_parts.proofs.WithinLemmas.{end_within}
 
-abbrev Pieces : (kind : Kind) → List (Element kind) → List ℕ → Type 0
+abbrev Pieces : (kind : SegmentKind) → List (Element kind) → List ℕ → Type 0
 Pieces kind piece octets = AreSegments (segment_of kind) (HoldsPiece kind) (IsWholePiece kind) piece octets
 
 -- no octets hold no piece
-none_held : (kind : Kind) (p : List (Element kind)) (c : List ℕ) → Pieces kind p c → c ≡ [] → p ≡ []
+none_held : (kind : SegmentKind) (p : List (Element kind)) (c : List ℕ) → Pieces kind p c → c ≡ [] → p ≡ []
 none_held kind p c AreSegments.none empty = refl
 none_held kind p c (AreSegments.primitive {rest = d} piece contents b h w others f) empty = absurd (not_empty b d (definite_above (segment_of kind) false contents b (kept_segment kind) w) empty)
 none_held kind p c (AreSegments.constructed {rest = d} piece contents b h w others f) empty = absurd (not_empty b d (constructed_above (segment_of kind) contents b (kept_segment kind) w) empty)
 
 -- the first segment is whole where all are
-first_whole : (kind : Kind) (piece others : List (Element kind)) (rest : List ℕ) → Pieces kind others rest → (rest ≢ [] → IsWholePiece kind piece) → IsWholePiece kind (piece ++ others) → IsWholePiece kind piece
+first_whole : (kind : SegmentKind) (piece others : List (Element kind)) (rest : List ℕ) → Pieces kind others rest → (rest ≢ [] → IsWholePiece kind piece) → IsWholePiece kind (piece ++ others) → IsWholePiece kind piece
 first_whole kind piece others [] k f whole = subst (IsWholePiece kind) (ap (λ x. piece ++ x) (none_held kind others [] k refl) ∙ append-nil piece) whole
 first_whole kind piece others (x ∷ rest) k f whole = f (λ same. cc same)
 
 -- segments, and more of them
-append_segments : (kind : Kind) (p q : List (Element kind)) (c d : List ℕ) → Pieces kind p c → IsWholePiece kind p → Pieces kind q d → Pieces kind (p ++ q) (c ++ d)
+append_segments : (kind : SegmentKind) (p q : List (Element kind)) (c d : List ℕ) → Pieces kind p c → IsWholePiece kind p → Pieces kind q d → Pieces kind (p ++ q) (c ++ d)
 append_segments kind p q c d AreSegments.none whole more = more
 append_segments kind p q c d (AreSegments.primitive {others = s} {rest = r} piece contents b h w others f) whole more =
     let first = first_whole kind piece s r others f whole in
@@ -54,7 +54,7 @@ each_append : (n : ℕ) (xs ys : List (List ℕ)) → AllByRecursion (IsNested n
 each_append n [] ys h k = k
 each_append n (x ∷ xs) ys h k = (h.0, each_append n xs ys h.1 k)
 
-join_segments : (kind : Kind) (n : ℕ) (p q : List (Element kind)) (c d : List ℕ) → AreNestedSegments kind n p c → IsWholePiece kind p → AreNestedSegments kind n q d → AreNestedSegments kind n (p ++ q) (c ++ d)
+join_segments : (kind : SegmentKind) (n : ℕ) (p q : List (Element kind)) (c d : List ℕ) → AreNestedSegments kind n p c → IsWholePiece kind p → AreNestedSegments kind n q d → AreNestedSegments kind n (p ++ q) (c ++ d)
 join_segments kind n p q c d h whole k = record {
   encodings = h.encodings ++ k.encodings;
   are = ap₂ (λ x y. x ++ y) h.are k.are ∙ sym (concat_append h.encodings k.encodings);
@@ -62,15 +62,15 @@ join_segments kind n p q c d h whole k = record {
   segments = append_segments kind p q c d h.segments whole k.segments;
 }
 
-no_segments : (kind : Kind) (n : ℕ) → AreNestedSegments kind n [] []
+no_segments : (kind : SegmentKind) (n : ℕ) → AreNestedSegments kind n [] []
 no_segments kind n = record { encodings = []; are = refl; each = tt; segments = AreSegments.none }
 
 -- nothing has come behind the length octets
-pub stands_first : (kind : Kind) (levels : ℕ) (frame : Frame) (place : ℕ) → place ≤ frame.end → StandsIn kind levels frame place (frame ∷ []) [] []
+pub stands_first : (kind : SegmentKind) (levels : ℕ) (frame : Frame) (place : ℕ) → place ≤ frame.end → StandsIn kind levels frame place (frame ∷ []) [] []
 stands_first kind levels frame place fits = record { same = refl; fits = omega (arith, fits); segments = no_segments kind (levels - length (frame ∷ [])) }
 
 -- one of them
-one_primitive : (kind : Kind) (n : ℕ) (piece : List (Element kind)) (contents part : List ℕ) → HoldsPiece kind piece contents → IsPrimitive ber (segment_of kind) contents part → AreNestedSegments kind n piece part
+one_primitive : (kind : SegmentKind) (n : ℕ) (piece : List (Element kind)) (contents part : List ℕ) → HoldsPiece kind piece contents → IsPrimitive ber (segment_of kind) contents part → AreNestedSegments kind n piece part
 one_primitive kind n piece contents part h w = record {
   encodings = part ∷ [];
   are = sym (append-nil part);
@@ -78,7 +78,7 @@ one_primitive kind n piece contents part h w = record {
   segments = subst (λ x. Pieces kind x part) (append-nil piece) (subst (λ x. Pieces kind (piece ++ []) x) (append-nil part) (AreSegments.primitive piece contents part h w AreSegments.none (λ some. absurd (some refl))));
 }
 
-one_constructed : (kind : Kind) (n m : ℕ) (piece : List (Element kind)) (contents part : List ℕ) → n ≡ suc m → AreNestedSegments kind m piece contents → IsConstructed ber (segment_of kind) contents part → AreNestedSegments kind n piece part
+one_constructed : (kind : SegmentKind) (n m : ℕ) (piece : List (Element kind)) (contents part : List ℕ) → n ≡ suc m → AreNestedSegments kind m piece contents → IsConstructed ber (segment_of kind) contents part → AreNestedSegments kind n piece part
 one_constructed kind n m piece contents part level h w =
     let inside : IsConstructed ber (segment_of kind) (concat h.encodings) part = subst (λ x. IsConstructed ber (segment_of kind) x part) h.are w in
     let nested : IsNested (suc m) part = nested_constructed m part record { tag = segment_of kind; usable = kept_segment kind; parts = h.encodings; each = h.each; whole = inside } in
@@ -90,7 +90,7 @@ one_constructed kind n m piece contents part level h w =
     }
 
 -- more segments have come in the innermost open encoding
-stands_more : (kind : Kind) (levels : ℕ) (first : Frame) (place : ℕ) (f : Frame) (fs : List Frame) (string q : List (Element kind)) (passed part : List ℕ) → StandsIn kind levels first place (f ∷ fs) string passed → IsWholePiece kind string
+stands_more : (kind : SegmentKind) (levels : ℕ) (first : Frame) (place : ℕ) (f : Frame) (fs : List Frame) (string q : List (Element kind)) (passed part : List ℕ) → StandsIn kind levels first place (f ∷ fs) string passed → IsWholePiece kind string
     → AreNestedSegments kind (levels - length (f ∷ fs)) q part → place + length passed + length part ≤ f.end → StandsIn kind levels first place (f ∷ fs) (string ++ q) (passed ++ part)
 stands_more kind levels first place f [] string q passed part h whole k fits = record {
   same = h.same;
@@ -113,7 +113,7 @@ stands_more kind levels first place f (o ∷ os) string q passed part h whole k 
   segments = join_segments kind (levels - length (f ∷ (o ∷ os))) h.piece q h.contents part h.segments (parts_whole kind h.earlier h.piece h.whole (subst (IsWholePiece kind) h.is whole)) k;
 }
 
-pub stands_primitive : (kind : Kind) (levels : ℕ) (first : Frame) (place : ℕ) (f : Frame) (fs : List Frame) (string piece : List (Element kind)) (passed contents part : List ℕ) → StandsIn kind levels first place (f ∷ fs) string passed → IsWholePiece kind string
+pub stands_primitive : (kind : SegmentKind) (levels : ℕ) (first : Frame) (place : ℕ) (f : Frame) (fs : List Frame) (string piece : List (Element kind)) (passed contents part : List ℕ) → StandsIn kind levels first place (f ∷ fs) string passed → IsWholePiece kind string
     → HoldsPiece kind piece contents → IsPrimitive ber (segment_of kind) contents part → place + length passed + length part ≤ f.end → StandsIn kind levels first place (f ∷ fs) (string ++ piece) (passed ++ part)
 stands_primitive kind levels first place f fs string piece passed contents part h whole holds w fits =
     stands_more kind levels first place f fs string piece passed part h whole (one_primitive kind (levels - length (f ∷ fs)) piece contents part holds w) fits
@@ -123,7 +123,7 @@ opens_within end taken g size (inl h) = omega (arith, h.ends)
 opens_within end taken g size (inr h) = omega (arith, h.fits, ap length h.mark)
 
 -- a constructed segment opens
-pub stands_opening : (kind : Kind) (levels : ℕ) (first : Frame) (place : ℕ) (f g : Frame) (fs : List Frame) (string : List (Element kind)) (passed part : List ℕ) → StandsIn kind levels first place (f ∷ fs) string passed → IsWholePiece kind string
+pub stands_opening : (kind : SegmentKind) (levels : ℕ) (first : Frame) (place : ℕ) (f g : Frame) (fs : List Frame) (string : List (Element kind)) (passed part : List ℕ) → StandsIn kind levels first place (f ∷ fs) string passed → IsWholePiece kind string
     → length (f ∷ fs) < levels → IsOpening (segment_of kind) f.end (place + length passed) g part → StandsIn kind levels first place (g ∷ (f ∷ fs)) string (passed ++ part)
 stands_opening kind levels first place f g fs string passed part h whole deep opening = record {
   before = passed;
@@ -142,7 +142,7 @@ stands_opening kind levels first place f g fs string passed part h whole deep op
 }
 
 -- the innermost open encoding ends
-pub stands_end : (kind : Kind) (levels : ℕ) (first : Frame) (place : ℕ) (f : Frame) (fs : List Frame) (string : List (Element kind)) (passed mark : List ℕ) → StandsIn kind levels first place (f ∷ fs) string passed → IsEndOf f (place + length passed) mark
+pub stands_end : (kind : SegmentKind) (levels : ℕ) (first : Frame) (place : ℕ) (f : Frame) (fs : List Frame) (string : List (Element kind)) (passed mark : List ℕ) → StandsIn kind levels first place (f ∷ fs) string passed → IsEndOf f (place + length passed) mark
     → StandsIn kind levels first place fs string (passed ++ mark)
 stands_end kind levels first place f [] string passed mark h e = record {
   contents = passed;
@@ -165,12 +165,12 @@ stands_end kind levels first place f (o ∷ os) string passed mark h e =
     (stands_more kind levels first place o os h.earlier h.piece h.before part h.behind h.whole one (omega (arith, within, size, sizes))))
 
 -- the segments, by how deep they nest
-segments_within : (kind : Kind) (n : ℕ) (piece : List (Element kind)) (octets : List ℕ) → AreNestedSegments kind n piece octets → SegmentsWithin (segment_of kind) (HoldsPiece kind) (IsWholePiece kind) n piece octets
+segments_within : (kind : SegmentKind) (n : ℕ) (piece : List (Element kind)) (octets : List ℕ) → AreNestedSegments kind n piece octets → SegmentsWithin (segment_of kind) (HoldsPiece kind) (IsWholePiece kind) n piece octets
 segments_within kind n piece octets h =
     (match_parts (segment_of kind) (HoldsPiece kind) (IsWholePiece kind) (kept_segment kind) n piece octets h.encodings [] [] h.segments h.each tt tt (ap (λ x. x ++ []) h.are)).within
 
 -- what completes the string from where it stands completes it from its front
-pub stands_back : (kind : Kind) (levels : ℕ) (first : Frame) (place : ℕ) (frames : List Frame) (string total : List (Element kind)) (passed more rest : List ℕ) → 1 ≤ levels → StandsIn kind levels first place frames string passed
+pub stands_back : (kind : SegmentKind) (levels : ℕ) (first : Frame) (place : ℕ) (frames : List Frame) (string total : List (Element kind)) (passed more rest : List ℕ) → 1 ≤ levels → StandsIn kind levels first place frames string passed
     → CompletesBy kind levels frames (place + length passed) string more total rest → CompletesBy kind levels (first ∷ []) place [] (passed ++ more) total rest
 stands_back kind levels first place [] string total passed more rest deep h k =
     let c = h.contents in

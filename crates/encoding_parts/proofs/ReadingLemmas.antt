@@ -12,8 +12,8 @@ use Rattle.types.specs.Leaf.{tag_of}
 use Rattle.types.specs.Shape.{Shape, Val}
 use Rattle.types.specs.FirstTags.{IsUsable}
 use Rattle.encoding_parts.specs.declared.frame.Frame.{Frame}
-use Rattle.encoding_parts.specs.declared.joined.Kind.{Kind}
-use Rattle.encoding_parts.specs.declared.joined.Kind.TheVariants.{Bits, Octets}
+use Rattle.encoding_parts.specs.declared.joined.SegmentKind.{SegmentKind}
+use Rattle.encoding_parts.specs.declared.joined.SegmentKind.TheVariants.{Bits, Octets}
 use Rattle.encoding_parts.specs.declared.segments.Segments.{Segments}
 use Rattle.encoding_parts.specs.Completing.{Completes, Opens, IsOpening}
 use Rattle.encoding_parts.specs.Head.{IsExtentWithin, IsReadTag}
@@ -39,15 +39,15 @@ opening_read tag end taken i used g octets there id o =
       form = subst (λ n. Opens end (taken + n) g (take used (drop i octets))) (sym size) o;
     }
 
-pub string_empty : (kind : Kind) (octets : List ℕ) (unused : ℕ) → octets ≡ [] → unused ≡ 0 → string_held kind octets unused ≡ []
+pub string_empty : (kind : SegmentKind) (octets : List ℕ) (unused : ℕ) → octets ≡ [] → unused ≡ 0 → string_held kind octets unused ≡ []
 string_empty Bits octets unused none zero = ap₂ (λ o u. string_held Bits o u) none zero
 string_empty Octets octets unused none zero = none
 
-empty_held : (kind : Kind) (octets : List ℕ) (unused : ℕ) → octets ≡ [] → unused ≡ 0 → AreHeld kind octets unused
+empty_held : (kind : SegmentKind) (octets : List ℕ) (unused : ℕ) → octets ≡ [] → unused ≡ 0 → AreHeld kind octets unused
 empty_held Bits octets unused none zero = record { unused_bits = record { at_most_7 = omega (arith, zero); none = λ empty. zero }; below_256 = subst (All (λ o. o < 256)) (sym none) (All-nil (λ o. o < 256)) }
 empty_held Octets octets unused none zero = record { no_bits = zero; below_256 = subst (All (λ o. o < 256)) (sym none) (All-nil (λ o. o < 256)) }
 
-pub conforms_held : (kind : Kind) (tag : Tag) (octets : List ℕ) (unused : ℕ) → AreHeld kind octets unused → Conforms (string_shape tag kind) (string_value kind (string_held kind octets unused))
+pub conforms_held : (kind : SegmentKind) (tag : Tag) (octets : List ℕ) (unused : ℕ) → AreHeld kind octets unused → Conforms (string_shape tag kind) (string_value kind (string_held kind octets unused))
 conforms_held Bits tag octets unused h = tt
 conforms_held Octets tag octets unused h = h.below_256
 
@@ -55,7 +55,7 @@ in_more : (tag : Tag) (i : ℕ) (octets more : List ℕ) → i ≤ length octets
 in_more tag i octets more there id = subst (IsIdentifier tag true) (sym (take-append-le i octets more there)) id
 
 -- behind the identifier octets of a constructed string stand its length octets
-pub extent_of_string : (levels : ℕ) (kind : Kind) (tag : Tag) (end taken i : ℕ) (octets more : List ℕ) → i ≤ length octets → IsIdentifier tag true (take i octets) → HasFront (IsPartWithin levels (string_shape tag kind) end taken) (octets ++ more)
+pub extent_of_string : (levels : ℕ) (kind : SegmentKind) (tag : Tag) (end taken i : ℕ) (octets more : List ℕ) → i ≤ length octets → IsIdentifier tag true (take i octets) → HasFront (IsPartWithin levels (string_shape tag kind) end taken) (octets ++ more)
     → IsExtentWithin true end (taken + i) (drop i octets ++ more)
 extent_of_string levels kind tag end taken i octets more there id f =
     let c = completed levels kind tag end taken i (octets ++ more) (in_more tag i octets more there id) f in
@@ -78,11 +78,11 @@ none_behind n passed size = nothing (drop n passed) (omega (arith, length-drop n
     nothing [] h = refl
     nothing (x ∷ xs) h = absurd (omega (arith, h))
 
-empty_of : (kind : Kind) (levels : ℕ) (frame : Frame) (place : ℕ) (s : Segments) → IsOpened levels frame place s → string_of kind s.joined ≡ []
+empty_of : (kind : SegmentKind) (levels : ℕ) (frame : Frame) (place : ℕ) (s : Segments) → IsOpened levels frame place s → string_of kind s.joined ≡ []
 empty_of kind levels frame place s o = string_empty kind s.joined.octets.items s.joined.unused o.octets o.unused
 
 -- only what opens the string has come
-pub passed_opened : (kind : Kind) (levels end taken i size : ℕ) (frame : Frame) (s : Segments) (passed : List ℕ) → 1 ≤ levels → length passed ≡ i + size → Opens end (taken + i) frame (take size (drop i passed)) → IsOpened levels frame (taken + (i + size)) s
+pub passed_opened : (kind : SegmentKind) (levels end taken i size : ℕ) (frame : Frame) (s : Segments) (passed : List ℕ) → 1 ≤ levels → length passed ≡ i + size → Opens end (taken + i) frame (take size (drop i passed)) → IsOpened levels frame (taken + (i + size)) s
     → IsPassed kind levels end taken i s passed
 passed_opened kind levels end taken i size frame s passed deep count opens o =
     let start = i + size in
@@ -107,7 +107,7 @@ passed_opened kind levels end taken i size frame s passed deep count opens o =
           (stands_first kind levels frame (taken + start) (omega (arith, opens_within end (taken + i) frame (take size (drop i passed)) opens, count, length-take-le size (drop i passed) (omega (arith, count, length-drop i passed)))))));
     }
 
-pub begun_opened : (shape : Shape) (kind : Kind) (levels end taken i size : ℕ) (frame : Frame) (octets : List ℕ) (s : Segments) → IsStringOf kind shape → 1 ≤ levels → end ≤ MAX_ENCODING → IsReadTag (tag_of shape) end taken octets true i
+pub begun_opened : (shape : Shape) (kind : SegmentKind) (levels end taken i size : ℕ) (frame : Frame) (octets : List ℕ) (s : Segments) → IsStringOf kind shape → 1 ≤ levels → end ≤ MAX_ENCODING → IsReadTag (tag_of shape) end taken octets true i
     → size ≤ length (drop i octets) → Opens end (taken + i) frame (take size (drop i octets)) → IsOpened levels frame (taken + (i + size)) s → IsBegun shape end taken i levels octets kind s (i + size)
 begun_opened shape kind levels end taken i size frame octets s of deep limit read there opens o =
     let used = i + size in
@@ -139,7 +139,7 @@ begun_opened shape kind levels end taken i size frame octets s of deep limit rea
     }
 
 -- and then some that were taken
-pub passed_more : (kind : Kind) (levels end taken i : ℕ) (old new : Segments) (passed octets : List ℕ) (used : ℕ) → IsPassed kind levels end taken i old passed → IsTaken kind old new octets used → IsPassed kind levels end taken i new (passed ++ take used octets)
+pub passed_more : (kind : SegmentKind) (levels end taken i : ℕ) (old new : Segments) (passed octets : List ℕ) (used : ℕ) → IsPassed kind levels end taken i old passed → IsTaken kind old new octets used → IsPassed kind levels end taken i new (passed ++ take used octets)
 passed_more kind levels end taken i old new passed octets used b k =
     let part = take used octets in
     let start = i + b.size in
@@ -163,7 +163,7 @@ passed_more kind levels end taken i old new passed octets used b k =
     }
 
 -- what completes what is open completes the string behind its length octets
-passed_back : (kind : Kind) (levels end taken i : ℕ) (s : Segments) (passed : List ℕ) (b : IsPassed kind levels end taken i s passed) (more : List ℕ) (total : List (Element kind)) (rest : List ℕ) → Completion kind s more total rest
+passed_back : (kind : SegmentKind) (levels end taken i : ℕ) (s : Segments) (passed : List ℕ) (b : IsPassed kind levels end taken i s passed) (more : List ℕ) (total : List (Element kind)) (rest : List ℕ) → Completion kind s more total rest
     → CompletesBy kind levels (b.frame ∷ []) (taken + (i + b.size)) [] (drop (i + b.size) passed ++ more) total rest
 passed_back kind levels end taken i s passed b more total rest h =
     let start = i + b.size in
@@ -172,7 +172,7 @@ passed_back kind levels end taken i s passed b more total rest h =
     (from_stack kind s levels (stack s.frames.items) (taken + start + length (drop start passed)) (string_of kind s.joined) more total rest b.deepest refl place refl h)
 
 -- what completes the encoding completes the string
-pub passed_completes : (levels : ℕ) (kind : Kind) (tag : Tag) (end taken i : ℕ) (s : Segments) (passed more : List ℕ) → i ≤ length passed → IsIdentifier tag true (take i passed) → IsPassed kind levels end taken i s passed
+pub passed_completes : (levels : ℕ) (kind : SegmentKind) (tag : Tag) (end taken i : ℕ) (s : Segments) (passed more : List ℕ) → i ≤ length passed → IsIdentifier tag true (take i passed) → IsPassed kind levels end taken i s passed
     → HasFront (IsPartWithin levels (string_shape tag kind) end taken) (passed ++ more) → CanComplete kind s more
 passed_completes levels kind tag end taken i s passed more there id b f =
     let start = i + b.size in
@@ -189,7 +189,7 @@ passed_completes levels kind tag end taken i s passed more there id b f =
     (c.total, c.rest, b.forth more c.total c.rest k)
 
 -- a constructed string that has ended
-pub passed_read : (levels : ℕ) (kind : Kind) (tag : Tag) (end taken i : ℕ) (s : Segments) (passed : List ℕ) → IsUsable tag → i ≤ length passed → IsIdentifier tag true (take i passed) → IsPassed kind levels end taken i s passed
+pub passed_read : (levels : ℕ) (kind : SegmentKind) (tag : Tag) (end taken i : ℕ) (s : Segments) (passed : List ℕ) → IsUsable tag → i ≤ length passed → IsIdentifier tag true (take i passed) → IsPassed kind levels end taken i s passed
     → stack s.frames.items ≡ [] → IsHeld kind s.joined → IsReadPart levels (string_shape tag kind) (string_value kind (string_of kind s.joined)) end taken passed
 passed_read levels kind tag end taken i s passed kept there id b done held =
     let start = i + b.size in

@@ -5,18 +5,18 @@ use Rattle.std.proofs.lemmas.List.{take_rest}
 use Rattle.std.proofs.lemmas.List.Elements.{All-head}
 use Rattle.encoding_parts.specs.declared.frame.Frame.{Frame}
 use Rattle.encoding_parts.specs.declared.joined.Joined.{Joined}
-use Rattle.encoding_parts.specs.declared.joined.Kind.{Kind}
+use Rattle.encoding_parts.specs.declared.joined.SegmentKind.{SegmentKind}
 use Rattle.encoding_parts.specs.declared.segments.Segments.{Segments}
 use Rattle.encoding_parts.specs.Joined.{AreHeld, HoldsSame, IsJoined, string_held, string_of}
 use Rattle.encoding_parts.specs.Segments.{stack, Completion, StandsBehind, IsRun, IsShortSegment, IsSound, IsTaken, IsTop, IsWithin, Passes}
 use Rattle.encoding_parts.proofs.JoinedLemmas.{whole_held}
 use Rattle.encoding_parts.proofs.SegmentsLemmas.{from_stack, stands_by, taken_primitive, to_stack}
 
-same_string : (kind : Kind) (old new : Joined) → HoldsSame old new → string_of kind new ≡ string_of kind old
+same_string : (kind : SegmentKind) (old new : Joined) → HoldsSame old new → string_of kind new ≡ string_of kind old
 same_string kind old new same = ap (λ o. string_held kind o new.unused) same.octets ∙ ap (string_held kind old.octets.items) same.unused
 
 -- none of the octets were taken
-pub none_taken : (kind : Kind) (s : Segments) (joined : Joined) (octets : List ℕ) → HoldsSame s.joined joined → IsTaken kind s (record { frames = s.frames; levels = s.levels; taken = s.taken; joined = joined }) octets 0
+pub none_taken : (kind : SegmentKind) (s : Segments) (joined : Joined) (octets : List ℕ) → HoldsSame s.joined joined → IsTaken kind s (record { frames = s.frames; levels = s.levels; taken = s.taken; joined = joined }) octets 0
 none_taken kind s joined octets same =
     let new : Segments = record { frames = s.frames; levels = s.levels; taken = s.taken; joined = joined } in
     let string = same_string kind s.joined joined same in
@@ -34,7 +34,7 @@ none_taken kind s joined octets same =
     }
 
 -- some were taken, and then some of those behind them
-pub more_taken : (kind : Kind) (old mid new : Segments) (octets : List ℕ) (at used : ℕ) → IsTaken kind old mid octets at → IsTaken kind mid new (drop at octets) used → IsTaken kind old new octets (at + used)
+pub more_taken : (kind : SegmentKind) (old mid new : Segments) (octets : List ℕ) (at used : ℕ) → IsTaken kind old mid octets at → IsTaken kind mid new (drop at octets) used → IsTaken kind old new octets (at + used)
 more_taken kind old mid new octets at used h k =
     let first = take at octets in
     let second = take used (drop at octets) in
@@ -57,7 +57,7 @@ more_taken kind old mid new octets at used h k =
     }
 
 -- a run of no segments
-pub empty_run : (kind : Kind) (s : Segments) (octets : List ℕ) → IsSound kind s → IsRun kind s s octets 0
+pub empty_run : (kind : SegmentKind) (s : Segments) (octets : List ℕ) → IsSound kind s → IsRun kind s s octets 0
 empty_run kind s octets sound = record {
   taken = none_taken kind s s.joined octets (record { octets = refl; unused = refl });
   sound = sound;
@@ -65,7 +65,7 @@ empty_run kind s octets sound = record {
 }
 
 -- a run behind which no other segment could be joined
-pub run_kept : (kind : Kind) (old mid : Segments) (joined : Joined) (octets : List ℕ) (at : ℕ) → IsRun kind old mid octets at → HoldsSame mid.joined joined
+pub run_kept : (kind : SegmentKind) (old mid : Segments) (joined : Joined) (octets : List ℕ) (at : ℕ) → IsRun kind old mid octets at → HoldsSame mid.joined joined
     → IsRun kind old (record { frames = mid.frames; levels = mid.levels; taken = mid.taken; joined = joined }) octets at
 run_kept kind old mid joined octets at run same =
     let new : Segments = record { frames = mid.frames; levels = mid.levels; taken = mid.taken; joined = joined } in
@@ -88,7 +88,7 @@ contents_behind at used octets =
     ap (take (used - 2)) (drop-drop 2 at octets) ∙ ap (λ n. take n (drop (at + 2) octets)) count
 
 -- a run, and a segment more
-pub longer_run : (kind : Kind) (old mid : Segments) (joined : Joined) (f : Frame) (octets : List ℕ) (at used : ℕ) → IsTop f old.frames.items → IsRun kind old mid octets at → IsShortSegment kind mid f (take (length octets - at) (drop at octets)) used
+pub longer_run : (kind : SegmentKind) (old mid : Segments) (joined : Joined) (f : Frame) (octets : List ℕ) (at used : ℕ) → IsTop f old.frames.items → IsRun kind old mid octets at → IsShortSegment kind mid f (take (length octets - at) (drop at octets)) used
     → IsJoined kind mid.joined joined (slice_range octets (at + 2) (at + used)) → length joined.octets.items ≤ length mid.joined.octets.items + length (slice_range octets (at + 2) (at + used))
     → IsRun kind old (record { frames = mid.frames; levels = mid.levels; taken = mid.taken + used; joined = joined }) octets (at + used)
 longer_run kind old mid joined f octets at used top run short' joins light =
@@ -113,13 +113,13 @@ longer_run kind old mid joined f octets at used top run short' joins light =
     }
 
 -- what a run leaves of the octets
-pub run_there : (kind : Kind) (old mid : Segments) (f : Frame) (octets : List ℕ) (at used : ℕ) → IsRun kind old mid octets at → IsShortSegment kind mid f (take (length octets - at) (drop at octets)) used → at + used ≤ length octets
+pub run_there : (kind : SegmentKind) (old mid : Segments) (f : Frame) (octets : List ℕ) (at used : ℕ) → IsRun kind old mid octets at → IsShortSegment kind mid f (take (length octets - at) (drop at octets)) used → at + used ≤ length octets
 run_there kind old mid f octets at used run short =
     let behind = subst (λ o. IsShortSegment kind mid f o used) (take_rest octets at) short in
     omega (arith, run.taken.there, behind.place.there, length-drop at octets)
 
 -- a segment, and a run behind it
-pub run_passes : (kind : Kind) (old mid new : Segments) (octets : List ℕ) (used more : ℕ) → Passes kind old mid octets used → IsRun kind mid new (take (length octets - used) (drop used octets)) more → Passes kind old new octets (used + more)
+pub run_passes : (kind : SegmentKind) (old mid new : Segments) (octets : List ℕ) (used more : ℕ) → Passes kind old mid octets used → IsRun kind mid new (take (length octets - used) (drop used octets)) more → Passes kind old new octets (used + more)
 run_passes kind old mid new octets used more h run' =
     let run = subst (λ o. IsRun kind mid new o more) (take_rest octets used) run' in
     record {

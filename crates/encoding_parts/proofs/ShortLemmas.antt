@@ -9,7 +9,7 @@ use Rattle.octets.specs.Rule.{ber}
 use Rattle.octets.proofs.LengthLemmas.{IsShortestLength-short}
 use Rattle.types.specs.Form.{IsPrimitive}
 use Rattle.encoding_parts.specs.declared.frame.Frame.{Frame}
-use Rattle.encoding_parts.specs.declared.joined.Kind.{Kind}
+use Rattle.encoding_parts.specs.declared.joined.SegmentKind.{SegmentKind}
 use Rattle.encoding_parts.specs.declared.segments.Segments.{Segments}
 use Rattle.encoding_parts.specs.Joined.{segment_of}
 use Rattle.encoding_parts.specs.Segments.{IsShortSegment}
@@ -46,7 +46,7 @@ short_at tag end taken room count octets same h =
     }
 
 -- a segment that was found stands there, where no bits are unused
-pub short_segment : (kind : Kind) (s : Segments) (f : Frame) (tag : Tag) (room : ℕ) (octets : List ℕ) (found : Option ℕ) → tag ≡ segment_of kind → room ≡ f.end - s.taken → s.joined.unused ≡ 0 → IfSome found (IsShortPrimitive tag room octets) → IfSome found (IsShortSegment kind s f octets)
+pub short_segment : (kind : SegmentKind) (s : Segments) (f : Frame) (tag : Tag) (room : ℕ) (octets : List ℕ) (found : Option ℕ) → tag ≡ segment_of kind → room ≡ f.end - s.taken → s.joined.unused ≡ 0 → IfSome found (IsShortPrimitive tag room octets) → IfSome found (IsShortSegment kind s f octets)
 short_segment kind s f tag room octets None is same whole h = tt
 short_segment kind s f tag room octets (Some used) is same whole h = record {
   some = omega (arith, h.counted);

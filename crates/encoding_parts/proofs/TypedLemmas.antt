@@ -22,8 +22,8 @@ use Rattle.types.proofs.NestingLemmas.{nested_unique}
 use Rattle.strings.specs.declared.text.TextKind.{TextKind}
 use Rattle.strings.specs.declared.time.TimeKind.{TimeKind}
 use Rattle.encoding_parts.specs.declared.joined.Joined.{Joined}
-use Rattle.encoding_parts.specs.declared.joined.Kind.{Kind}
-use Rattle.encoding_parts.specs.declared.joined.Kind.TheVariants.{Bits, Octets}
+use Rattle.encoding_parts.specs.declared.joined.SegmentKind.{SegmentKind}
+use Rattle.encoding_parts.specs.declared.joined.SegmentKind.TheVariants.{Bits, Octets}
 use Rattle.encoding_parts.specs.Contents.{text_view}
 use Rattle.encoding_parts.specs.Joined.{Element, IsHeldFor, IsString, IsStringOf, segments_kind, string_of, string_shape, string_value, trimmed_bits, typed, value_of}
 use Rattle.encoding_parts.specs.Parts.{IsPartOf, IsPartWithin}
@@ -113,7 +113,7 @@ part_of_string_value levels (Shape.choice alternatives) string octets is conform
 part_of_string_value levels (Shape.explicit tag type) string octets is conforms h = absurd is
 
 -- what begins with an encoding begins with one of the string
-pub string_front : (levels : ℕ) (kind : Kind) (shape : Shape) (end taken : ℕ) (octets : List ℕ) → IsStringOf kind shape → HasFront (IsPartWithin levels shape end taken) octets → HasFront (IsPartWithin levels (string_shape (tag_of shape) kind) end taken) octets
+pub string_front : (levels : ℕ) (kind : SegmentKind) (shape : Shape) (end taken : ℕ) (octets : List ℕ) → IsStringOf kind shape → HasFront (IsPartWithin levels shape end taken) octets → HasFront (IsPartWithin levels (string_shape (tag_of shape) kind) end taken) octets
 string_front levels kind shape end taken octets s f =
     let part = f.2.part in
     let t = string_of_part levels shape part.value (take f.0 octets) s.string record { encoding = part.encoding; depth = part.depth } in
@@ -121,22 +121,22 @@ string_front levels kind shape end taken octets s f =
     record { part = record { value = string_value (segments_kind shape) t.string; encoding = t.part.encoding; depth = t.part.depth }; fits = f.2.fits } in
     subst (λ k. HasFront (IsPartWithin levels (string_shape (tag_of shape) k) end taken) octets) (sym s.kind_is) (f.0, f.1, of_string)
 
-string_value-injective : (kind : Kind) (s t : List (Element kind)) → string_value kind s ≡ string_value kind t → s ≡ t
+string_value-injective : (kind : SegmentKind) (s t : List (Element kind)) → string_value kind s ≡ string_value kind t → s ≡ t
 string_value-injective Bits s t h = let same : StringValue.bits s ≡ StringValue.bits t = string-injective (StringValue.bits s) (StringValue.bits t) h in cc same
 string_value-injective Octets s t h = let same : StringValue.octets s ≡ StringValue.octets t = string-injective (StringValue.octets s) (StringValue.octets t) h in cc same
 
 -- a string type under a usable tag
-well_string : (tag : Tag) (kind : Kind) → IsUsable tag → AreWell (nodes_of (string_shape tag kind))
+well_string : (tag : Tag) (kind : SegmentKind) → IsUsable tag → AreWell (nodes_of (string_shape tag kind))
 well_string tag Bits usable = record { tags = (usable, tt); defaults = (tt, tt) }
 well_string tag Octets usable = record { tags = (usable, tt); defaults = (tt, tt) }
 
 -- strings that are the same are equal
-equal_strings : (tag : Tag) (kind : Kind) (s t : List (Element kind)) → IsSame (string_shape tag kind) (string_value kind s) (string_value kind t) → s ≡ t
+equal_strings : (tag : Tag) (kind : SegmentKind) (s t : List (Element kind)) → IsSame (string_shape tag kind) (string_value kind s) (string_value kind t) → s ≡ t
 equal_strings tag Bits s t h = string_value-injective Bits s t h
 equal_strings tag Octets s t h = string_value-injective Octets s t h
 
 -- and by the one string that was read
-pub same_string : (levels : ℕ) (kind : Kind) (shape : Shape) (end taken : ℕ) (joined : Joined) (n : ℕ) (octets more : List ℕ) → IsUsable (tag_of shape) → IsStringOf kind shape
+pub same_string : (levels : ℕ) (kind : SegmentKind) (shape : Shape) (end taken : ℕ) (joined : Joined) (n : ℕ) (octets more : List ℕ) → IsUsable (tag_of shape) → IsStringOf kind shape
     → IsPartOf levels (string_shape (tag_of shape) kind) (string_value kind (string_of kind joined)) (take n octets) → (f : HasFront (IsPartWithin levels shape end taken) (octets ++ more)) → f.2.part.value ≡ value_of shape joined
 same_string levels kind shape end taken joined n octets more usable s h f =
     let front = take f.0 (octets ++ more) in
@@ -152,7 +152,7 @@ same_string levels kind shape end taken joined n octets more usable s h f =
     t.is ∙ ap (typed shape k) (equal_strings tag k t.string (string_of k joined) values)
 
 -- a string that was read makes an encoding
-pub part_of_joined : (levels : ℕ) (kind : Kind) (shape : Shape) (joined : Joined) (v : Val) (octets : List ℕ) → IsStringOf kind shape → v ≡ value_of shape joined → Conforms shape v
+pub part_of_joined : (levels : ℕ) (kind : SegmentKind) (shape : Shape) (joined : Joined) (v : Val) (octets : List ℕ) → IsStringOf kind shape → v ≡ value_of shape joined → Conforms shape v
     → IsPartOf levels (string_shape (tag_of shape) kind) (string_value kind (string_of kind joined)) octets → IsPartOf levels shape v octets
 part_of_joined levels kind shape joined v octets s is conforms h =
     let k = segments_kind shape in

@@ -22,8 +22,8 @@ use Rattle.types.specs.Encoding.{IsEncoding}
 use Rattle.types.proofs.FormLemmas.{definite_unique, parts_of_definite}
 use Rattle.types.proofs.NestingLemmas.{parts_of_indefinite}
 use Rattle.encoding_parts.specs.declared.frame.Frame.{Frame}
-use Rattle.encoding_parts.specs.declared.joined.Kind.{Kind}
-use Rattle.encoding_parts.specs.declared.joined.Kind.TheVariants.{Bits, Octets}
+use Rattle.encoding_parts.specs.declared.joined.SegmentKind.{SegmentKind}
+use Rattle.encoding_parts.specs.declared.joined.SegmentKind.TheVariants.{Bits, Octets}
 use Rattle.encoding_parts.specs.Contents.{HoldsContents}
 use Rattle.encoding_parts.specs.Completing.{Completes, IsEndOf, IsOpening, Opens}
 use Rattle.encoding_parts.specs.Head.{IsPrimitiveWithin}
@@ -45,7 +45,7 @@ pub record IsOfContents (shape : Shape) (v : Val) (octets : List ℕ) : Type 0 w
   pub holds : HoldsContents ber shape v contents
   pub primitive : IsPrimitive ber (tag_of shape) contents octets
 
-pub record IsOfSegments (kind : Kind) (tag : Tag) (shape : Shape) (v : Val) (octets : List ℕ) : Type 0 where
+pub record IsOfSegments (kind : SegmentKind) (tag : Tag) (shape : Shape) (v : Val) (octets : List ℕ) : Type 0 where
   pub string : List (Element kind)
   pub is : v ≡ typed shape kind string
   pub segments : IsInSegments tag (segment_of kind) (HoldsPiece kind) (IsWholePiece kind) string octets
@@ -158,7 +158,7 @@ part_of_contents levels shape v contents octets usable conforms h p = record {
   depth = nested_primitive levels octets record { tag = tag_of shape; usable = usable; contents = contents; whole = p };
 }
 
-encoding_of_segments : (kind : Kind) (tag : Tag) (string : List (Element kind)) (octets : List ℕ) → Conforms (string_shape tag kind) (string_value kind string)
+encoding_of_segments : (kind : SegmentKind) (tag : Tag) (string : List (Element kind)) (octets : List ℕ) → Conforms (string_shape tag kind) (string_value kind string)
     → IsInSegments tag (segment_of kind) (HoldsPiece kind) (IsWholePiece kind) string octets → IsEncoding ber (string_shape tag kind) (string_value kind string) octets
 encoding_of_segments Bits tag string octets conforms h = record { bits = string; is = refl; string = inr h }
 encoding_of_segments Octets tag string octets conforms h = record { string_octets = string; is = refl; conforms = conforms; string = inr h }
@@ -275,18 +275,18 @@ none_constructed levels shape end taken leaf i octets more there none id f =
     let id' : IsIdentifier (tag_of shape) true (take i (octets ++ more)) = subst (IsIdentifier (tag_of shape) true) (sym (take-append-le i octets more there)) id in
     no_constructed shape f.2.part.value i (octets ++ more) front (drop f.0 (octets ++ more)) none id' (whole_front f.0 (octets ++ more)) (form_of_encoding shape f.2.part.value front leaf f.2.part.encoding)
 
-segments_form : (kind : Kind) (tag : Tag) (v : Val) (i : ℕ) (octets front rest : List ℕ) → IsIdentifier tag true (take i octets) → octets ≡ front ++ rest → HasForm (string_shape tag kind) v front → IsOfSegments kind tag (string_shape tag kind) v front
+segments_form : (kind : SegmentKind) (tag : Tag) (v : Val) (i : ℕ) (octets front rest : List ℕ) → IsIdentifier tag true (take i octets) → octets ≡ front ++ rest → HasForm (string_shape tag kind) v front → IsOfSegments kind tag (string_shape tag kind) v front
 segments_form Bits tag v i octets front rest id is (inl f) = absurd (not_primitive tag i f.contents octets front rest id is f.primitive)
 segments_form Bits tag v i octets front rest id is (inr f) = f
 segments_form Octets tag v i octets front rest id is (inl f) = absurd (not_primitive tag i f.contents octets front rest id is f.primitive)
 segments_form Octets tag v i octets front rest id is (inr f) = f
 
-string_leaf : (tag : Tag) (kind : Kind) → IsLeaf (string_shape tag kind)
+string_leaf : (tag : Tag) (kind : SegmentKind) → IsLeaf (string_shape tag kind)
 string_leaf tag Bits = tt
 string_leaf tag Octets = tt
 
 -- at least one constructed encoding must be allowed for one
-pub none_so_shallow : (levels : ℕ) (kind : Kind) (tag : Tag) (end taken i : ℕ) (octets more : List ℕ) → levels ≡ 0 → i ≤ length octets → IsIdentifier tag true (take i octets)
+pub none_so_shallow : (levels : ℕ) (kind : SegmentKind) (tag : Tag) (end taken i : ℕ) (octets more : List ℕ) → levels ≡ 0 → i ≤ length octets → IsIdentifier tag true (take i octets)
     → HasFront (IsPartWithin levels (string_shape tag kind) end taken) (octets ++ more) → ⊥
 none_so_shallow levels kind tag end taken i octets more none there id f =
     let front = take f.0 (octets ++ more) in
@@ -296,7 +296,7 @@ none_so_shallow levels kind tag end taken i octets more none there id f =
     absurd (omega (arith, none, deep.is))
 
 -- a constructed encoding, by what opens it
-pub record IsCompleted (levels : ℕ) (kind : Kind) (tag : Tag) (end taken : ℕ) (octets : List ℕ) : Type 0 where
+pub record IsCompleted (levels : ℕ) (kind : SegmentKind) (tag : Tag) (end taken : ℕ) (octets : List ℕ) : Type 0 where
   pub opened : Frame
   pub head : List ℕ
   pub others : List ℕ
@@ -306,7 +306,7 @@ pub record IsCompleted (levels : ℕ) (kind : Kind) (tag : Tag) (end taken : ℕ
   pub rest : List ℕ
   pub completes : CompletesBy kind levels (opened ∷ []) (taken + length head) [] others total rest
 
-pub completed : (levels : ℕ) (kind : Kind) (tag : Tag) (end taken i : ℕ) (octets : List ℕ) → IsIdentifier tag true (take i octets) → HasFront (IsPartWithin levels (string_shape tag kind) end taken) octets → IsCompleted levels kind tag end taken octets
+pub completed : (levels : ℕ) (kind : SegmentKind) (tag : Tag) (end taken i : ℕ) (octets : List ℕ) → IsIdentifier tag true (take i octets) → HasFront (IsPartWithin levels (string_shape tag kind) end taken) octets → IsCompleted levels kind tag end taken octets
 completed levels kind tag end taken i octets id f =
     let front = take f.0 octets in
     let behind = drop f.0 octets in
@@ -339,14 +339,14 @@ end_within end taken after f size mark (inl o) (inr e) = let no : true ≡ false
 end_within end taken after f size mark (inr o) (inl e) = let no : true ≡ false = sym e.definite ∙ o.indefinite in cc
 
 -- the front that completes an open encoding
-pub record IsFrontOfString (levels : ℕ) (kind : Kind) (tag : Tag) (end taken : ℕ) (octets : List ℕ) (total : List (Element kind)) (rest : List ℕ) : Type 0 where
+pub record IsFrontOfString (levels : ℕ) (kind : SegmentKind) (tag : Tag) (end taken : ℕ) (octets : List ℕ) (total : List (Element kind)) (rest : List ℕ) : Type 0 where
   pub front : List ℕ
   pub parts : octets ≡ front ++ rest
   pub segments : IsInSegments tag (segment_of kind) (HoldsPiece kind) (IsWholePiece kind) total front
   pub depth : IsNested levels front
   pub fits : taken + length front ≤ end
 
-pub front_of_string : (levels : ℕ) (kind : Kind) (tag : Tag) (end taken : ℕ) (opened : Frame) (head octets others : List ℕ) (total : List (Element kind)) (rest : List ℕ) → 1 ≤ levels → IsUsable tag → IsOpening tag end taken opened head → octets ≡ head ++ others
+pub front_of_string : (levels : ℕ) (kind : SegmentKind) (tag : Tag) (end taken : ℕ) (opened : Frame) (head octets others : List ℕ) (total : List (Element kind)) (rest : List ℕ) → 1 ≤ levels → IsUsable tag → IsOpening tag end taken opened head → octets ≡ head ++ others
     → CompletesBy kind levels (opened ∷ []) (taken + length head) [] others total rest → IsFrontOfString levels kind tag end taken octets total rest
 front_of_string levels kind tag end taken opened head octets others total rest deep kept h is k =
     let l = unwind (segment_of kind) (HoldsPiece kind) (IsWholePiece kind) levels (kept_segment kind) (joins_whole kind) (parts_whole kind) (opened ∷ []) (taken + length head) [] total others rest k in
@@ -366,7 +366,7 @@ front_of_string levels kind tag end taken opened head octets others total rest d
       fits = omega (arith, size, within);
     }
 
-pub part_of_string : (levels : ℕ) (kind : Kind) (tag : Tag) (end taken : ℕ) (octets : List ℕ) (total : List (Element kind)) (rest : List ℕ) → Conforms (string_shape tag kind) (string_value kind total)
+pub part_of_string : (levels : ℕ) (kind : SegmentKind) (tag : Tag) (end taken : ℕ) (octets : List ℕ) (total : List (Element kind)) (rest : List ℕ) → Conforms (string_shape tag kind) (string_value kind total)
     → (s : IsFrontOfString levels kind tag end taken octets total rest) → IsPartOf levels (string_shape tag kind) (string_value kind total) s.front
 part_of_string levels kind tag end taken octets total rest conforms s = record {
   encoding = encoding_of_segments kind tag total s.front conforms s.segments;

@@ -9,7 +9,7 @@ use Rattle.types.specs.Shape.{Shape}
 use Rattle.types.specs.declared.refusal.Refusal.{Refusal}
 use Rattle.types.specs.declared.refusal.Refusal.TheVariants.{Truncated}
 use Rattle.encoding_parts.specs.declared.frame.Frame.{Frame}
-use Rattle.encoding_parts.specs.declared.joined.Kind.{Kind}
+use Rattle.encoding_parts.specs.declared.joined.SegmentKind.{SegmentKind}
 use Rattle.encoding_parts.specs.declared.segments.Segments.{Segments}
 use Rattle.encoding_parts.specs.Joined.{IsString, IsWholePiece, segment_of, string_of, string_shape}
 use Rattle.encoding_parts.specs.Lengths.{CanHaveLength}
@@ -70,21 +70,21 @@ pub record IsEndCut (frame : Frame) (taken : ℕ) (octets : List ℕ) : Type 0 w
   pub cut : (octets ≡ []) ⊎ ((octets ≡ 0 ∷ []) × (taken ≤ frame.end))
 
 -- they begin a segment that may come next in the open encoding, and have its identifier octets
-pub record IsSegmentCut (kind : Kind) (segments : Segments) (frame : Frame) (octets : List ℕ) : Type 0 where
+pub record IsSegmentCut (kind : SegmentKind) (segments : Segments) (frame : Frame) (octets : List ℕ) : Type 0 where
   pub whole : IsWholePiece kind (string_of kind segments.joined)
   pub cut : IsPartCut (segment_of kind) (string_shape (segment_of kind) kind) (segments.levels - length segments.frames.items) frame.end segments.taken octets
 
-abbrev pub IsCutInside : Kind → Segments → Frame → List ℕ → Type 0
+abbrev pub IsCutInside : SegmentKind → Segments → Frame → List ℕ → Type 0
 IsCutInside kind segments frame octets = IsIdentifierCut frame.end segments.taken octets ⊎ (IsSegmentCut kind segments frame octets ⊎ IsEndCut frame segments.taken octets)
 
 -- they end inside what may come next in the innermost open encoding of a string
-pub record IsStringCut (kind : Kind) (segments : Segments) (octets : List ℕ) : Type 0 where
+pub record IsStringCut (kind : SegmentKind) (segments : Segments) (octets : List ℕ) : Type 0 where
   pub frame : Frame
   pub top : IsTop frame segments.frames.items
   pub cut : IsCutInside kind segments frame octets
 
 -- what taking a segment leads to: octets are passed, or are refused; where more may come, nothing has changed
-pub record Advances (kind : Kind) (old new : Segments) (frame : Frame) (octets : List ℕ) (result : Result ℕ Refusal) : Type 0 where
+pub record Advances (kind : SegmentKind) (old new : Segments) (frame : Frame) (octets : List ℕ) (result : Result ℕ Refusal) : Type 0 where
   pub passed : IfOk result (Passes kind old new octets)
   pub refused : IfErr result (Refuses (CanComplete kind old) (IsCutInside kind old frame) octets)
   pub unchanged : result ≡ Err Truncated → new ≡ old

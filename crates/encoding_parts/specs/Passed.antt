@@ -6,25 +6,25 @@ use Rattle.std.specs.List.{AllByRecursion, concat}
 use Rattle.types.specs.Depth.{IsNested}
 use Rattle.types.specs.Strings.{AreSegments}
 use Rattle.encoding_parts.specs.declared.frame.Frame.{Frame}
-use Rattle.encoding_parts.specs.declared.joined.Kind.{Kind}
+use Rattle.encoding_parts.specs.declared.joined.SegmentKind.{SegmentKind}
 use Rattle.encoding_parts.specs.Completing.{IsEndOf, IsOpening}
 use Rattle.encoding_parts.specs.Joined.{Element, segment_of, HoldsPiece, IsWholePiece}
 
 -- whole segments of this piece of the string, in each of which at most n constructed encodings nest
-pub record AreNestedSegments (kind : Kind) (n : ℕ) (piece : List (Element kind)) (octets : List ℕ) : Type 0 where
+pub record AreNestedSegments (kind : SegmentKind) (n : ℕ) (piece : List (Element kind)) (octets : List ℕ) : Type 0 where
   pub encodings : List (List ℕ)
   pub are : octets ≡ concat encodings
   pub each : AllByRecursion (IsNested n) encodings
   pub segments : AreSegments (segment_of kind) (HoldsPiece kind) (IsWholePiece kind) piece octets
 
 -- the outermost encoding is open, and these segments have come in it
-pub record IsOutermost (kind : Kind) (levels : ℕ) (first : Frame) (place : ℕ) (frame : Frame) (string : List (Element kind)) (octets : List ℕ) : Type 0 where
+pub record IsOutermost (kind : SegmentKind) (levels : ℕ) (first : Frame) (place : ℕ) (frame : Frame) (string : List (Element kind)) (octets : List ℕ) : Type 0 where
   pub same : frame ≡ first
   pub fits : place + length octets ≤ frame.end
   pub segments : AreNestedSegments kind (levels - length (frame ∷ [])) string octets
 
 -- behind what the outer encodings hold stands the head of a constructed segment, and whole segments in it
-pub record IsInnermost (kind : Kind) (levels place : ℕ) (frame outer : Frame) (others : List Frame) (Before : List (Element kind) → List ℕ → Type 0) (string : List (Element kind)) (octets : List ℕ) : Type 0 where
+pub record IsInnermost (kind : SegmentKind) (levels place : ℕ) (frame outer : Frame) (others : List Frame) (Before : List (Element kind) → List ℕ → Type 0) (string : List (Element kind)) (octets : List ℕ) : Type 0 where
   pub before : List ℕ
   pub head : List ℕ
   pub contents : List ℕ
@@ -40,7 +40,7 @@ pub record IsInnermost (kind : Kind) (levels place : ℕ) (frame outer : Frame) 
   pub segments : AreNestedSegments kind (levels - length (frame ∷ outer ∷ others)) piece contents
 
 -- the outermost encoding has ended behind these segments
-pub record IsEnded (kind : Kind) (levels : ℕ) (first : Frame) (place : ℕ) (string : List (Element kind)) (octets : List ℕ) : Type 0 where
+pub record IsEnded (kind : SegmentKind) (levels : ℕ) (first : Frame) (place : ℕ) (string : List (Element kind)) (octets : List ℕ) : Type 0 where
   pub contents : List ℕ
   pub mark : List ℕ
   pub joined : octets ≡ contents ++ mark
@@ -49,7 +49,7 @@ pub record IsEnded (kind : Kind) (levels : ℕ) (first : Frame) (place : ℕ) (s
 
 -- the octets stand behind the length octets of the outermost encoding, at this place, up to the segments that have
 -- come: these encodings, the innermost first, are open, and the segments hold the string
-abbrev pub StandsIn : (kind : Kind) → ℕ → Frame → ℕ → List Frame → List (Element kind) → List ℕ → Type 0
+abbrev pub StandsIn : (kind : SegmentKind) → ℕ → Frame → ℕ → List Frame → List (Element kind) → List ℕ → Type 0
 StandsIn kind levels first place [] string octets = IsEnded kind levels first place string octets
 StandsIn kind levels first place (frame ∷ []) string octets = IsOutermost kind levels first place frame string octets
 StandsIn kind levels first place (frame ∷ (outer ∷ others)) string octets =

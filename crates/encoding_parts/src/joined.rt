@@ -16,7 +16,7 @@ use types::{Refusal, Ty, Value};
 
 /// Which strings may be cut into segments.
 #[derive(Clone, Copy, Debug, PartialEq, Eq)]
-pub enum Kind {
+pub enum SegmentKind {
     /// BIT STRING, with named bits or without.
     Bits,
     /// OCTET STRING, and character strings and times, whose segments are those of an OCTET STRING.
@@ -34,12 +34,12 @@ pub struct Joined {
 
 /// Which strings the segments of the type's constructed encodings are, if it has such (X.690 8.6.4, 8.7.3, 8.23
 /// and 8.25).
-pub fn kind_of(ty: &Ty) -> Option<Kind>
+pub fn kind_of(ty: &Ty) -> Option<SegmentKind>
     ensures { MatchOption result (IsNoString (ty_view ty.now)) (λ kind. IsStringOf kind (ty_view ty.now)) }
 {
     match ty {
-        Ty::Bits(_) | Ty::NamedBits(_, _) => Some(Kind::Bits),
-        Ty::Octets(_) | Ty::Text(_, _) | Ty::Time(_, _) => Some(Kind::Octets),
+        Ty::Bits(_) | Ty::NamedBits(_, _) => Some(SegmentKind::Bits),
+        Ty::Octets(_) | Ty::Text(_, _) | Ty::Time(_, _) => Some(SegmentKind::Octets),
         Ty::Boolean(_) => None,
         Ty::Integer(_) => None,
         Ty::Enumerated(_, _) => None,
@@ -56,12 +56,12 @@ pub fn kind_of(ty: &Ty) -> Option<Kind>
 }
 
 /// The tag of the segments (X.690 8.6.4.1 and 8.7.3.2).
-pub fn segment_tag(kind: Kind) -> Tag
+pub fn segment_tag(kind: SegmentKind) -> Tag
     ensures { result ≡ segment_of kind }
 {
     let number = match kind {
-        Kind::Bits => 3,
-        Kind::Octets => 4,
+        SegmentKind::Bits => 3,
+        SegmentKind::Octets => 4,
     };
     Tag {
         class: Class::Universal,
@@ -85,7 +85,7 @@ impl Joined {
     /// last one are unused. Asks for a string of the kind whose last octet has none so far.
     ///
     /// Refused with `Contents` where these are no contents octets of a piece. Takes memory.
-    pub fn join(&mut self, kind: Kind, contents: &[u8]) -> Result<(), Refusal>
+    pub fn join(&mut self, kind: SegmentKind, contents: &[u8]) -> Result<(), Refusal>
         requires whole { self.old.unused ≡ 0 }
         requires held { IsHeld kind self.old }
         ensures joined { OnOk result (IsJoined kind self.old self.new contents.now) }
@@ -97,14 +97,14 @@ impl Joined {
             (refusal ≡ Refusal.Contents) ⊎ (refusal ≡ Refusal.NoMemory)) }
     {
         match kind {
-            Kind::Bits => self.join_bits(contents),
-            Kind::Octets => self.join_octets(contents),
+            SegmentKind::Bits => self.join_bits(contents),
+            SegmentKind::Octets => self.join_octets(contents),
         }
     }
 
     fn join_octets(&mut self, contents: &[u8]) -> Result<(), Refusal>
-        requires held { IsHeld Kind.Octets self.old }
-        ensures joined { OnOk result (IsJoined Kind.Octets self.old self.new contents.now) }
+        requires held { IsHeld SegmentKind.Octets self.old }
+        ensures joined { OnOk result (IsJoined SegmentKind.Octets self.old self.new contents.now) }
         ensures light { OnOk result (length self.new.octets.items ≤ length self.old.octets.items + length contents.now) }
         ensures unchanged { OnErr result (HoldsSame self.old self.new) }
         ensures numbers { IfErr result (λ refusal. refusal ≡ Refusal.NoMemory) }
@@ -124,11 +124,11 @@ impl Joined {
 
     fn join_bits(&mut self, contents: &[u8]) -> Result<(), Refusal>
         requires whole { self.old.unused ≡ 0 }
-        requires held { IsHeld Kind.Bits self.old }
-        ensures joined { OnOk result (IsJoined Kind.Bits self.old self.new contents.now) }
+        requires held { IsHeld SegmentKind.Bits self.old }
+        ensures joined { OnOk result (IsJoined SegmentKind.Bits self.old self.new contents.now) }
         ensures light { OnOk result (length self.new.octets.items ≤ length self.old.octets.items + length contents.now) }
         ensures none { result ≡ Err Refusal.Contents →
-            (piece : List (Element Kind.Bits)) → ¬ HoldsPiece Kind.Bits piece contents.now }
+            (piece : List (Element SegmentKind.Bits)) → ¬ HoldsPiece SegmentKind.Bits piece contents.now }
         ensures unchanged { OnErr result (HoldsSame self.old self.new) }
         ensures numbers { IfErr result (λ refusal.
             (refusal ≡ Refusal.Contents) ⊎ (refusal ≡ Refusal.NoMemory)) }

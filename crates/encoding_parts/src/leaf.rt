@@ -21,7 +21,7 @@ ghost use Rattle.encoding_parts.specs.Segments.{IsBegun};
 
 use crate::contents::read_contents;
 use crate::head::front;
-use crate::joined::{Kind, kind_of};
+use crate::joined::{SegmentKind, kind_of};
 use crate::lengths::can_have_length;
 use crate::parts::{read_contents_place, read_opening};
 use crate::segments::Segments;
@@ -128,7 +128,7 @@ pub fn begin_string(
     taken: usize,
     levels: usize,
     octets: &[u8],
-) -> Result<(Kind, Segments, usize), Refusal>
+) -> Result<(SegmentKind, Segments, usize), Refusal>
     requires leaf { IsLeaf (ty_view node.now) }
     requires within { end ≤ MAX_ENCODING }
     requires tagged { IsReadTag (tag_of (ty_view node.now)) end taken octets.now true identifier }

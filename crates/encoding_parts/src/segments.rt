@@ -11,7 +11,7 @@ ghost use Rattle.encoding_parts.specs.Segments.{BeginsAboveZero, CanComplete, En
 
 use crate::frame::{Frame, INLINE_FRAMES, close, open, top};
 use crate::head::{END_OF_CONTENTS, read_tag, refusal_inside};
-use crate::joined::{Joined, Kind, segment_tag};
+use crate::joined::{Joined, SegmentKind, segment_tag};
 use crate::parts::{read_contents_place, read_opening};
 use crate::short::short_primitive;
 use smallvec::SmallVec;
@@ -69,7 +69,7 @@ impl Segments {
     /// after these complete the string, and with `NoMemory`: what is joined takes memory, and so do more than
     /// eight open encodings.
     #[inline(always)]
-    pub fn pass(&mut self, kind: Kind, octets: &[u8]) -> Result<usize, Refusal>
+    pub fn pass(&mut self, kind: SegmentKind, octets: &[u8]) -> Result<usize, Refusal>
         requires open { self.old.frames.items ≢ [] }
         requires sound { IsSound kind self.old }
         ensures taken { IfOk result (λ used. IsTaken kind self.old self.new octets.now used) }
@@ -99,7 +99,7 @@ impl Segments {
     // Takes what stands next in the innermost open encoding, and returns how many octets it has: its
     // end, a primitive segment, or the identifier octets and length octets of a constructed one.
     #[inline(always)]
-    fn step(&mut self, kind: Kind, frame: Frame, octets: &[u8]) -> Result<usize, Refusal>
+    fn step(&mut self, kind: SegmentKind, frame: Frame, octets: &[u8]) -> Result<usize, Refusal>
         requires top { IsTop frame self.old.frames.items }
         requires sound { IsSound kind self.old }
         ensures passed { IfOk result (Passes kind self.old self.new octets.now) }
@@ -119,7 +119,7 @@ impl Segments {
 
     // Takes a primitive segment, or the beginning of a constructed one.
     #[inline(always)]
-    fn segment(&mut self, kind: Kind, frame: Frame, octets: &[u8]) -> Result<usize, Refusal>
+    fn segment(&mut self, kind: SegmentKind, frame: Frame, octets: &[u8]) -> Result<usize, Refusal>
         requires top { IsTop frame self.old.frames.items }
         requires sound { IsSound kind self.old }
         requires no_end { (more : List ℕ) →
@@ -145,7 +145,7 @@ impl Segments {
 
     // How many octets the primitive segment at the front has, if two octets stand before its contents octets.
     #[inline(always)]
-    fn short(&self, kind: Kind, frame: Frame, octets: &[u8]) -> Option<usize>
+    fn short(&self, kind: SegmentKind, frame: Frame, octets: &[u8]) -> Option<usize>
         ensures { IfSome result (IsShortSegment kind self.now frame octets.now) }
     {
         if self.joined.unused > 0 {
@@ -157,7 +157,7 @@ impl Segments {
 
     // Takes the short primitive segments that follow one another at the front, and returns how many octets they have.
     // One that is refused, or for which there is no memory, is left to the call that finds it first, which says why.
-    fn join_run(&mut self, kind: Kind, frame: Frame, octets: &[u8]) -> usize
+    fn join_run(&mut self, kind: SegmentKind, frame: Frame, octets: &[u8]) -> usize
         requires top { IsTop frame self.old.frames.items }
         requires sound { IsSound kind self.old }
         ensures run { IsRun kind self.old self.new octets.now result }
@@ -179,7 +179,7 @@ impl Segments {
     #[inline(always)]
     fn join(
         &mut self,
-        kind: Kind,
+        kind: SegmentKind,
         frame: Frame,
         octets: &[u8],
         contents: &[u8],
@@ -197,7 +197,7 @@ impl Segments {
     // Takes the length octets of a constructed segment, and opens it.
     fn constructed(
         &mut self,
-        kind: Kind,
+        kind: SegmentKind,
         frame: Frame,
         identifier: usize,
         octets: &[u8],

@@ -6,7 +6,7 @@ use Rattle.types.specs.Conforms.{Conforms}
 use Rattle.types.specs.Leaf.{tag_of}
 use Rattle.types.specs.Shape.{Shape}
 use Rattle.types.specs.View.{value_view}
-use Rattle.encoding_parts.specs.declared.joined.Kind.{Kind}
+use Rattle.encoding_parts.specs.declared.joined.SegmentKind.{SegmentKind}
 use Rattle.encoding_parts.specs.declared.joined.Joined.{Joined}
 use Rattle.encoding_parts.specs.Joined.{Element, IsStringOf, string_of}
 use Rattle.strict.specs.declared.head.Inside.{Inside}
@@ -19,7 +19,7 @@ use Rattle.strict.proofs.LeafLemmas.{constructed_of_cut, cut_encodes}
 use Rattle.strict.proofs.SegmentLemmas.{nothing_held, none_at_end}
 
 -- what can stand inside
-pub segments_inside : (kind : Kind) (type : Shape) (room : ℕ) (octets more : List ℕ) (inside : Inside) → IsOpened cer (tag_of type) room octets inside → inside.definite ≡ false → (h : HasCut kind type room (octets ++ more))
+pub segments_inside : (kind : SegmentKind) (type : Shape) (room : ℕ) (octets more : List ℕ) (inside : Inside) → IsOpened cer (tag_of type) room octets inside → inside.definite ≡ false → (h : HasCut kind type room (octets ++ more))
     → HasSegments kind true inside.room h.encoding.string (drop inside.start octets ++ more)
 segments_inside kind type room octets more inside o form h =
     let segments = h.encoding.cut.segments_octets in
@@ -27,7 +27,7 @@ segments_inside kind type room octets more inside o form h =
     record { segments = segments; rest = h.rest; follow = inr (refl, h.encoding.cut.segments); fits = only.0.within; parts = only.1 ∙ ap (λ d. segments ++ (mark d ++ h.rest)) form }
 
 -- the string that was read is the one that can stand there
-pub string_is : (kind : Kind) (type : Shape) (room : ℕ) (octets more : List ℕ) (inside : Inside) (string : List (Element kind)) (used : ℕ) → IsOpened cer (tag_of type) room octets inside → inside.definite ≡ false → AreSegmentsKnown kind inside.room (drop inside.start octets) string used
+pub string_is : (kind : SegmentKind) (type : Shape) (room : ℕ) (octets more : List ℕ) (inside : Inside) (string : List (Element kind)) (used : ℕ) → IsOpened cer (tag_of type) room octets inside → inside.definite ≡ false → AreSegmentsKnown kind inside.room (drop inside.start octets) string used
     → (h : HasCut kind type room (octets ++ more)) → h.encoding.string ≡ string
 string_is kind type room octets more inside string used o form known h =
     let inner = drop inside.start octets in
@@ -37,14 +37,14 @@ string_is kind type room octets more inside string used o form known h =
     g.1 ∙ (ap (λ o. string ++ o) none ∙ append-nil string)
 
 -- all segments
-segments_of : (kind : Kind) (string : List (Element kind)) (octets : List ℕ) → ((contents : List ℕ) → HoldsSegment kind string contents → 1000 < length contents) → CanFollow kind true string octets → AreSegmentsOf kind string octets
+segments_of : (kind : SegmentKind) (string : List (Element kind)) (octets : List ℕ) → ((contents : List ℕ) → HoldsSegment kind string contents → 1000 < length contents) → CanFollow kind true string octets → AreSegmentsOf kind string octets
 segments_of kind string octets long (inl none) =
     let c = nothing_held kind in
     absurd (omega (arith, long c.0 (subst (λ s. HoldsSegment kind s c.0) (sym none.0) c.1), c.2))
 segments_of kind string octets long (inr some) = some.1
 
 -- a string that is cut was read
-pub cut_read : (kind : Kind) (type : Shape) (room : ℕ) (octets : List ℕ) (inside : Inside) (joined : Joined) (value : Value) (used whole : ℕ) → IsStringOf kind type → IsOpened cer (tag_of type) room octets inside → inside.definite ≡ false
+pub cut_read : (kind : SegmentKind) (type : Shape) (room : ℕ) (octets : List ℕ) (inside : Inside) (joined : Joined) (value : Value) (used whole : ℕ) → IsStringOf kind type → IsOpened cer (tag_of type) room octets inside → inside.definite ≡ false
     → AreSegmentsKnown kind inside.room (drop inside.start octets) (string_of kind joined) used → IsLong kind joined → value_view value ≡ value_is type kind (string_of kind joined) → Conforms type (value_view value) → whole ≡ inside.start + used + length (mark inside.definite)
     → IsRead cer type room octets value whole
 cut_read kind type room octets inside joined value used whole of o form known long is conforms size =

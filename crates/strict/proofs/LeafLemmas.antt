@@ -14,8 +14,8 @@ use Rattle.types.specs.Strings.{bit_segment, IsWholeOctets, IsCut}
 use Rattle.primitives.specs.Bits.{IsBits}
 use Rattle.types.proofs.CanonicalLemmas.{primitive_by_cer, primitive_by_der}
 use Rattle.types.proofs.CerLemmas.{bits_by_cer, bits_by_der, contents_by_cer, contents_by_der}
-use Rattle.encoding_parts.specs.declared.joined.Kind.{Kind}
-use Rattle.encoding_parts.specs.declared.joined.Kind.TheVariants.{Bits, Octets}
+use Rattle.encoding_parts.specs.declared.joined.SegmentKind.{SegmentKind}
+use Rattle.encoding_parts.specs.declared.joined.SegmentKind.TheVariants.{Bits, Octets}
 use Rattle.encoding_parts.specs.Head.{IsTagWithin}
 use Rattle.encoding_parts.specs.Joined.{IsStringOf}
 use Rattle.encoding_parts.proofs.LeafLemmas.{simple_contents, contents_of_simple}
@@ -28,7 +28,7 @@ use Rattle.strict.proofs.InsideLemmas.{tag_of_indefinite, form_of_indefinite}
 -- CER alone cuts, and strings alone
 pub record IsCutBy (rule : Canonical) (type : Shape) (v : Val) (octets : List ℕ) : Type 0 where
   pub by : rule ≡ Cer
-  pub kind : Kind
+  pub kind : SegmentKind
   pub of : IsStringOf kind type
   pub leaf : IsCutLeaf kind type v octets
 
@@ -201,7 +201,7 @@ primitive_encodes Cer (Shape.string tag (StringType.time kind)) v octets leaf h 
 primitive_encodes rule type v octets leaf h = absurd leaf
 
 -- and so is one that is cut
-pub cut_encodes : (kind : Kind) (type : Shape) (v : Val) (octets : List ℕ) → IsStringOf kind type → IsCutLeaf kind type v octets → IsEncoding cer type v octets
+pub cut_encodes : (kind : SegmentKind) (type : Shape) (v : Val) (octets : List ℕ) → IsStringOf kind type → IsCutLeaf kind type v octets → IsEncoding cer type v octets
 cut_encodes Bits (Shape.string tag StringType.bit_string) v octets of h = record { bits = h.string; is = h.is; string = inr h.cut }
 cut_encodes Bits (Shape.string tag (StringType.named_bits names)) v octets of h = record {
   bits = h.string;
@@ -222,7 +222,7 @@ cut_encodes Octets (Shape.string tag (StringType.named_bits names)) v octets of 
 cut_encodes kind type v octets of h = absurd of.string
 
 -- what stands before the contents octets of one that is cut
-abbrev pub constructed_of_cut : (kind : Kind) (type : Shape) (room : ℕ) (octets : List ℕ) → HasCut kind type room octets → HasConstructed cer (tag_of type) room octets
+abbrev pub constructed_of_cut : (kind : SegmentKind) (type : Shape) (room : ℕ) (octets : List ℕ) → HasCut kind type room octets → HasConstructed cer (tag_of type) room octets
 constructed_of_cut kind type room octets h = record { contents = h.encoding.cut.segments_octets; part = h.part; rest = h.rest; whole = h.encoding.cut.constructed; fits = h.fits; parts = h.parts }
 
 abbrev pub definite_of_primitive : (rule : Canonical) (type : Shape) (room : ℕ) (octets : List ℕ) → HasPrimitive rule type room octets → HasDefinite (tag_of type) false room octets
@@ -231,7 +231,7 @@ definite_of_primitive rule type room octets h = record { contents = h.encoding.c
 -- what can stand at the front by its form
 pub record HasCutBy (rule : Canonical) (type : Shape) (room : ℕ) (octets : List ℕ) : Type 0 where
   pub by : rule ≡ Cer
-  pub kind : Kind
+  pub kind : SegmentKind
   pub of : IsStringOf kind type
   pub cut : HasCut kind type room octets
 
@@ -248,7 +248,7 @@ tag_of_part rule type room octets leaf h = elim (part_by_form rule type room oct
   | inr c ↦ tag_of_indefinite (tag_of type) room octets (constructed_of_cut c.kind type room octets c.cut)
 ]
 
-form_of_cut : (kind : Kind) (type : Shape) (f : Bool) (room i : ℕ) (octets more : List ℕ) → IsIdentifier (tag_of type) f (take i octets) → HasCut kind type room (octets ++ more) → f ≡ true
+form_of_cut : (kind : SegmentKind) (type : Shape) (f : Bool) (room i : ℕ) (octets more : List ℕ) → IsIdentifier (tag_of type) f (take i octets) → HasCut kind type room (octets ++ more) → f ≡ true
 form_of_cut kind type f room i octets more id h = form_of_indefinite (tag_of type) f room i octets more id (constructed_of_cut kind type room (octets ++ more) h)
 
 form_of_primitive : (rule : Canonical) (type : Shape) (f : Bool) (room i : ℕ) (octets more : List ℕ) → IsIdentifier (tag_of type) f (take i octets) → HasPrimitive rule type room (octets ++ more) → f ≡ false

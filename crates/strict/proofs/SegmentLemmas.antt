@@ -10,8 +10,8 @@ use Rattle.types.proofs.BitsExistenceLemmas.{bits_contents}
 use Rattle.types.proofs.CanonicalLemmas.{primitive_by_ber, primitive_by_cer, primitive_by_der}
 use Rattle.types.proofs.CerLemmas.{bits_count}
 use Rattle.types.proofs.NestingLemmas.{IsAboveZero, definite_above, not_end}
-use Rattle.encoding_parts.specs.declared.joined.Kind.{Kind}
-use Rattle.encoding_parts.specs.declared.joined.Kind.TheVariants.{Bits, Octets}
+use Rattle.encoding_parts.specs.declared.joined.SegmentKind.{SegmentKind}
+use Rattle.encoding_parts.specs.declared.joined.SegmentKind.TheVariants.{Bits, Octets}
 use Rattle.encoding_parts.specs.Joined.{Element, segment_of, IsWholePiece}
 use Rattle.encoding_parts.specs.Segments.{BeginsAboveZero}
 use Rattle.encoding_parts.proofs.JoinedLemmas.{kept_segment}
@@ -20,21 +20,21 @@ use Rattle.strict.specs.Leaf.{HoldsSegment, IsPlace}
 use Rattle.strict.specs.Segments.{AreSegmentsOf, CanFollow, HasSegments, GoOn, AreSegmentsRead, IsSegmentRead}
 
 -- a segment holds one piece
-one_held : (kind : Kind) (p q : List (Element kind)) (contents : List ℕ) → HoldsSegment kind p contents → HoldsSegment kind q contents → p ≡ q
+one_held : (kind : SegmentKind) (p q : List (Element kind)) (contents : List ℕ) → HoldsSegment kind p contents → HoldsSegment kind q contents → p ≡ q
 one_held Bits p q contents h k = one_bits_value cer cer p q contents h k
 one_held Octets p q contents h k = sym h ∙ k
 
-full_some : (kind : Kind) (piece : List (Element kind)) (contents : List ℕ) → HoldsSegment kind piece contents → length contents ≡ segment_octets → piece ≢ []
+full_some : (kind : SegmentKind) (piece : List (Element kind)) (contents : List ℕ) → HoldsSegment kind piece contents → length contents ≡ segment_octets → piece ≢ []
 full_some Bits piece contents h full = λ none. absurd (omega (arith, bits_count cer piece contents h, h.at_most_7, full, ap length none))
 full_some Octets piece contents h full = λ none. absurd (omega (arith, ap length h, full, ap length none))
 
 -- of no bit or octet there is a segment, but one that is too short
-pub nothing_held : (kind : Kind) → (contents : List ℕ) × HoldsSegment kind [] contents × (length contents ≤ 1)
+pub nothing_held : (kind : SegmentKind) → (contents : List ℕ) × HoldsSegment kind [] contents × (length contents ≤ 1)
 nothing_held Bits = let c = bits_contents cer [] in (c.0, c.1, omega (arith, bits_count cer [] c.0 c.1, c.1.at_most_7))
 nothing_held Octets = ([], refl, omega arith)
 
 -- some segments by the first one
-record AreFirst (kind : Kind) (total : List (Element kind)) (segments : List ℕ) : Type 0 where
+record AreFirst (kind : SegmentKind) (total : List (Element kind)) (segments : List ℕ) : Type 0 where
   pub piece : List (Element kind)
   pub others : List (Element kind)
   pub contents : List ℕ
@@ -48,7 +48,7 @@ record AreFirst (kind : Kind) (total : List (Element kind)) (segments : List ℕ
   pub total_is : total ≡ piece ++ others
   pub segments_are : segments ≡ part ++ later
 
-first_of : (kind : Kind) (total : List (Element kind)) (segments : List ℕ) → AreSegmentsOf kind total segments → AreFirst kind total segments
+first_of : (kind : SegmentKind) (total : List (Element kind)) (segments : List ℕ) → AreSegmentsOf kind total segments → AreFirst kind total segments
 first_of kind total segments (AreCerSegments.last piece contents segment holds some short p) = record {
   piece = piece;
   others = [];
@@ -79,21 +79,21 @@ first_of kind total segments (AreCerSegments.more {others = others} {rest = rest
 }
 
 -- segments begin above zero
-segments_above : (kind : Kind) (total : List (Element kind)) (segments : List ℕ) → AreSegmentsOf kind total segments → IsAboveZero segments
+segments_above : (kind : SegmentKind) (total : List (Element kind)) (segments : List ℕ) → AreSegmentsOf kind total segments → IsAboveZero segments
 segments_above kind total segments h =
     let f = first_of kind total segments h in
     let above = definite_above (segment_of kind) false f.contents f.part (kept_segment kind) (primitive_by_ber cer (segment_of kind) f.contents f.part f.primitive) in
     record { first = above.first; others = above.others ++ f.later; above = above.above; is = f.segments_are ∙ ap (λ x. x ++ f.later) above.is }
 
 -- so none stand at the end
-pub none_at_end : (kind : Kind) (full : Bool) (room : ℕ) (total : List (Element kind)) (octets rest : List ℕ) → octets ≡ 0 ∷ 0 ∷ rest → HasSegments kind full room total octets → total ≡ []
+pub none_at_end : (kind : SegmentKind) (full : Bool) (room : ℕ) (total : List (Element kind)) (octets rest : List ℕ) → octets ≡ 0 ∷ 0 ∷ rest → HasSegments kind full room total octets → total ≡ []
 none_at_end kind full room total octets rest ends h = elim h.follow [
   | inl none ↦ none.0
   | inr some ↦ absurd (not_end h.segments (0 ∷ 0 ∷ h.rest) (0 ∷ 0 ∷ rest) (segments_above kind total h.segments some.1) refl (sym ends ∙ h.parts))
 ]
 
 -- what stands at the front where the end does not
-pub record HasFirst (kind : Kind) (room : ℕ) (total : List (Element kind)) (octets : List ℕ) : Type 0 where
+pub record HasFirst (kind : SegmentKind) (room : ℕ) (total : List (Element kind)) (octets : List ℕ) : Type 0 where
   pub piece : List (Element kind)
   pub others : List (Element kind)
   pub contents : List ℕ
@@ -109,7 +109,7 @@ pub record HasFirst (kind : Kind) (room : ℕ) (total : List (Element kind)) (oc
   pub fits : length part + length later ≤ room
   pub parts : octets ≡ part ++ (later ++ (0 ∷ 0 ∷ rest))
 
-pub first_segment : (kind : Kind) (full : Bool) (room : ℕ) (total : List (Element kind)) (octets : List ℕ) → (EndsHere false room octets → ⊥) → HasSegments kind full room total octets → (full ≡ true) × HasFirst kind room total octets
+pub first_segment : (kind : SegmentKind) (full : Bool) (room : ℕ) (total : List (Element kind)) (octets : List ℕ) → (EndsHere false room octets → ⊥) → HasSegments kind full room total octets → (full ≡ true) × HasFirst kind room total octets
 first_segment kind full room total octets no_end h = elim h.follow [
   | inl none ↦ absurd (no_end (h.rest, h.parts ∙ ap (λ x. x ++ (0 ∷ 0 ∷ h.rest)) none.1))
   | inr some ↦
@@ -135,12 +135,12 @@ first_segment kind full room total octets no_end h = elim h.follow [
 ]
 
 -- it is a primitive encoding
-abbrev pub definite_of_first : (kind : Kind) (room : ℕ) (total : List (Element kind)) (octets : List ℕ) → HasFirst kind room total octets → HasDefinite (segment_of kind) false room octets
+abbrev pub definite_of_first : (kind : SegmentKind) (room : ℕ) (total : List (Element kind)) (octets : List ℕ) → HasFirst kind room total octets → HasDefinite (segment_of kind) false room octets
 definite_of_first kind room total octets f =
     record { contents = f.contents; part = f.part; rest = f.later ++ (0 ∷ 0 ∷ f.rest); whole = primitive_by_der (segment_of kind) f.contents f.part f.primitive; fits = omega (arith, f.fits); parts = f.parts }
 
 -- behind the segment that was read go on those that stand behind the first
-goes_on : (kind : Kind) (room start stop : ℕ) (octets : List ℕ) (piece : List (Element kind)) (full : Bool) → ((more : List ℕ) → EndsHere false room (octets ++ more) → ⊥) → IsPlace (segment_of kind) room octets start stop → HoldsSegment kind piece (slice_range octets start stop)
+goes_on : (kind : SegmentKind) (room start stop : ℕ) (octets : List ℕ) (piece : List (Element kind)) (full : Bool) → ((more : List ℕ) → EndsHere false room (octets ++ more) → ⊥) → IsPlace (segment_of kind) room octets start stop → HoldsSegment kind piece (slice_range octets start stop)
     → ((length (slice_range octets start stop) ≡ segment_octets) × IsWholePiece kind piece → full ≡ true) → GoOn kind true room octets piece full stop
 goes_on kind room start stop octets piece full no_end place holds exact = λ more total h.
     let f = (first_segment kind true room total (octets ++ more) (no_end more) h).1 in
@@ -156,7 +156,7 @@ goes_on kind room start stop octets piece full no_end place holds exact = λ mor
     (f.others, f.total_is ∙ ap (λ p. p ++ f.others) same, record { segments = f.later; rest = f.rest; follow = follow; fits = omega (arith, f.fits, size); parts = only.1 })
 
 -- a segment that was read
-pub segment_read : (kind : Kind) (room start stop : ℕ) (octets : List ℕ) (piece : List (Element kind)) (full : Bool) → ((more : List ℕ) → EndsHere false room (octets ++ more) → ⊥) → IsPlace (segment_of kind) room octets start stop → stop ≤ start + 1000
+pub segment_read : (kind : SegmentKind) (room start stop : ℕ) (octets : List ℕ) (piece : List (Element kind)) (full : Bool) → ((more : List ℕ) → EndsHere false room (octets ++ more) → ⊥) → IsPlace (segment_of kind) room octets start stop → stop ≤ start + 1000
     → HoldsSegment kind piece (slice_range octets start stop) → piece ≢ [] → (full ≡ true) ↔ ((stop - start ≡ 1000) × IsWholePiece kind piece) → IsSegmentRead kind room octets piece full stop
 segment_read kind room start stop octets piece full no_end place short holds some exact =
     let contents = slice_range octets start stop in
@@ -174,7 +174,7 @@ segment_read kind room start stop octets piece full no_end place short holds som
     }
 
 -- no segment
-pub none_read : (kind : Kind) (room : ℕ) (octets : List ℕ) → AreSegmentsRead kind room octets [] true 0
+pub none_read : (kind : SegmentKind) (room : ℕ) (octets : List ℕ) → AreSegmentsRead kind room octets [] true 0
 none_read kind room octets = record {
   there = omega arith;
   within = omega arith;
@@ -183,7 +183,7 @@ none_read kind room octets = record {
 }
 
 -- the segment and those behind it
-behind_it : (kind : Kind) (room : ℕ) (octets : List ℕ) (piece : List (Element kind)) (full : Bool) (used : ℕ) → IsSegmentRead kind room octets piece full used → (others : List (Element kind)) (later : List ℕ) → CanFollow kind full others later
+behind_it : (kind : SegmentKind) (room : ℕ) (octets : List ℕ) (piece : List (Element kind)) (full : Bool) (used : ℕ) → IsSegmentRead kind room octets piece full used → (others : List (Element kind)) (later : List ℕ) → CanFollow kind full others later
     → AreSegmentsOf kind (piece ++ others) (take used octets ++ later)
 behind_it kind room octets piece full used h others later (inl none) =
     let segment = take used octets in
@@ -195,7 +195,7 @@ behind_it kind room octets piece full used h others later (inr some) =
     AreCerSegments.more piece h.contents (take used octets) h.holds exact.1 exact.0 h.primitive some.1
 
 -- one more segment
-pub more_read : (kind : Kind) (room at used : ℕ) (octets : List ℕ) (string piece : List (Element kind)) (full : Bool) → AreSegmentsRead kind room octets string true at → IsSegmentRead kind (room - at) (drop at octets) piece full used → AreSegmentsRead kind room octets (string ++ piece) full (at + used)
+pub more_read : (kind : SegmentKind) (room at used : ℕ) (octets : List ℕ) (string piece : List (Element kind)) (full : Bool) → AreSegmentsRead kind room octets string true at → IsSegmentRead kind (room - at) (drop at octets) piece full used → AreSegmentsRead kind room octets (string ++ piece) full (at + used)
 more_read kind room at used octets string piece full read one = record {
   there = omega (arith, read.there, one.there, length-drop at octets);
   within = omega (arith, read.within, one.within);
@@ -213,12 +213,12 @@ more_read kind room at used octets string piece full read one = record {
 }
 
 -- what stands at the place of the first segment
-pub record StandsAt (kind : Kind) (contents : List ℕ) : Type 0 where
+pub record StandsAt (kind : SegmentKind) (contents : List ℕ) : Type 0 where
   pub piece : List (Element kind)
   pub holds : HoldsSegment kind piece contents
   pub some : piece ≢ []
 
-pub stands_at : (kind : Kind) (full : Bool) (room start stop : ℕ) (octets more : List ℕ) (total : List (Element kind)) → ((more : List ℕ) → EndsHere false room (octets ++ more) → ⊥) → IsPlace (segment_of kind) room octets start stop → HasSegments kind full room total (octets ++ more)
+pub stands_at : (kind : SegmentKind) (full : Bool) (room start stop : ℕ) (octets more : List ℕ) (total : List (Element kind)) → ((more : List ℕ) → EndsHere false room (octets ++ more) → ⊥) → IsPlace (segment_of kind) room octets start stop → HasSegments kind full room total (octets ++ more)
     → StandsAt kind (slice_range octets start stop)
 stands_at kind full room start stop octets more total no_end place h =
     let f = (first_segment kind full room total (octets ++ more) (no_end more) h).1 in
@@ -226,13 +226,13 @@ stands_at kind full room start stop octets more total no_end place h =
     record { piece = f.piece; holds = subst (HoldsSegment kind f.piece) only.0 f.holds; some = f.some }
 
 -- a segment has octets
-pub some_octets : (kind : Kind) (room : ℕ) (octets : List ℕ) (piece : List (Element kind)) (full : Bool) (used : ℕ) → IsSegmentRead kind room octets piece full used → 1 ≤ used
+pub some_octets : (kind : SegmentKind) (room : ℕ) (octets : List ℕ) (piece : List (Element kind)) (full : Bool) (used : ℕ) → IsSegmentRead kind room octets piece full used → 1 ≤ used
 some_octets kind room octets piece full used h =
     let above = definite_above (segment_of kind) false h.contents (take used octets) (kept_segment kind) (primitive_by_ber cer (segment_of kind) h.contents (take used octets) h.primitive) in
     omega (arith, ap length above.is, length-take-le used octets h.there)
 
 -- the end stands at the front, or an octet above zero
-pub segments_or_end : (kind : Kind) (full : Bool) (room : ℕ) (total : List (Element kind)) (octets : List ℕ) → HasSegments kind full room total octets → EndsHere false room octets ⊎ BeginsAboveZero octets
+pub segments_or_end : (kind : SegmentKind) (full : Bool) (room : ℕ) (total : List (Element kind)) (octets : List ℕ) → HasSegments kind full room total octets → EndsHere false room octets ⊎ BeginsAboveZero octets
 segments_or_end kind full room total octets h = elim h.follow [
   | inl none ↦ inl (h.rest, h.parts ∙ ap (λ x. x ++ (0 ∷ 0 ∷ h.rest)) none.1)
   | inr some ↦

@@ -13,8 +13,8 @@ use Rattle.types.specs.Form.{IsDefinite}
 use Rattle.types.specs.Leaf.{tag_of}
 use Rattle.types.specs.Shape.{StringType, SimpleValue, StringValue, Shape, Val}
 use Rattle.types.specs.Strings.{segment_octets, AreOctets, IsCut}
-use Rattle.encoding_parts.specs.declared.joined.Kind.{Kind}
-use Rattle.encoding_parts.specs.declared.joined.Kind.TheVariants.{Bits, Octets}
+use Rattle.encoding_parts.specs.declared.joined.SegmentKind.{SegmentKind}
+use Rattle.encoding_parts.specs.declared.joined.SegmentKind.TheVariants.{Bits, Octets}
 use Rattle.encoding_parts.specs.Contents.{HoldsContents}
 use Rattle.encoding_parts.specs.Joined.{Element, segment_of, IsWholePiece, typed}
 use Rattle.strict.specs.Head.{HasDefinite}
@@ -38,24 +38,24 @@ abbrev pub HasPrimitive : Canonical → Shape → ℕ → List ℕ → Type 0
 HasPrimitive rule type = BeginsWith (IsPrimitiveLeaf rule type)
 
 -- the contents octets of a segment hold this piece of the string
-abbrev pub HoldsSegment : (kind : Kind) → List (Element kind) → List ℕ → Type 0
+abbrev pub HoldsSegment : (kind : SegmentKind) → List (Element kind) → List ℕ → Type 0
 HoldsSegment Bits piece contents = IsBits cer piece contents
 HoldsSegment Octets piece contents = AreOctets piece contents
 
 -- the value of the type that is the string: of bits all of them
-abbrev pub value_is : Shape → (kind : Kind) → List (Element kind) → Val
+abbrev pub value_is : Shape → (kind : SegmentKind) → List (Element kind) → Val
 value_is type Bits string = Val.string (StringValue.bits string)
 value_is type Octets string = typed type Octets string
 
 -- an encoding that is cut
-pub record IsCutLeaf (kind : Kind) (type : Shape) (v : Val) (octets : List ℕ) : Type 0 where
+pub record IsCutLeaf (kind : SegmentKind) (type : Shape) (v : Val) (octets : List ℕ) : Type 0 where
   pub string : List (Element kind)
   pub is : v ≡ value_is type kind string
   pub conforms : Conforms type v
   pub cut : IsCut (tag_of type) (segment_of kind) (HoldsSegment kind) (IsWholePiece kind) string octets
 
 -- the octets begin with one
-abbrev pub HasCut : Kind → Shape → ℕ → List ℕ → Type 0
+abbrev pub HasCut : SegmentKind → Shape → ℕ → List ℕ → Type 0
 HasCut kind type = BeginsWith (IsCutLeaf kind type)
 
 -- between these places stand the contents octets of a primitive encoding, of which the octets begin with no other

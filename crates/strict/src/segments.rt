@@ -20,7 +20,7 @@ ghost use Rattle.strict.specs.Begun.{IsConstructedCut};
 use crate::ends::ends;
 use crate::head::{indefinite, is_shortest, read_size};
 use crate::values::{bits_value, has_zeros_unused};
-use encoding_parts::{Joined, Kind, read_tag, segment_tag};
+use encoding_parts::{Joined, SegmentKind, read_tag, segment_tag};
 use octets::Tag;
 use primitives::Bits;
 use std::alloc::Global;
@@ -31,7 +31,7 @@ use types::{Refusal, SEGMENT_OCTETS, Ty, Value};
 #[inline(never)]
 pub fn read_cut(
     alloc: Global,
-    kind: Kind,
+    kind: SegmentKind,
     ty: &Ty,
     tag: Tag,
     room: usize,
@@ -57,7 +57,7 @@ pub fn read_cut(
 
 // Joins the segments up to the end, and returns how many octets they have.
 fn read_segments(
-    kind: Kind,
+    kind: SegmentKind,
     room: usize,
     octets: &[u8],
     joined: &mut Joined,
@@ -82,7 +82,7 @@ fn read_segments(
 // Joins the segment at the front, where one may stand, and returns how many octets it has, and whether others may stand
 // behind it.
 fn read_segment(
-    kind: Kind,
+    kind: SegmentKind,
     full: bool,
     room: usize,
     octets: &[u8],
@@ -108,7 +108,7 @@ fn read_segment(
 
 // Where its contents octets begin and end, with so many unused bits before it.
 fn read_segment_place(
-    kind: Kind,
+    kind: SegmentKind,
     full: bool,
     unused: u8,
     room: usize,
@@ -148,31 +148,31 @@ fn is_full(size: usize, unused: u8) -> bool
 }
 
 // Whether the contents octets of a piece are those of a segment: it has a bit or an octet, and unused bits are 0.
-fn is_spelt(kind: Kind, contents: &[u8]) -> bool
+fn is_spelt(kind: SegmentKind, contents: &[u8]) -> bool
     requires { (piece : List (Element kind)) × HoldsPiece kind piece contents.now }
     ensures { (piece : List (Element kind)) → HoldsPiece kind piece contents.now →
         IsTrue result ↔ (HoldsSegment kind piece contents.now × (piece ≢ [])) }
 {
     match kind {
-        Kind::Bits => contents.len() > 1 && has_zeros_unused(contents),
-        Kind::Octets => contents.len() > 0,
+        SegmentKind::Bits => contents.len() > 1 && has_zeros_unused(contents),
+        SegmentKind::Octets => contents.len() > 0,
     }
 }
 
 // Whether the string is too long for one segment.
-fn is_long(kind: Kind, joined: &Joined) -> bool
+fn is_long(kind: SegmentKind, joined: &Joined) -> bool
     requires { IsHeld kind joined.now }
     ensures long { IsTrue result → IsLong kind joined.now }
     ensures short { result ≡ false → ¬ IsLong kind joined.now }
 {
     match kind {
-        Kind::Bits => joined.octets.len() >= SEGMENT_OCTETS,
-        Kind::Octets => joined.octets.len() > SEGMENT_OCTETS,
+        SegmentKind::Bits => joined.octets.len() >= SEGMENT_OCTETS,
+        SegmentKind::Octets => joined.octets.len() > SEGMENT_OCTETS,
     }
 }
 
 // The value of the type that the string is.
-fn value_of(kind: Kind, ty: &Ty, joined: Joined) -> Result<Value, Refusal>
+fn value_of(kind: SegmentKind, ty: &Ty, joined: Joined) -> Result<Value, Refusal>
     requires string { IsStringOf kind (ty_view ty.now) }
     requires held { IsHeld kind joined }
     ensures value { IfOk result (λ value. (value_view value ≡ value_is (ty_view ty.now) kind (string_of kind joined))
@@ -182,10 +182,10 @@ fn value_of(kind: Kind, ty: &Ty, joined: Joined) -> Result<Value, Refusal>
     ensures numbers { IfErr result IsOfSpelling }
 {
     match kind {
-        Kind::Bits => match Bits::new(joined.octets, joined.unused) {
+        SegmentKind::Bits => match Bits::new(joined.octets, joined.unused) {
             Some(bits) => bits_value(ty, bits),
             None => Err(Refusal::Contents),
         },
-        Kind::Octets => joined.into_value(ty),
+        SegmentKind::Octets => joined.into_value(ty),
     }
 }

@@ -3,7 +3,7 @@
 use crate::open::{Due, Held};
 use crate::places::place_behind;
 use crate::{Part, Reason, Step, Stopped, Walk};
-use encoding_parts::{Kind, begins, by_tag, is_node, node_of, not_due, segment_tag};
+use encoding_parts::{SegmentKind, begins, by_tag, is_node, node_of, not_due, segment_tag};
 use octets::Tag;
 use types::{Refusal, Ty, Value};
 
@@ -33,7 +33,7 @@ impl<'a> Walk<'a> {
     // Tells the segment of the string that begins with the tag. It has no default.
     fn due_segment(
         &mut self,
-        kind: Kind,
+        kind: SegmentKind,
         string: &'a Ty,
         tag: Tag,
     ) -> Result<Option<&'a Value>, Stopped> {
@@ -136,7 +136,11 @@ fn segment_of(string: &Ty, tag: Tag) -> Part<'_> {
 }
 
 // Why an identifier is refused where a segment must stand.
-fn segment_refused(kind: Kind, tag: Tag, is_bits_end: bool) -> Option<(Refusal, &'static str)> {
+fn segment_refused(
+    kind: SegmentKind,
+    tag: Tag,
+    is_bits_end: bool,
+) -> Option<(Refusal, &'static str)> {
     if tag == Tag::universal(0) {
         return Some((
             Refusal::EndOfContents,
@@ -145,8 +149,8 @@ fn segment_refused(kind: Kind, tag: Tag, is_bits_end: bool) -> Option<(Refusal, 
     }
     if tag != segment_tag(kind) {
         let words = match kind {
-            Kind::Bits => "a segment of a BIT STRING, [UNIVERSAL 3], must stand here",
-            Kind::Octets => "a segment, [UNIVERSAL 4], must stand here",
+            SegmentKind::Bits => "a segment of a BIT STRING, [UNIVERSAL 3], must stand here",
+            SegmentKind::Octets => "a segment, [UNIVERSAL 4], must stand here",
         };
         return Some((Refusal::Identifier, words));
     }

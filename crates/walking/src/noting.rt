@@ -5,7 +5,7 @@ use crate::opening::Opening;
 use crate::walk::behind;
 use crate::{Note, Notes, Walk};
 use cutting::Ends;
-use encoding_parts::{Kind, kind_of};
+use encoding_parts::{SegmentKind, kind_of};
 use judging::order_tag;
 use octets::{Canonical, Tag};
 use types::Ty;
@@ -142,7 +142,7 @@ fn fewest_length_octets(size: usize) -> usize {
 // Whether CER gives a segment another size (X.690 9.2).
 fn cer_size_note(node: &Ty, is_first: bool, is_last: bool, size: usize) -> Option<Note> {
     let least = match kind_of(node) {
-        Some(Kind::Bits) => 2,
+        Some(SegmentKind::Bits) => 2,
         _ => 1,
     };
     if is_first && is_last {

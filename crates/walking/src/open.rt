@@ -1,7 +1,7 @@
 //! The open encodings of a walk.
 
 use crate::{Part, Step};
-use encoding_parts::{Frame, Kind, SetComponents, empty_slots, kind_of, next_due, only_due};
+use encoding_parts::{Frame, SegmentKind, SetComponents, empty_slots, kind_of, next_due, only_due};
 use octets::{NoMemory, Tag};
 use std::alloc::Global;
 use types::{Field, Presence, Refusal, Ty, Value, may_be_absent};
@@ -39,7 +39,7 @@ pub enum Held<'a> {
     /// The components of a SET.
     Set(SetComponents<'a>),
     /// Segments of a string.
-    Segments(Kind),
+    Segments(SegmentKind),
 }
 
 /// The part that comes next, its default and its type.

@@ -4,7 +4,7 @@ use crate::open::{Held, Open};
 use crate::opening::Opening;
 use crate::walk::behind;
 use crate::{Note, Notes, Reason, Stopped, Walk, What};
-use encoding_parts::{Frame, Kind, kind_of};
+use encoding_parts::{Frame, SegmentKind, kind_of};
 use judging::{is_spelt_out, value_of, why_refused};
 use octets::NoMemory;
 use primitives::read_bits;
@@ -132,7 +132,7 @@ impl<'a> Walk<'a> {
     // Appends a segment to the string.
     fn join(&mut self, contents: &[u8]) -> Result<(), (Refusal, Reason<'a>)> {
         let node = self.line.part.node;
-        if kind_of(node) == Some(Kind::Bits) {
+        if kind_of(node) == Some(SegmentKind::Bits) {
             return match read_bits(self.alloc, contents) {
                 Ok(bits) => {
                     self.joined.unused = bits.unused();

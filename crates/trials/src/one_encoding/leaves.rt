@@ -7,7 +7,7 @@ ghost use Rattle.encoding_parts.specs.Segments.{IsSound};
 
 use crate::type_notation::{OctetsTable, OfOctets};
 use crate::value_notation::comes_to;
-use encoding_parts::{Kind, Segments, begin_string, not_due, read_head_tag, read_leaf};
+use encoding_parts::{SegmentKind, Segments, begin_string, not_due, read_head_tag, read_leaf};
 use octets::MAX_ENCODING;
 use std::alloc::Global;
 use std::test::Fail;
@@ -17,7 +17,7 @@ use types::{Refusal, Ty, Value, WellTyped};
 // The value of the string that the octets complete, and how many they are.
 fn segments_of(
     mut segments: Segments,
-    kind: Kind,
+    kind: SegmentKind,
     node: &Ty,
     octets: &[u8],
 ) -> Result<(Value, usize), Refusal>
