@@ -68,18 +68,18 @@ end_below [] sound = omega arith
 end_below (layer ∷ others) sound = omega (arith, sound.0.within)
 
 -- so many octets are within the limit
-nest_few : (shape : Shape) (layers : List Layer) (taken : ℕ) (octets : List ℕ) → AreSound layers → AreInside shape layers → taken ≤ MAX_ENCODING → IsCutNext shape layers taken octets → taken + length octets ≤ MAX_ENCODING
-nest_few shape layers taken octets sound inside place (inl cut) = omega (arith, cut.fits, end_below layers sound)
-nest_few shape layers taken octets sound inside place (inr (inl h)) = omega (arith, part_within h.tag h.node (levels_left layers) (end_inside layers) taken octets h.cut, end_below layers sound)
-nest_few shape [] taken octets sound inside place (inr (inr cut)) = absurd cut
-nest_few shape (layer ∷ others) taken octets sound inside place (inr (inr cut)) =
-    end_cut_within layer.frame taken MAX_ENCODING octets place (λ form. omega (arith, inside.0.indefinite form, end_below others sound.1)) cut
+nest_few : (shape : Shape) (layers : List Layer) (taken : ℕ) (octets : List ℕ) → AreSound layers → AreInside shape layers → IsCutNext shape layers taken octets → taken + length octets ≤ MAX_ENCODING
+nest_few shape layers taken octets sound inside (inl cut) = omega (arith, cut.fits, end_below layers sound)
+nest_few shape layers taken octets sound inside (inr (inl h)) = omega (arith, part_within h.tag h.node (levels_left layers) (end_inside layers) taken octets h.cut, end_below layers sound)
+nest_few shape [] taken octets sound inside (inr (inr cut)) = absurd cut
+nest_few shape (layer ∷ others) taken octets sound inside (inr (inr cut)) =
+    end_cut_within layer.frame taken MAX_ENCODING octets (λ form. omega (arith, inside.0.indefinite form, end_below others sound.1)) cut
 
 pub cut_few : (cursor : Cursor) (octets : List ℕ) → IsSoundCursor cursor → IsCut cursor octets → taken_of cursor + length octets ≤ MAX_ENCODING
 cut_few cursor octets sound = go cursor.string sound.string
   where
     go : (string : Option OpenString) → IsSoundIn cursor.nest string → IsCutIn cursor.nest string octets → taken_by cursor.nest string + length octets ≤ MAX_ENCODING
-    go None h cut = nest_few (ty_view cursor.nest.ty.now) (layers_of cursor.nest.layers) cursor.nest.taken octets sound.nest.sound sound.nest.inside sound.nest.place cut
+    go None h cut = nest_few (ty_view cursor.nest.ty.now) (layers_of cursor.nest.layers) cursor.nest.taken octets sound.nest.sound sound.nest.inside cut
     go (Some string) h cut = string_within string.kind string.segments octets h.segments cut
 
 -- so are those that have been fed

@@ -156,20 +156,20 @@ part_within tag node levels end taken octets p =
     omega (arith, behind_within node p.constructed end (taken + length p.identifier) p.rest p.behind, ap length p.joined, length-append p.identifier p.rest)
 
 -- and an end within the limit
-pub end_cut_within : (frame : Frame) (taken limit : ℕ) (octets : List ℕ) → taken ≤ limit → (frame.definite ≡ false → frame.end + 2 ≤ limit) → IsEndCut frame taken octets → taken + length octets ≤ limit
-end_cut_within frame taken limit octets place room h =
+pub end_cut_within : (frame : Frame) (taken limit : ℕ) (octets : List ℕ) → (frame.definite ≡ false → frame.end + 2 ≤ limit) → IsEndCut frame taken octets → taken + length octets ≤ limit
+end_cut_within frame taken limit octets room h =
     let below = room h.indefinite in
     elim h.cut [
-      | inl none ↦ omega (arith, place, ap length none)
-      | inr one ↦ omega (arith, below, one.1, ap length one.0)
+      | inl none ↦ omega (arith, below, h.fits, ap length none)
+      | inr one ↦ omega (arith, below, h.fits, ap length one)
     ]
 
 -- those of a string that has begun are within the limit
-inside_within : (kind : SegmentKind) (s : Segments) (frame : Frame) (octets : List ℕ) → IsWithin frame → s.taken ≤ MAX_ENCODING → IsCutInside kind s frame octets → s.taken + length octets ≤ MAX_ENCODING
-inside_within kind s frame octets within place (inl cut) = omega (arith, cut.fits, within.end)
-inside_within kind s frame octets within place (inr (inl h)) =
+inside_within : (kind : SegmentKind) (s : Segments) (frame : Frame) (octets : List ℕ) → IsWithin frame → IsCutInside kind s frame octets → s.taken + length octets ≤ MAX_ENCODING
+inside_within kind s frame octets within (inl cut) = omega (arith, cut.fits, within.end)
+inside_within kind s frame octets within (inr (inl h)) =
     omega (arith, part_within (segment_of kind) (string_shape (segment_of kind) kind) (s.levels - length s.frames.items) frame.end s.taken octets h.cut, within.end)
-inside_within kind s frame octets within place (inr (inr cut)) = end_cut_within frame s.taken MAX_ENCODING octets place within.room cut
+inside_within kind s frame octets within (inr (inr cut)) = end_cut_within frame s.taken MAX_ENCODING octets within.room cut
 
 pub string_within : (kind : SegmentKind) (s : Segments) (octets : List ℕ) → IsSound kind s → IsStringCut kind s octets → s.taken + length octets ≤ MAX_ENCODING
-string_within kind s octets sound h = inside_within kind s h.frame octets (All-head IsWithin h.frame h.top.0 (subst (All IsWithin) h.top.1 sound.within)) sound.place h.cut
+string_within kind s octets sound h = inside_within kind s h.frame octets (All-head IsWithin h.frame h.top.0 (subst (All IsWithin) h.top.1 sound.within)) h.cut

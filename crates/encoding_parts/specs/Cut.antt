@@ -64,10 +64,11 @@ pub record IsPartCut (tag : Tag) (node : Shape) (levels end taken : ℕ) (octets
   pub joined : octets ≡ identifier ++ rest
   pub behind : IsCutBehind node constructed end (taken + length identifier) rest
 
--- none or one of the end-of-contents octets of the open encoding
+-- none or one of the end-of-contents octets of the open encoding, for both of which there is room
 pub record IsEndCut (frame : Frame) (taken : ℕ) (octets : List ℕ) : Type 0 where
   pub indefinite : frame.definite ≡ false
-  pub cut : (octets ≡ []) ⊎ ((octets ≡ 0 ∷ []) × (taken ≤ frame.end))
+  pub cut : (octets ≡ []) ⊎ (octets ≡ 0 ∷ [])
+  pub fits : taken ≤ frame.end
 
 -- they begin a segment that may come next in the open encoding, and have its identifier octets
 pub record IsSegmentCut (kind : SegmentKind) (segments : Segments) (frame : Frame) (octets : List ℕ) : Type 0 where

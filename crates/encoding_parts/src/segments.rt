@@ -241,15 +241,20 @@ pub fn read_end(frame: Frame, taken: usize, octets: &[u8]) -> Result<Option<usiz
     if frame.definite {
         return Ok(if taken == frame.end { Some(0) } else { None });
     }
+    let fits = taken <= frame.end;
     let Some((&first, others)) = octets.split_first() else {
-        return Err(Refusal::Truncated);
+        return if fits {
+            Err(Refusal::Truncated)
+        } else {
+            Ok(None)
+        };
     };
     if first != 0 {
         return Ok(None);
     }
     match others.first() {
-        Some(0) if taken <= frame.end => Ok(Some(END_OF_CONTENTS)),
-        None if taken <= frame.end => Err(Refusal::Truncated),
+        Some(0) if fits => Ok(Some(END_OF_CONTENTS)),
+        None if fits => Err(Refusal::Truncated),
         _ => Err(Refusal::EndOfContents),
     }
 }
