@@ -199,8 +199,8 @@ pub fn next_due<'a>(left: &'a [Field], tag: Tag) -> Result<(usize, &'a Ty), Refu
     })
 }
 
-// Why a component is refused that begins with the tag, where one must stand before these.
-fn not_next(later: &[Field], tag: Tag) -> Refusal
+/// Why what begins with the tag is refused where a component must stand, before these. Takes no memory.
+pub fn not_next(later: &[Field], tag: Tag) -> Refusal
     ensures { IsOfDue result }
 {
     for field in later {

@@ -28,7 +28,7 @@ pub use contents::read_contents;
 pub use filling::fill;
 pub use frame::{Frame, INLINE_FRAMES, OUTSIDE};
 pub use head::{Extent, read_extent, read_head_tag, read_tag, refusal_inside};
-pub use held_parts::{HeldParts, held_parts_of, next_due, only_due};
+pub use held_parts::{HeldParts, held_parts_of, next_due, not_next, only_due};
 pub use joined::{Joined, SegmentKind, kind_of, segment_tag};
 pub use leaf::{begin_string, contents_refusal, read_leaf};
 pub use lengths::can_have_length;

@@ -15,7 +15,7 @@ ghost use Rattle.strict.specs.Reading.{HasPart};
 ghost use Rattle.strict.specs.Refusal.{IsOfStrictReading};
 
 use crate::ends::ends;
-use encoding_parts::{begins, not_due, read_head_tag};
+use encoding_parts::{begins, not_due, not_next, read_head_tag};
 use octets::Tag;
 use types::{Field, Refusal, Ty, Value};
 
@@ -61,24 +61,11 @@ pub fn why_not_read(
         Ok(Some(tag)) => if begins(ty, tag) {
             refusal
         } else {
-            not_next(tag, later)
+            not_next(later, tag)
         },
         Ok(None) => Refusal::Missing,
         Err(unknown) => unknown,
     }
-}
-
-// Why the tag is refused where a component must stand, before these.
-fn not_next(tag: Tag, later: &[Field]) -> Refusal
-    ensures never { IsFinal result }
-    ensures numbers { IsOfStrictReading result }
-{
-    for field in later {
-        if begins(&field.ty, tag) {
-            return Refusal::Missing;
-        }
-    }
-    not_due(tag)
 }
 
 // Why the tag is refused behind the components that have these slots.

@@ -3,12 +3,12 @@ use Rattle.octets.specs.Rule.{rule_of}
 use Rattle.types.specs.View.{ty_view}
 use Rattle.strict.specs.Components.{IsFront}
 use Rattle.strict.specs.Head.{EndsHere}
-use Rattle.strict.proofs.BarsLemmas.{refused_for_good, refused_by}
+use Rattle.strict.proofs.BarsLemmas.{due_strictly, refused_for_good, refused_by}
 use Rattle.strict.proofs.FrontLemmas.{IsStandingKnown, front_known, nothing_begins, part_or_end, no_part}
 use Rattle.strict.proofs.fronts.why_not_read.Goals as goal
 
 pub returns-else-begins : goal.returns-else-begins
-returns-else-begins c = inr (λ rule. refused_for_good (c.not_next.ensures.never, c.not_next.ensures.numbers) (λ more h.
+returns-else-begins c = inr (λ rule. refused_for_good (due_strictly c.not_next.result c.not_next.ensures) (λ more h.
     let octets = c.args.octets.now in
     let type = ty_view c.args.ty.now in
     let d = c.args.definite in
