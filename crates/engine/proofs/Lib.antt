@@ -5,5 +5,6 @@ pub mod PassingLemmas
 pub mod CallLemmas
 pub mod StreamInstances
 pub mod FeedingLemmas
+pub mod BatchLemmas
 pub mod ReaderLemmas
 pub mod StrictReaderLemmas

@@ -1,6 +1,6 @@
 //! What stands for the values that a piece completes, gathered.
 
-ghost use Rattle.std.specs.Prelude.{◌≡◌, ◌≤◌, ℕ, List, [], ◌++◌, length, IsTrue, OnOk, OnErr, IfErr, IfSome};
+ghost use Rattle.std.specs.Prelude.{◌≡◌, ◌≢◌, ◌≤◌, ℕ, List, [], ◌++◌, length, take, IsTrue, OnOk, OnErr, IfOk, IfErr, IfSome, MatchResult};
 ghost use Rattle.types.specs.Conforms.{Conforms};
 ghost use Rattle.types.specs.Encoding.{IsAccepted};
 ghost use Rattle.types.specs.Shape.{Val};
@@ -16,10 +16,15 @@ use crate::putting::Put;
 use std::alloc::Global;
 use types::{Refusal, Value};
 
+/// A batch of so many octets is written before more is gathered, where it can outgrow the piece.
+const FULL: usize = 131_072;
+
 /// What stands for some values, one after another, and how long each part is.
 #[derive(Drop)]
 pub struct Batch {
+    /// What stands for the values, one after another.
     pub octets: Vec<u8>,
+    /// How many octets stand for each of them.
     pub lengths: Vec<usize>,
     /// Memory for the line of one value.
     pub room: Vec<u8>,
@@ -42,13 +47,13 @@ impl Batch {
         }
     }
 
-    // Adds what stands for a value: these octets, if there are any.
+    // Adds what stands for a value: these octets, if there are any. Returns whether the batch is to be written now.
     fn add<P: Put>(
         &mut self,
         writer: &P,
         value: &Value,
         encoding: Option<&[u8]>,
-    ) -> Result<(), Refusal>
+    ) -> Result<bool, Refusal>
         requires conforms { Conforms (P.shape writer.now) (value_view value.now) }
         requires stands { IfSome encoding (λ octets. P.stands writer.now (value_view value.now) octets.now) }
         ensures added { OnOk result (IsAdded (P.stands writer.now (value_view value.now))
@@ -62,7 +67,7 @@ impl Batch {
         put(writer, value, encoding, &mut self.room, &mut self.octets)?;
         let length = self.octets.len() - before;
         match self.lengths.push(length) {
-            Ok(()) => Ok(()),
+            Ok(()) => Ok(writer.can_outgrow() && self.octets.len() >= FULL),
             Err(_) => {
                 self.octets.truncate(before);
                 Err(Refusal::NoMemory)
@@ -70,30 +75,33 @@ impl Batch {
         }
     }
 
-    /// Gathers what stands for the values that a piece completes, in place of what was gathered. Each value is read
-    /// into the room of the one before it, which is given back with the last of the piece.
+    /// Gathers what stands for the values that the front of a piece completes, in place of what was gathered, and returns
+    /// how many octets of the piece were taken: all, unless the batch has to be written before. Each value is read into
+    /// the room of the one before it, which is given back with the last of the batch.
     pub fn gather<P: Put>(
         &mut self,
         reader: &mut AnyReader<'_>,
         writer: &P,
         piece: &[u8],
-    ) -> Result<(), Refusal>
+    ) -> Result<usize, Refusal>
         requires stands { (old : List ℕ) × IsUnfinished (StandsBy (P.shape writer.now) reader.old) (read_rule reader.old) (P.shape writer.now) old }
         requires copied { IsTrue self.old.copies → (v : Val) (octets : List ℕ) →
             IsAccepted (read_rule reader.old) (P.shape writer.now) v octets → P.stands writer.now v octets }
         ensures copies { self.new.copies ≡ self.old.copies }
         ensures rule_stays { OnOk result (read_rule reader.new ≡ read_rule reader.old) }
-        ensures gathered { OnOk result ((old : List ℕ) →
+        ensures there { IfOk result (λ used. used ≤ length piece.now) }
+        ensures some { piece.now ≢ [] → IfOk result (λ used. 1 ≤ used) }
+        ensures gathered { IfOk result (λ used. (old : List ℕ) →
             IsUnfinished (StandsBy (P.shape writer.now) reader.old) (read_rule reader.old) (P.shape writer.now) old →
             HasGathered (IsUnfinished (StandsBy (P.shape writer.now) reader.new) (read_rule reader.old) (P.shape writer.now))
             (read_rule reader.old) (P.shape writer.now) (P.stands writer.now)
-            (old ++ piece.now) self.new.octets.items self.new.lengths.items) }
+            (old ++ take used piece.now) self.new.octets.items self.new.lengths.items) }
         ensures refused { IfErr result (λ refusal. (old : List ℕ) →
             IsUnfinished (StandsBy (P.shape writer.now) reader.old) (read_rule reader.old) (P.shape writer.now) old →
             StopsGathering (read_rule reader.old) (P.shape writer.now) (P.stands writer.now) refusal
             (old ++ piece.now) self.new.octets.items self.new.lengths.items) }
         ensures long { result ≡ Err Refusal.OutputTooLong → P.can_be_too_long }
-        ensures few { length self.new.lengths.items ≤ length piece.now }
+        ensures few { MatchResult result (λ used. length self.new.lengths.items ≤ used) (λ _. length self.new.lengths.items ≤ length piece.now) }
         ensures numbers { IfErr result (IsOfGathering (read_rule reader.old)) }
     {
         self.octets.clear();
@@ -104,14 +112,16 @@ impl Batch {
             let is_copied = self.copies && reader.finish().is_ok();
             let used = reader.feed(rest, &mut slot)?;
             let Some(value) = &slot else {
-                return Ok(());
+                return Ok(piece.len());
             };
             let (front, behind) = rest.split_at(used);
             let encoding = if is_copied { Some(front) } else { None };
-            self.add(writer, value, encoding)?;
+            if self.add(writer, value, encoding)? {
+                return Ok(piece.len() - behind.len());
+            }
             rest = behind;
         }
-        Ok(())
+        Ok(piece.len())
     }
 }
 

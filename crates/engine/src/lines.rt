@@ -25,6 +25,10 @@ impl Put for Lines<'_> {
 
     ghost can_be_too_long = { ⊥ };
 
+    fn can_outgrow(&self) -> bool {
+        true
+    }
+
     fn put(&self, value: &Value, room: &mut Vec<u8>, out: &mut Vec<u8>) -> Result<(), Refusal> {
         if out.is_empty() {
             return self.put_alone(value, out);

@@ -1,6 +1,6 @@
 //! A stream passed on piece by piece, from a source through a reader and a writer to a sink.
 
-ghost use Rattle.std.specs.Prelude.{◌≡◌, ◌≤◌, ◌+◌, ℕ, List, [], length, IsTrue, OnOk, IfOk, IfErr};
+ghost use Rattle.std.specs.Prelude.{◌≡◌, ◌≢◌, ◌≤◌, ◌+◌, ℕ, List, [], length, take, IsTrue, OnOk, IfOk, IfErr};
 ghost use Rattle.types.specs.Encoding.{IsAccepted};
 ghost use Rattle.types.specs.Shape.{Val};
 ghost use Rattle.engine.specs.AnyReader.{read_rule, StandsBy};
@@ -20,7 +20,7 @@ use types::Refusal;
 /// The most octets of a stream.
 pub const MAX_STREAM: u64 = 4_294_967_295;
 
-// Passes a piece on: writes what stands for the values that it completes, and returns how many values
+// Passes a piece on, a batch at a time: writes what stands for the values that it completes, and returns how many values
 // are done, of which `done` were before.
 fn pass<P: Put, K: Sink>(
     reader: &mut AnyReader<'_>,
@@ -45,6 +45,42 @@ fn pass<P: Put, K: Sink>(
         done stopped.done stopped.refusal piece.now (K.taken sink.old) (K.taken sink.new)) }
     ensures sink { CountsBy sink_failures result (K.failures sink.new) }
 {
+    let mut now = done;
+    let mut rest = piece;
+    while !rest.is_empty() {
+        let used = pass_batch(reader, writer, batch, sink, rest, &mut now)?;
+        rest = &rest[used..];
+    }
+    Ok(now)
+}
+
+// Passes on what the front of a piece completes, counts the values of it among those that are done, and returns how many
+// octets of the piece were taken.
+fn pass_batch<P: Put, K: Sink>(
+    reader: &mut AnyReader<'_>,
+    writer: &P,
+    batch: &mut Batch,
+    sink: &mut K,
+    piece: &[u8],
+    done: &mut u64,
+) -> Result<usize, Stopped>
+    requires stands { (old : List ℕ) × IsUnfinished (StandsBy (P.shape writer.now) reader.old) (read_rule reader.old) (P.shape writer.now) old }
+    requires sink { K.failures sink.old ≡ 0 }
+    requires room { done.old + length piece.now ≤ most_streamed }
+    requires copied { IsTrue batch.old.copies → (v : Val) (octets : List ℕ) →
+        IsAccepted (read_rule reader.old) (P.shape writer.now) v octets → P.stands writer.now v octets }
+    ensures copies { batch.new.copies ≡ batch.old.copies }
+    ensures rule_stays { OnOk result (read_rule reader.new ≡ read_rule reader.old) }
+    ensures there { IfOk result (λ used. used ≤ length piece.now) }
+    ensures some { piece.now ≢ [] → IfOk result (λ used. 1 ≤ used) }
+    ensures passed { IfOk result (λ used. HasPassed (StandsBy (P.shape writer.now) reader.old)
+        (StandsBy (P.shape writer.now) reader.new) (read_rule reader.old) (P.shape writer.now) (P.stands writer.now)
+        done.old done.new (take used piece.now) (K.taken sink.old) (K.taken sink.new)) }
+    ensures stopped { IfErr result (λ stopped. HasNotPassed (StandsBy (P.shape writer.now) reader.old)
+        (read_rule reader.old) (P.shape writer.now) (P.stands writer.now) P.can_be_too_long
+        done.old stopped.done stopped.refusal piece.now (K.taken sink.old) (K.taken sink.new)) }
+    ensures sink { CountsBy sink_failures result (K.failures sink.new) }
+{
     let gathered = batch.gather(reader, writer, piece);
     let lengths = batch.lengths.as_slice();
     match write_all(sink, batch.octets.as_slice()) {
@@ -52,15 +88,18 @@ fn pass<P: Put, K: Sink>(
         Err(at) => {
             let count = whole_parts(lengths, at);
             return Err(Stopped {
-                done: done + count as u64,
+                done: *done + count as u64,
                 refusal: Refusal::SinkFault,
             });
         }
     }
-    let done = done + lengths.len() as u64;
+    *done += lengths.len() as u64;
     match gathered {
-        Ok(()) => Ok(done),
-        Err(refusal) => Err(Stopped { done, refusal }),
+        Ok(used) => Ok(used),
+        Err(refusal) => Err(Stopped {
+            done: *done,
+            refusal,
+        }),
     }
 }
 

@@ -25,6 +25,9 @@ pub trait Put {
     // There may be a value for which nothing stands.
     ghost can_be_too_long: { Type 0 };
 
+    /// Whether what stands for a value can be far longer than its encodings, as a text by the names of the type.
+    fn can_outgrow(&self) -> bool;
+
     /// Appends what stands for a value. What is in `room` is lost: a writer may use its memory.
     fn put(&self, value: &Value, room: &mut Vec<u8>, out: &mut Vec<u8>) -> Result<(), Refusal>
         requires { Conforms (shape self.now) (value_view value.now) }
@@ -52,6 +55,10 @@ impl Put for Encodings<'_> {
 
     ghost can_be_too_long = { ⊤ };
 
+    fn can_outgrow(&self) -> bool {
+        false
+    }
+
     fn put(&self, value: &Value, _room: &mut Vec<u8>, out: &mut Vec<u8>) -> Result<(), Refusal> {
         match self.to {
             Canonical::Cer => Cer.put(self.alloc, self.ty, value, out),
@@ -72,6 +79,10 @@ impl Put for Nothing<'_> {
     ghost stands = { λ _ _ octets. octets ≡ [] };
 
     ghost can_be_too_long = { ⊥ };
+
+    fn can_outgrow(&self) -> bool {
+        false
+    }
 
     fn put(&self, _value: &Value, _room: &mut Vec<u8>, _out: &mut Vec<u8>) -> Result<(), Refusal> {
         Ok(())

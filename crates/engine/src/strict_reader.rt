@@ -21,9 +21,13 @@ use types::{Refusal, Value, WellTyped};
 #[derive(Drop)]
 pub struct StrictReader<'a> {
     pub alloc: Global,
+    /// The rule that octets are read by.
     pub rule: Canonical,
+    /// The type of the values.
     pub ty: &'a WellTyped,
+    /// Finds the end of a value that a piece cuts.
     pub reader: Reader<'a>,
+    /// The octets that have come of such a value.
     pub begun: Vec<u8>,
 }
 

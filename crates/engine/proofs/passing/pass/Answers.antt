@@ -1,81 +1,67 @@
-use Rattle.std.proofs.Common.{rules, Err, ◌<◌, ◌++◌, ℕ, List, [], length, take, refl, sym, ap, subst}
-use Rattle.std.specs.Io.KnownBytes.{Appends}
-use Rattle.devices.specs.Parts.{IsWholeCount}
-use Rattle.engine.specs.AnyReader.{read_rule, StandsBy}
-use Rattle.engine.specs.Feeding.{IsUnfinished}
-use Rattle.engine.specs.Passing.{Gathers}
-use Rattle.engine.proofs.PassingLemmas.{writes_all, writes_cut, gathering_leaves_source, gathering_converts}
-use Rattle.engine.proofs.FeedingLemmas.{either_way}
+use Rattle.std.proofs.Common.{rules, ◌≡◌, ◌-◌, ◌∙◌, ap, arith, length, length-drop, refl, subst, sym}
+use Rattle.std.proofs.lemmas.List.{length-take-le, take_all, take_rest}
+use Rattle.octets.proofs.ResultLemmas.{IfErr-from}
+use Rattle.engine.specs.AnyReader.{read_rule}
+use Rattle.engine.proofs.BatchLemmas.{front_and_left, front_further, front_none, left_further, left_whole, not_passed_on, passed_none, passed_on, passed_whole}
 use Rattle.engine.proofs.passing.pass.Goals as goal
 
-pub returns-in-Err-clause-stopped : goal.returns-in-Err-clause-stopped
-returns-in-Err-clause-stopped g c =
-    let rule = read_rule c.args.reader.now in
-    let shape = g.P.Put.shape c.args.writer.now in
-    let Stands = g.P.Put.stands c.args.writer.now in
-    let octets = c.gather-gathered.new.self.octets.items in
-    let lengths = c.gather-gathered.new.self.lengths.items in
-    let at = c.in-Err.at in
-    let count = c.whole_parts-count.result in
-    let gathers : (old : List ℕ) → IsUnfinished (StandsBy shape c.args.reader.now) rule shape old → (rest : List ℕ) × Gathers rule shape Stands (old ++ c.args.piece.now) rest octets lengths = λ old unfinished.
-    either_way c.gather-gathered.result _ _ _ c.gather-gathered.ensures.gathered c.gather-gathered.ensures.refused
-    (λ f. let x = f old unfinished in (x.rest, x.gathers)) (λ e f. let x = f old unfinished in (x.rest, x.gathers)) in
-    let whole : IsWholeCount lengths at count = subst (λ l. IsWholeCount l at count) c.as_slice-lengths.ensures.value c.whole_parts-count.ensures in
-    let part : at < length octets = subst (λ l. at < length l) c.as_slice.ensures.value c.in-Err.ensures.some_left in
+pub loop-rest-init : goal.loop-rest-init
+loop-rest-init g c = record {
+  copies = refl;
+  same_rule = refl;
+  joined = left_whole c.args.piece.now;
+  within = omega arith;
+  passed = passed_none _ _ _ _ _ _ _ (front_none c.args.piece.now);
+  sink = c.requires.sink;
+}
+
+pub loop-rest-preserved : goal.loop-rest-preserved
+loop-rest-preserved g c =
+    let piece = c.args.piece.now in
+    let left = c.loop-rest.rest.now in
+    let used = c.in_ok-used.used in
+    let so_far = c.loop-rest.invariant in
+    let batch = c.in_ok-used.ensures in
+    let back = take_rest left used in
     record {
-      stopped = λ old unfinished.
-          let h = gathers old unfinished in
-          let w = writes_cut rule shape Stands (old ++ c.args.piece.now) h.0 octets lengths at count h.1 whole part in
-          record {
-            rest = w.rest;
-            written = take at octets;
-            part = w.part;
-            count = count;
-            counted = refl;
-            takes = subst (λ l. Appends (g.K.Sink.taken c.args.sink.now) (g.K.Sink.taken c.write_all.new.sink) (take at l)) c.as_slice.ensures.value c.in-Err.ensures.part;
-            writes = w.writes;
-            stops = w.stops;
-          };
-      source = refl;
-      long = λ e. absurd (cc e);
-      numbers = tt;
+      copies = batch.copies ∙ so_far.copies;
+      same_rule = batch.rule_stays ∙ so_far.same_rule;
+      joined = left_further piece left _ used so_far.joined so_far.within batch.there back;
+      within = omega (arith, so_far.within, ap length back, length-drop used left);
+      passed = passed_on _ _ _ _ _ _ _ _ _ _ _ _ _ _ _ (front_further piece left _ used so_far.joined so_far.within batch.there back) so_far.passed (rw so_far.same_rule at batch.passed);
+      sink = batch.sink;
     }
 
-pub returns-in-Ok-gathered-clause-passed : goal.returns-in-Ok-gathered-clause-passed
-returns-in-Ok-gathered-clause-passed g c =
-    let octets = c.gather-gathered.new.self.octets.items in
-    record {
-      passed = λ old unfinished.
-          let n = c.in-Ok-gathered.ensures.gathered old unfinished in
-          record {
-            rest = n.rest;
-            written = octets;
-            count = length c.as_slice-lengths.result.now;
-            counted = refl;
-            takes = subst (Appends (g.K.Sink.taken c.args.sink.now) (g.K.Sink.taken c.write_all.new.sink)) c.as_slice.ensures.value c.in-Ok.ensures.written;
-            writes = writes_all (read_rule c.args.reader.now) (g.P.Put.shape c.args.writer.now) (g.P.Put.stands c.args.writer.now) _ n.rest octets _ _ n.gathers (ap length (sym c.as_slice-lengths.ensures.value));
-            stands = n.stands;
-          };
-      few = search rules;
-    }
+pub loop-rest-smaller : goal.loop-rest-smaller
+loop-rest-smaller g c =
+    let left = c.loop-rest.rest.now in
+    let used = c.in_ok-used.used in
+    omega (arith, c.in_ok-used.ensures.some (search rules), c.in_ok-used.ensures.there, ap length (take_rest left used), length-drop used left)
 
-pub returns-in-Err-gathered-clause-stopped : goal.returns-in-Err-gathered-clause-stopped
-returns-in-Err-gathered-clause-stopped g c =
-    let octets = c.gather-gathered.new.self.octets.items in
-    record {
-      stopped = λ old unfinished.
-          let n = c.in-Err-gathered.ensures.refused old unfinished in
-          record {
-            rest = n.rest;
-            written = octets;
-            part = [];
-            count = length c.as_slice-lengths.result.now;
-            counted = refl;
-            takes = subst (Appends (g.K.Sink.taken c.args.sink.now) (g.K.Sink.taken c.write_all.new.sink)) c.as_slice.ensures.value c.in-Ok.ensures.written;
-            writes = writes_all (read_rule c.args.reader.now) (g.P.Put.shape c.args.writer.now) (g.P.Put.stands c.args.writer.now) _ n.rest octets _ _ n.gathers (ap length (sym c.as_slice-lengths.ensures.value));
-            stops = n.stops;
-          };
-      source = gathering_leaves_source _ _ c.in-Err-gathered.ensures.numbers;
-      long = λ e. c.in-Err-gathered.ensures.long (ap Err e);
-      numbers = gathering_converts _ _ c.in-Err-gathered.ensures.numbers;
-    }
+pub pass_batch-requires-clause-stands : goal.pass_batch-requires-clause-stands
+pass_batch-requires-clause-stands g c =
+    let p = c.loop-rest.invariant.passed.passed c.requires.stands.0 c.requires.stands.1 in
+    (p.rest, rw (sym c.loop-rest.invariant.same_rule) at p.stands)
+
+pub pass_batch-requires-clause-room : goal.pass_batch-requires-clause-room
+pass_batch-requires-clause-room g c =
+    let so_far = c.loop-rest.invariant in
+    let piece = c.args.piece.now in
+    let taken = length piece - length c.loop-rest.rest.now in
+    omega (arith, c.requires.room, so_far.passed.few, so_far.within, length-take-le taken piece (omega arith))
+
+pub pass_batch-requires-clause-copied : goal.pass_batch-requires-clause-copied
+pass_batch-requires-clause-copied g c = λ copies v octets accepted.
+    c.requires.copied (rw c.loop-rest.invariant.copies at copies) v octets (rw c.loop-rest.invariant.same_rule at accepted)
+
+pub returns-in_err-used-clause-stopped : goal.returns-in_err-used-clause-stopped
+returns-in_err-used-clause-stopped g c = IfErr-from c.from_residual.result _ _ c.from_residual.ensures.1 (λ stopped same.
+    let so_far = c.loop-rest.invariant in
+    rw same (not_passed_on _ _ _ _ _ _ _ _ _ _ _ _ _ _ _ _ (front_and_left c.args.piece.now c.loop-rest.rest.now so_far.joined) so_far.passed (rw so_far.same_rule at c.in_err-used.ensures.stopped)))
+
+pub returns-clause-passed : goal.returns-clause-passed
+returns-clause-passed g c =
+    let piece = c.args.piece.now in
+    let left = c.loop-rest.rest.now in
+    let none : length left ≡ 0 = search rules in
+    passed_whole _ _ _ _ _ _ _ _ _ _ _ (take_all (length piece - length left) piece (omega (arith, none))) c.loop-rest.invariant.passed

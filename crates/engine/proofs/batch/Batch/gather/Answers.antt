@@ -8,6 +8,7 @@ use Rattle.engine.proofs.PassingLemmas.{gathers_none, gathers_more}
 use Rattle.types.specs.Encoding.{IsAccepted}
 use Rattle.octets.proofs.ResultLemmas.{IfErr-from}
 use Rattle.engine.proofs.FeedingLemmas.{none_begun, cut_piece, finished_none, gathered_all, feed_refused, add_refused}
+use Rattle.engine.proofs.BatchLemmas.{gathered_front, gathered_whole, left_further, left_whole}
 use Rattle.engine.proofs.batch.Batch.gather.Goals as goal
 use Rattle.engine.proofs.batch.Batch.gather.Goals.{then-is_copied, else-is_copied, then-self, else-self}
 
@@ -16,6 +17,7 @@ loop-rest-init g c = record {
   copies = refl;
   same_rule = refl;
   gathers = λ old unfinished. (old, unfinished, gathers_none (read_rule c.args.reader.now) (g.P.Put.shape c.args.writer.now) (g.P.Put.stands c.args.writer.now) (old ++ c.args.piece.now) _ _ c.clear.ensures.items c.clear-2.ensures.items);
+  joined = left_whole c.args.piece.now;
   few = omega (arith, ap length c.clear-2.ensures.items);
 }
 
@@ -69,6 +71,7 @@ loop-rest-preserved g c =
             gathers_more rule shape Stands v _ (i.0 ++ left) _ _ (i.0 ++ take used left) c.split_at.result.1.now added.part _ _ i.2
                 (cut_piece i.0 left c.split_at.result.1.now used c.split_at.ensures.back) f.0.accepted added.stands added.octets_are added.lengths_are,
           );
+      joined = left_further c.args.piece.now left c.split_at.result.1.now used c.loop-rest.invariant.joined (omega (arith, c.loop-rest.invariant.few)) done.there c.split_at.ensures.back;
       few = omega (arith, ap length added.lengths_are, length_push c.loop-rest.self.lengths.items (length added.part), c.loop-rest.invariant.few, done.some, done.there, ap length c.split_at.ensures.back, length-drop used left);
     }
 
@@ -99,7 +102,10 @@ pub returns-clause-gathered : goal.returns-clause-gathered
 returns-clause-gathered g c = λ old unfinished.
     let i = c.loop-rest.invariant.gathers old unfinished in
     let none : length c.loop-rest.rest.now ≡ 0 = search rules in
-    gathered_all _ (read_rule c.args.reader.now) (g.P.Put.shape c.args.writer.now) (g.P.Put.stands c.args.writer.now) _ _ _ i.0 c.loop-rest.rest.now none i.1 i.2
+    let rule = read_rule c.args.reader.now in
+    let shape = g.P.Put.shape c.args.writer.now in
+    let Stands = g.P.Put.stands c.args.writer.now in
+    gathered_whole _ rule shape Stands old c.args.piece.now _ _ (gathered_all _ rule shape Stands _ _ _ i.0 c.loop-rest.rest.now none i.1 i.2)
 
 pub feed-requires : goal.feed-requires
 feed-requires g c =
@@ -119,4 +125,49 @@ returns-in_default-clause-gathered g c = λ old unfinished.
     let fed = rw c.loop-rest.invariant.same_rule at (rw c.in_default.is at c.in_ok-used.ensures.fed) in
     let i = c.loop-rest.invariant.gathers old unfinished in
     let f = fed (g.P.Put.shape c.args.writer.now) i.0 i.1.stands in
-    record { rest = i.0 ++ c.loop-rest.rest.now; gathers = i.2; stands = record { stands = f.0; none = f.1 } }
+    gathered_whole _ (read_rule c.args.reader.now) (g.P.Put.shape c.args.writer.now) (g.P.Put.stands c.args.writer.now) old c.args.piece.now _ _
+    (record { rest = i.0 ++ c.loop-rest.rest.now; gathers = i.2; stands = record { stands = f.0; none = f.1 } })
+
+pub returns-then-branch-clause-gathered : goal.returns-then-branch-clause-gathered
+returns-then-branch-clause-gathered g c = λ old unfinished.
+    let rule = read_rule c.args.reader.now in
+    let shape = g.P.Put.shape c.args.writer.now in
+    let Stands = g.P.Put.stands c.args.writer.now in
+    let left = c.loop-rest.rest.now in
+    let behind = c.split_at.result.1.now in
+    let used = c.in_ok-used.used in
+    let fed = rw c.loop-rest.invariant.same_rule at (rw c.in-Some.is at c.in_ok-used.ensures.fed) in
+    let i = c.loop-rest.invariant.gathers old unfinished in
+    let f = fed shape i.0 i.1.stands in
+    let added = c.in_ok-add.ensures.added in
+    gathered_front _ rule shape Stands old c.args.piece.now _ _ [] behind _
+    (left_further c.args.piece.now left behind used c.loop-rest.invariant.joined (omega (arith, c.loop-rest.invariant.few)) f.0.there c.split_at.ensures.back)
+    (record { stands = f.1; none = none_begun rule shape })
+    (gathers_more rule shape Stands (value_view c.in-Some.value) _ (i.0 ++ left) _ _ (i.0 ++ take used left) behind added.part _ _ i.2
+    (cut_piece i.0 left behind used c.split_at.ensures.back) f.0.accepted added.stands added.octets_are added.lengths_are)
+
+pub returns-then-branch-clause-some : goal.returns-then-branch-clause-some
+returns-then-branch-clause-some g c = λ _.
+    let shape = g.P.Put.shape c.args.writer.now in
+    let fed = rw c.loop-rest.invariant.same_rule at (rw c.in-Some.is at c.in_ok-used.ensures.fed) in
+    let here = c.loop-rest.invariant.gathers c.requires.stands.0 c.requires.stands.1 in
+    let done = (fed shape here.0 here.1.stands).0 in
+    omega (arith, done.some, done.there, c.loop-rest.invariant.few, ap length c.split_at.ensures.back, length-drop c.in_ok-used.used c.loop-rest.rest.now)
+
+pub returns-then-branch-clause-few : goal.returns-then-branch-clause-few
+returns-then-branch-clause-few g c =
+    let shape = g.P.Put.shape c.args.writer.now in
+    let fed = rw c.loop-rest.invariant.same_rule at (rw c.in-Some.is at c.in_ok-used.ensures.fed) in
+    let here = c.loop-rest.invariant.gathers c.requires.stands.0 c.requires.stands.1 in
+    let done = (fed shape here.0 here.1.stands).0 in
+    let added = c.in_ok-add.ensures.added in
+    omega (
+      arith,
+      ap length added.lengths_are,
+      length_push c.loop-rest.self.lengths.items (length added.part),
+      c.loop-rest.invariant.few,
+      done.some,
+      done.there,
+      ap length c.split_at.ensures.back,
+      length-drop c.in_ok-used.used c.loop-rest.rest.now,
+    )

@@ -1,0 +1,167 @@
+-- What is gathered and passed on of a piece, batch by batch.
+use Rattle.std.proofs.Common.{◌≡◌, ℕ, ◌+◌, ◌≤◌, List, [], ◌-◌, ◌++◌, length, take, drop, refl, sym, ap, ◌∙◌, append_assoc, arith, length-append, length-drop, append-nil, subst, take-append-drop, Option, Result, Ok, Err}
+use Rattle.std.specs.Prelude.{IfOk, IfErr}
+use Rattle.std.specs.List.{concat}
+use Rattle.std.proofs.lemmas.List.{append_cancel_right, take_all, drop-drop}
+use Rattle.octets.specs.Rule.{Rule}
+use Rattle.types.specs.declared.refusal.Refusal.{Refusal}
+use Rattle.types.specs.Encoding.{Meaning}
+use Rattle.types.specs.Shape.{Shape}
+use Rattle.canon.proofs.PartLemmas.{take_two}
+use Rattle.devices.proofs.DeviceLemmas.{appends_none, appends_more}
+use Rattle.engine.specs.Feeding.{IsUnfinished}
+use Rattle.engine.specs.Passing.{Gathers, HasGathered, HasNotPassed, HasPassed, StopsGathering, Writes}
+use Rattle.engine.proofs.FeedingLemmas.{cut_piece}
+use Rattle.engine.proofs.PassingLemmas.{writes_none, writes_on}
+
+-- octets behind those that were gathered, not yet looked at
+pub gathers_before : (rule : Rule) (shape : Shape) (Stands : Meaning) (octets rest more batch lengths : List ℕ) → Gathers rule shape Stands octets rest batch lengths → Gathers rule shape Stands (octets ++ more) (rest ++ more) batch lengths
+gathers_before rule shape Stands octets rest more batch lengths g = record {
+  values = g.values;
+  encodings = g.encodings;
+  parts = g.parts;
+  read = g.read;
+  put = g.put;
+  octets_are = ap (λ x. x ++ more) g.octets_are ∙ append_assoc (concat g.encodings) rest more;
+  batch_is = g.batch_is;
+  lengths_are = g.lengths_are;
+}
+
+-- and without them
+gathers_front : (rule : Rule) (shape : Shape) (Stands : Meaning) (octets rest more batch lengths : List ℕ) → Gathers rule shape Stands (octets ++ more) (rest ++ more) batch lengths → Gathers rule shape Stands octets rest batch lengths
+gathers_front rule shape Stands octets rest more batch lengths g = record {
+  values = g.values;
+  encodings = g.encodings;
+  parts = g.parts;
+  read = g.read;
+  put = g.put;
+  octets_are = append_cancel_right octets (concat g.encodings ++ rest) more (g.octets_are ∙ sym (append_assoc (concat g.encodings) rest more));
+  batch_is = g.batch_is;
+  lengths_are = g.lengths_are;
+}
+
+-- the front of a piece, behind which this is left
+pub gathered_front : (StandsAt : List ℕ → Type 0) (rule : Rule) (shape : Shape) (Stands : Meaning) (old piece batch lengths now left : List ℕ) (used : ℕ) → left ≡ drop used piece
+    → IsUnfinished StandsAt rule shape now → Gathers rule shape Stands (old ++ piece) (now ++ left) batch lengths → HasGathered (IsUnfinished StandsAt rule shape) rule shape Stands (old ++ take used piece) batch lengths
+gathered_front StandsAt rule shape Stands old piece batch lengths now left used behind unfinished g = record {
+  rest = now;
+  gathers = gathers_front rule shape Stands (old ++ take used piece) now left batch lengths (subst (λ octets. Gathers rule shape Stands octets (now ++ left) batch lengths) (cut_piece old piece left used behind) g);
+  stands = unfinished;
+}
+
+-- a piece of which all was taken
+pub gathered_whole : (StandsAt : List ℕ → Type 0) (rule : Rule) (shape : Shape) (Stands : Meaning) (old piece batch lengths : List ℕ) → HasGathered StandsAt rule shape Stands (old ++ piece) batch lengths → HasGathered StandsAt rule shape Stands (old ++ take (length piece) piece) batch lengths
+gathered_whole StandsAt rule shape Stands old piece batch lengths g =
+    subst (λ octets. HasGathered StandsAt rule shape Stands (old ++ octets) batch lengths) (sym (take_all (length piece) piece (omega arith))) g
+
+-- all of a piece is left, and nothing before it
+pub left_whole : (piece : List ℕ) → piece ≡ drop (length piece - length piece) piece
+left_whole piece =
+    let none : 0 ≡ length piece - length piece = omega arith in
+    ap (λ n. drop n piece) none
+
+pub front_none : (piece : List ℕ) → take (length piece - length piece) piece ≡ []
+front_none piece =
+    let none : length piece - length piece ≡ 0 = omega arith in
+    ap (λ n. take n piece) none
+
+-- what is left behind so many more octets
+pub left_further : (piece left behind : List ℕ) (used : ℕ) → left ≡ drop (length piece - length left) piece → length left ≤ length piece → used ≤ length left → behind ≡ drop used left → behind ≡ drop (length piece - length behind) piece
+left_further piece left behind used is within there back =
+    let before = length piece - length left in
+    back ∙ ap (drop used) is ∙ drop-drop used before piece ∙ ap (λ n. drop n piece) (omega (arith, within, there, ap length back, length-drop used left))
+
+-- and the front before it
+pub front_further : (piece left behind : List ℕ) (used : ℕ) → left ≡ drop (length piece - length left) piece → length left ≤ length piece → used ≤ length left → behind ≡ drop used left → take (length piece - length left) piece ++ take used left ≡ take (length piece - length behind) piece
+front_further piece left behind used is within there back =
+    let before = length piece - length left in
+    ap (λ rest. take before piece ++ take used rest) is ∙ sym (take_two before used piece) ∙ ap (λ n. take n piece) (omega (arith, within, there, ap length back, length-drop used left))
+
+-- both are the piece
+pub front_and_left : (piece left : List ℕ) → left ≡ drop (length piece - length left) piece → take (length piece - length left) piece ++ left ≡ piece
+front_and_left piece left is =
+    let before = length piece - length left in
+    ap (λ rest. take before piece ++ rest) is ∙ take-append-drop before piece
+
+-- what was gathered of the front of a piece is of the whole piece
+gathers_of_piece : (rule : Rule) (shape : Shape) (Stands : Meaning) (old piece batch lengths : List ℕ) (used : ℕ) → (rest : List ℕ) × Gathers rule shape Stands (old ++ take used piece) rest batch lengths → (rest : List ℕ) × Gathers rule shape Stands (old ++ piece) rest batch lengths
+gathers_of_piece rule shape Stands old piece batch lengths used g =
+    let more = drop used piece in (
+      g.0 ++ more,
+      subst (λ octets. Gathers rule shape Stands octets (g.0 ++ more) batch lengths) (sym (cut_piece old piece more used refl)) (gathers_before rule shape Stands (old ++ take used piece) g.0 more batch lengths g.1),
+    )
+
+-- so it is whether the piece was refused or not
+pub gathers_anyway : (r : Result ℕ Refusal) (rule : Rule) (shape : Shape) (Stands : Meaning) (StandsOld StandsAt : List ℕ → Type 0) (old piece batch lengths : List ℕ)
+    → IfOk r (λ used. (old : List ℕ) → StandsOld old → HasGathered StandsAt rule shape Stands (old ++ take used piece) batch lengths) → IfErr r (λ refusal. (old : List ℕ) → StandsOld old → StopsGathering rule shape Stands refusal (old ++ piece) batch lengths)
+    → StandsOld old → (rest : List ℕ) × Gathers rule shape Stands (old ++ piece) rest batch lengths
+gathers_anyway (Ok used) rule shape Stands StandsOld StandsAt old piece batch lengths ok err unfinished =
+    let g = ok old unfinished in
+    gathers_of_piece rule shape Stands old piece batch lengths used (g.rest, g.gathers)
+gathers_anyway (Err refusal) rule shape Stands StandsOld StandsAt old piece batch lengths ok err unfinished =
+    let g = err old unfinished in
+    (g.rest, g.gathers)
+
+-- nothing of a piece was passed on yet
+pub passed_none : (StandsAt : List ℕ → Type 0) (rule : Rule) (shape : Shape) (Stands : Meaning) (done : ℕ) (front : List ℕ) (taken : Option (List ℕ)) → front ≡ [] → HasPassed StandsAt StandsAt rule shape Stands done done front taken taken
+passed_none StandsAt rule shape Stands done front taken none = record {
+  passed = λ old unfinished. record {
+    rest = old;
+    written = [];
+    count = 0;
+    counted = omega arith;
+    takes = appends_none taken;
+    writes = subst (λ octets. Writes rule shape Stands 0 octets old [] []) (sym (ap (λ x. old ++ x) none ∙ append-nil old)) (writes_none rule shape Stands old);
+    stands = unfinished;
+  };
+  few = omega arith;
+}
+
+-- all of it was
+pub passed_whole : (StandsOld StandsNew : List ℕ → Type 0) (rule : Rule) (shape : Shape) (Stands : Meaning) (before now : ℕ) (front piece : List ℕ) (taken_old taken_new : Option (List ℕ)) → front ≡ piece
+    → HasPassed StandsOld StandsNew rule shape Stands before now front taken_old taken_new → HasPassed StandsOld StandsNew rule shape Stands before now piece taken_old taken_new
+passed_whole StandsOld StandsNew rule shape Stands before now front piece taken_old taken_new same = subst (λ octets. HasPassed StandsOld StandsNew rule shape Stands before now octets taken_old taken_new) same
+
+-- one batch more
+pub passed_on : (StandsOld StandsAt StandsNew : List ℕ → Type 0) (rule : Rule) (shape : Shape) (Stands : Meaning) (before done now : ℕ) (front more piece : List ℕ) (taken_old taken taken_new : Option (List ℕ)) → front ++ more ≡ piece
+    → HasPassed StandsOld StandsAt rule shape Stands before done front taken_old taken → HasPassed StandsAt StandsNew rule shape Stands done now more taken taken_new → HasPassed StandsOld StandsNew rule shape Stands before now piece taken_old taken_new
+passed_on StandsOld StandsAt StandsNew rule shape Stands before done now front more piece taken_old taken taken_new whole p q = record {
+  passed = λ old unfinished.
+      let f = p.passed old unfinished in
+      let s = q.passed f.rest f.stands in
+      record {
+        rest = s.rest;
+        written = f.written ++ s.written;
+        count = f.count + s.count;
+        counted = omega (arith, f.counted, s.counted);
+        takes = appends_more taken_old taken taken_new f.written s.written (f.written ++ s.written) f.takes s.takes refl;
+        writes = subst (λ octets. Writes rule shape Stands (f.count + s.count) octets s.rest (f.written ++ s.written) []) (append_assoc old front more ∙ ap (λ octets. old ++ octets) whole)
+            (writes_on rule shape Stands (old ++ front) f.written f.rest more s.written [] s.rest f.count s.count f.writes s.writes);
+        stands = s.stands;
+      };
+  few = omega (arith, p.few, q.few, length-append front more, ap length whole);
+}
+
+-- the rest was not passed on whole
+pub not_passed_on : (StandsOld StandsAt : List ℕ → Type 0) (rule : Rule) (shape : Shape) (Stands : Meaning) (CanBeTooLong : Type 0) (before now done : ℕ) (refusal : Refusal) (front more piece : List ℕ) (taken_old taken taken_new : Option (List ℕ)) → front ++ more ≡ piece
+    → HasPassed StandsOld StandsAt rule shape Stands before now front taken_old taken → HasNotPassed StandsAt rule shape Stands CanBeTooLong now done refusal more taken taken_new
+    → HasNotPassed StandsOld rule shape Stands CanBeTooLong before done refusal piece taken_old taken_new
+not_passed_on StandsOld StandsAt rule shape Stands CanBeTooLong before now done refusal front more piece taken_old taken taken_new whole p q = record {
+  stopped = λ old unfinished.
+      let f = p.passed old unfinished in
+      let s = q.stopped f.rest f.stands in
+      record {
+        rest = s.rest;
+        written = f.written ++ s.written;
+        part = s.part;
+        count = f.count + s.count;
+        counted = omega (arith, f.counted, s.counted);
+        takes = appends_more taken_old taken taken_new f.written s.written (f.written ++ s.written) f.takes s.takes refl;
+        writes = subst (λ octets. Writes rule shape Stands (f.count + s.count) octets s.rest (f.written ++ s.written) s.part) (append_assoc old front more ∙ ap (λ octets. old ++ octets) whole)
+            (writes_on rule shape Stands (old ++ front) f.written f.rest more s.written s.part s.rest f.count s.count f.writes s.writes);
+        stops = s.stops;
+      };
+  source = q.source;
+  long = q.long;
+  numbers = q.numbers;
+}
