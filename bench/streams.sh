@@ -115,6 +115,9 @@ done
 asn1x convert @builtin BOOLEAN two.hex --hex --to der >/dev/full 2>err || status=$?
 told 'text to a full device' 3 '' 'asn1x: refused 16 SinkFault after 0 values'
 
+asn1x --help >/dev/full 2>err || status=$?
+told 'help to a full device' 3 '' ''
+
 # No write is tried of an input without values.
 asn1x show @builtin BOOLEAN /dev/null >/dev/full 2>err || status=$?
 told 'no value to a full device' 0 '' ''

@@ -20,6 +20,11 @@ abbrev pub IsLineStatus : LineFault → ℕ → Type 0
 IsLineStatus NoMemory status = status ≡ 4
 IsLineStatus (Words error) status = ((status ≡ 0) ⊎ (status ≡ 64)) × ((status ≡ 64) ↔ ((kind_of error ≢ DisplayHelp) × (kind_of error ≢ DisplayVersion)))
 
+-- or 3 where help or the version was asked for, and could not be printed
+abbrev pub IsPrintedStatus : LineFault → ℕ → Type 0
+IsPrintedStatus NoMemory status = status ≡ 4
+IsPrintedStatus (Words error) status = ((status ≡ 0) ⊎ (status ≡ 3) ⊎ (status ≡ 64)) × ((status ≡ 64) ↔ ((kind_of error ≢ DisplayHelp) × (kind_of error ≢ DisplayVersion)))
+
 -- the words are at fault by an error of this kind, but for memory
 abbrev pub IsOfKind : ErrorKind → LineFault → Type 0
 IsOfKind kind (Words error) = kind_of error ≡ kind

@@ -2,7 +2,7 @@
 
 ghost use Rattle.std.specs.Prelude.{MatchResult};
 ghost use Rattle.std.specs.Fn.{FnOnceReturnsAt};
-ghost use Rattle.command_words.specs.Fault.{IsLineStatus};
+ghost use Rattle.command_words.specs.Fault.{IsPrintedStatus};
 ghost use Rattle.command_words.specs.Status.{IsMade};
 
 use crate::{CommandLine, LineFault};
@@ -16,7 +16,7 @@ where
     L: CommandLine,
     F: FnOnce(&L) -> u8,
     requires { F.IsAlwaysCallable run }
-    ensures { (made : _) × IsMade L.made_of L.missing_by made × MatchResult made (λ line. FnOnceReturnsAt F.FnOnce run line result) (λ fault. IsLineStatus fault result) }
+    ensures { (made : _) × IsMade L.made_of L.missing_by made × MatchResult made (λ line. FnOnceReturnsAt F.FnOnce run line result) (λ fault. IsPrintedStatus fault result) }
 {
     match line_of_words(rt) {
         Ok(line) => run(&line),

@@ -53,7 +53,7 @@ impl From<clap::Error> for LineFault {
 }
 
 impl LineFault {
-    ghost use Rattle.command_words.specs.Fault.{IsLineStatus};
+    ghost use Rattle.command_words.specs.Fault.{IsLineStatus, IsPrintedStatus};
 
     /// The exit status: 64, or 0 where help or the version was asked for, or 4 where memory ran out.
     pub fn status(&self) -> u8
@@ -66,14 +66,15 @@ impl LineFault {
         }
     }
 
-    /// Prints the text of `clap`, help and the version on the standard output, and returns the status.
+    /// Prints the text of `clap`, help and the version on the standard output, and returns the status, or 3 where help or
+    /// the version could not be printed.
     pub fn print<R: Print + Eprint>(&self, rt: &R) -> u8
-        ensures { IsLineStatus self.now result }
+        ensures { IsPrintedStatus self.now result }
     {
-        if let LineFault::Words(error) = self {
-            let _ = error.print(rt);
+        match self {
+            LineFault::Words(error) if error.print(rt).is_err() && !error.use_stderr() => 3,
+            _ => self.status(),
         }
-        self.status()
     }
 }
 
