@@ -13,4 +13,4 @@ mod type_names;
 pub use contents::{is_spelt_out, is_string, value_of, why_no_value, why_refused};
 pub use order::order_tag;
 pub use reason::Reason;
-pub use type_names::{PrintedTag, name_of, spaced_name_of};
+pub use type_names::{PrintedTag, name_of};

@@ -7,40 +7,35 @@ use types::Ty;
 
 /// The words that name a type. An explicit tag is left out: the type within is named.
 pub fn name_of(ty: &Ty) -> &'static str {
-    spaced_name_of(ty).trim_start()
-}
-
-/// The words that name a type, with the space before them that stands in a line.
-pub fn spaced_name_of(ty: &Ty) -> &'static str {
     match ty {
-        Ty::Boolean(_) => " BOOLEAN",
-        Ty::Integer(_) => " INTEGER",
-        Ty::Enumerated(_, _) => " ENUMERATED",
-        Ty::Null(_) => " NULL",
-        Ty::Oid(_) => " OBJECT IDENTIFIER",
-        Ty::RelativeOid(_) => " RELATIVE-OID",
-        Ty::Bits(_) | Ty::NamedBits(_, _) => " BIT STRING",
-        Ty::Octets(_) => " OCTET STRING",
+        Ty::Boolean(_) => "BOOLEAN",
+        Ty::Integer(_) => "INTEGER",
+        Ty::Enumerated(_, _) => "ENUMERATED",
+        Ty::Null(_) => "NULL",
+        Ty::Oid(_) => "OBJECT IDENTIFIER",
+        Ty::RelativeOid(_) => "RELATIVE-OID",
+        Ty::Bits(_) | Ty::NamedBits(_, _) => "BIT STRING",
+        Ty::Octets(_) => "OCTET STRING",
         Ty::Text(_, kind) => name_of_text(*kind),
-        Ty::Time(_, TimeKind::Utc) => " UTCTime",
-        Ty::Time(_, TimeKind::Generalized) => " GeneralizedTime",
-        Ty::Sequence(_, _) => " SEQUENCE",
-        Ty::Set(_, _) => " SET",
-        Ty::SequenceOf(_, _) => " SEQUENCE OF",
-        Ty::SetOf(_, _) => " SET OF",
-        Ty::Choice(_) => " CHOICE",
-        Ty::Explicit(_, inner) => spaced_name_of(inner),
+        Ty::Time(_, TimeKind::Utc) => "UTCTime",
+        Ty::Time(_, TimeKind::Generalized) => "GeneralizedTime",
+        Ty::Sequence(_, _) => "SEQUENCE",
+        Ty::Set(_, _) => "SET",
+        Ty::SequenceOf(_, _) => "SEQUENCE OF",
+        Ty::SetOf(_, _) => "SET OF",
+        Ty::Choice(_) => "CHOICE",
+        Ty::Explicit(_, inner) => name_of(inner),
     }
 }
 
 fn name_of_text(kind: TextKind) -> &'static str {
     match kind {
-        TextKind::Utf8 => " UTF8String",
-        TextKind::Numeric => " NumericString",
-        TextKind::Printable => " PrintableString",
-        TextKind::Ia5 => " IA5String",
-        TextKind::Visible => " VisibleString",
-        TextKind::Bmp => " BMPString",
+        TextKind::Utf8 => "UTF8String",
+        TextKind::Numeric => "NumericString",
+        TextKind::Printable => "PrintableString",
+        TextKind::Ia5 => "IA5String",
+        TextKind::Visible => "VisibleString",
+        TextKind::Bmp => "BMPString",
     }
 }
 

@@ -35,4 +35,4 @@ pub use tree::{
 pub use value::{Arc, Number, Value, ValueForm};
 
 /// The most faults of a file that are kept.
-pub const MAX_FAULTS: usize = 100;
+pub(crate) const MAX_FAULTS: usize = 100;

@@ -4,7 +4,7 @@ use crate::printing::Style;
 use octets::NoMemory;
 use std::alloc::Global;
 use std::string::String;
-use walking::{Line, Walk, spaced_name_of};
+use walking::{Line, Walk, name_of};
 
 // How many texts are kept.
 const KEPT: usize = 1_021;
@@ -113,6 +113,7 @@ fn put_front(walk: &Walk<'_>, style: &Style<'_>, out: &mut String) -> Result<(),
         out.push_str(style.name)?;
         out.push_str(" ::=")?;
     }
-    out.push_str(spaced_name_of(line.part.node))?;
+    out.push(' ')?;
+    out.push_str(name_of(line.part.node))?;
     Ok(())
 }

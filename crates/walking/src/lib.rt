@@ -18,7 +18,7 @@ mod stop;
 mod taking;
 mod walk;
 
-pub use judging::{PrintedTag, Reason, name_of, spaced_name_of};
+pub use judging::{PrintedTag, Reason, name_of};
 pub use line::{Line, What};
 pub use note::{NOTES, Note, Notes};
 pub use part::{Part, Step};
