@@ -26,7 +26,8 @@ def sections(text):
             continue
         body = re.split(r"^(?:#|\*\*|\|)", body, maxsplit=1, flags=re.M)[0]
         said, _, examples = body.partition("Example")
-        examples = re.sub(r"^s?: ", "", examples)
+        examples, _, more = re.sub(r"^s?: ", "", examples).partition("\n\n")
+        said += more
         plain = [" ".join(it.replace("`", "").split()) for it in (said, examples)]
         yield int(found[1]), found[2], *plain
 

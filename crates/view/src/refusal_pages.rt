@@ -115,12 +115,13 @@ pub const PAGES: [Page; 30] = [
         number: 14,
         name: "OutputTooLong",
         says: "The canonical encoding to write has more than 1,048,576 octets. Returned by Canon::put, exactly \
-            where the value has no accepted encoding; by transcode and convert after it.",
+            where the value has no accepted encoding; by transcode and convert after it. To CER a string within the \
+            limit may have segments that pass it. To DER an encoding of the indefinite form at the limit may have \
+            longer length octets in the definite form: a SEQUENCE OF OCTET STRING 30 80 04 83 0F FF F7, 1,048,567 \
+            octets and 00 00 has 1,048,576 octets, and its DER encoding one more. transcode may return 17 in its \
+            place, since reading takes memory too.",
         example: "OCTET STRING, 04 83 0F EF A9 and 1,044,393 octets, to CER; an OCTET STRING of 1,048,572 octets, \
-            to Der. To CER a string within the limit may have segments that pass it. To DER an encoding of the \
-            indefinite form at the limit may have longer length octets in the definite form: a SEQUENCE OF OCTET \
-            STRING 30 80 04 83 0F FF F7, 1,048,567 octets and 00 00 has 1,048,576 octets, and its DER encoding one \
-            more. transcode may return 17 in its place, since reading takes memory too.",
+            to Der.",
     },
     Page {
         number: 15,
