@@ -41,6 +41,8 @@ pub struct Cutter<K> {
     pub least: u64,
     // how many octets the file has
     written: u64,
+    // how many octets have been passed up to the end of the last encoding
+    ended: u64,
     ends: Ends,
 }
 
@@ -53,6 +55,7 @@ impl<K: Outputs> Cutter<K> {
             outputs,
             least,
             written: 0,
+            ended: 0,
             ends: Ends::new(),
         }
     }
@@ -60,6 +63,11 @@ impl<K: Outputs> Cutter<K> {
     /// How many octets have been passed, those of a head that is cut or refused left out.
     pub fn passed(&self) -> u64 {
         self.ends.passed()
+    }
+
+    /// How many octets have been passed before the encoding that is begun, or would begin next.
+    pub fn ended(&self) -> u64 {
+        self.ended
     }
 
     /// Writes a piece of the stream, and ends a file behind each encoding with which it has so many octets. Where no
@@ -75,7 +83,10 @@ impl<K: Outputs> Cutter<K> {
         let mut at = 0;
         while at < piece.len() {
             match self.ends.take(&piece[at..]) {
-                Ok(Some(used)) => at += used,
+                Ok(Some(used)) => {
+                    at += used;
+                    self.ended = self.ends.passed();
+                }
                 Ok(None) => break,
                 Err(refusal) => {
                     self.write(&piece[from..at])?;

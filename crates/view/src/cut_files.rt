@@ -11,6 +11,7 @@ use program::PrintedPath;
 use std::alloc::Global;
 use std::io::{Read, Write};
 use std::string::String;
+use types::Refusal;
 use view_faults::Fault;
 
 // How many octets of the input are read at once.
@@ -96,15 +97,11 @@ pub fn cut<D: FileSystem, E: Write>(
     match cut_pieces(alloc, &mut cutter, &mut input) {
         Ok(()) => 0,
         Err(fault) => {
-            print_fault(
-                alloc,
-                path,
-                fault,
-                cutter.passed(),
-                prefix,
-                cutter.outputs.count,
-                err,
-            );
+            match fault {
+                Fault::Refused(Refusal::Truncated) => print_cut(path, cutter.ended(), err),
+                Fault::Refused(refusal) => print_refused(path, refusal, cutter.passed(), err),
+                _ => print_fault(alloc, path, fault, prefix, cutter.outputs.count, err),
+            }
             fault.status()
         }
     }
@@ -136,24 +133,35 @@ fn fault_of(cut: Result<(), CutFault>) -> Result<(), Fault> {
     }
 }
 
-// Prints why a stream is not cut to its end.
+// Prints that the encoding that begins behind so many octets is not whole.
+fn print_cut<E: Write>(path: &str, at: u64, err: &mut E) {
+    let path = PrintedPath(path);
+    let refusal = Refusal::Truncated;
+    let _ = writeln!(
+        err,
+        "{path}: octet {at}: refused {refusal}: the encoding that begins here is not whole"
+    );
+}
+
+// Prints that the head behind so many octets is refused.
+fn print_refused<E: Write>(path: &str, refusal: Refusal, at: u64, err: &mut E) {
+    let path = PrintedPath(path);
+    let _ = writeln!(
+        err,
+        "{path}: octet {at}: refused {refusal}: no encoding stands here, or none that ends"
+    );
+}
+
+// Prints why a file is not read or written.
 fn print_fault<E: Write>(
     alloc: Global,
     path: &str,
     fault: Fault,
-    at: u64,
     prefix: &str,
     count: u32,
     err: &mut E,
 ) {
     match fault {
-        Fault::Refused(refusal) => {
-            let path = PrintedPath(path);
-            let _ = writeln!(
-                err,
-                "{path}: octet {at}: refused {refusal}: no encoding stands here, or none that ends"
-            );
-        }
         Fault::CannotWrite => match file_name(alloc, prefix, count) {
             Ok(name) => fault.print(name.as_str(), err),
             Err(_) => fault.print(prefix, err),

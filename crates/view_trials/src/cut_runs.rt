@@ -18,7 +18,10 @@ cut,in,--octets,9,--into,p | 0500 3080 0500 0000 0401 41 | p0001 050030800500000
 cut,in,--octets,9,--into,p | | | | 0
 // what stands before the fault is written; octets are read seven at once
 cut,in,--octets,9,--into,p | 0500 0500 1f80 | p0001 05000500 | in: octet 4: refused 2 Identifier: no encoding stands here, or none that ends; | 1
-cut,in,--octets,1,--into,p | 0500 3080 0500 0000 3003 | p0001 0500 p0002 308005000000 p0003 3003 | in: octet 10: refused 1 Truncated: no encoding stands here, or none that ends; | 1
+cut,in,--octets,1,--into,p | 0500 3080 0500 0000 3003 | p0001 0500 p0002 308005000000 p0003 3003 | in: octet 8: refused 1 Truncated: the encoding that begins here is not whole; | 1
+cut,in,--octets,1,--into,p | 0500 3080 0500 0401 | p0001 0500 p0002 308005000401 | in: octet 2: refused 1 Truncated: the encoding that begins here is not whole; | 1
+cut,in,--octets,1,--into,p | 0500 0500 0500 0500 040a 4142 | p0001 0500 p0002 0500 p0003 0500 p0004 0500 p0005 040a4142 | in: octet 8: refused 1 Truncated: the encoding that begins here is not whole; | 1
+cut,in,--octets,9,--into,p | 0500 9f | p0001 05009f | in: octet 2: refused 1 Truncated: the encoding that begins here is not whole; | 1
 cut,in,--octets,9,--into,p | 0500 3080 0500 0001 | p0001 05003080050000 | in: octet 6: refused 5 EndOfContents: no encoding stands here, or none that ends; | 1
 cut,in,--octets,9,--into,p | 3080 008100 | | in: octet 2: refused 5 EndOfContents: no encoding stands here, or none that ends; | 1
 cut,in,--octets,9,--into,none | 0500 | | none0001: cannot be written; | 3
