@@ -63,6 +63,16 @@ impl Notes {
         self.bits |= note.bit();
     }
 
+    /// Whether this is one of the notes.
+    pub fn has(self, note: Note) -> bool {
+        self.bits & note.bit() != 0
+    }
+
+    /// Takes a note away, if it is there.
+    pub fn remove(&mut self, note: Note) {
+        self.bits &= !note.bit();
+    }
+
     /// Whether there is no note.
     pub fn is_empty(self) -> bool {
         self.bits == 0
@@ -76,7 +86,7 @@ impl Notes {
     /// Takes the first of these away.
     pub fn take_first(&mut self) -> Option<Note> {
         let note = self.first()?;
-        self.bits &= !note.bit();
+        self.remove(note);
         Some(note)
     }
 }

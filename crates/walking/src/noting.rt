@@ -1,14 +1,14 @@
 //! What is not canonical at an identifier (X.690 clauses 9 to 11).
 
-use crate::open::Open;
+use crate::open::{Held, Open};
 use crate::opening::Opening;
 use crate::walk::behind;
-use crate::{Note, Notes, Walk};
+use crate::{Note, Notes, Stopped, Walk};
 use cutting::Ends;
 use encoding_parts::{SegmentKind, kind_of};
 use judging::order_tag;
 use octets::{Canonical, Tag};
-use types::Ty;
+use types::{Refusal, Ty};
 
 // The contents octets of a full segment under CER (X.690 9.2).
 const FULL_SEGMENT: usize = 1_000;
@@ -22,9 +22,40 @@ impl<'a> Walk<'a> {
         let top = self.open.last_mut()?;
         match top.part.node {
             Ty::Set(_, _) => component_note(top, order_tag(rule, part.ty, part.tag)),
-            Ty::SetOf(_, _) => item_note(top, start, opening, octets),
+            Ty::SetOf(_, _) => {
+                let (before, _) = top.last_item;
+                self.item_before = before;
+                item_note(top, start, opening, octets)
+            }
             _ => None,
         }
+    }
+
+    // Takes away the note that the item that is told is less than the one before it, unless both are canonical: the
+    // canonical encodings are what is ordered (11.6), and those of others are not known.
+    #[inline(never)]
+    pub(crate) fn judge_item_order(&mut self, octets: &[u8]) -> Result<(), Stopped> {
+        let start = self.line.at;
+        let before = octets.get(self.item_before..start).unwrap_or(&[]);
+        let is_sure = self.is_canonical(before)? && self.is_canonical(behind(octets, start))?;
+        if !is_sure {
+            self.line.notes.remove(Note::ItemOrder);
+        }
+        Ok(())
+    }
+
+    // Whether an encoding of the type that is told stands in front of the octets, and nothing in it has a note.
+    fn is_canonical(&mut self, octets: &[u8]) -> Result<bool, Stopped> {
+        let mut walk = Walk::over(self.alloc, self.rule, self.line.part.ty);
+        for _ in 0..=octets.len() {
+            match walk.step(octets) {
+                Ok(true) if walk.line.notes.is_empty() => {}
+                Ok(there) => return Ok(!there),
+                Err(_) if is_out_of_memory(&walk) => return Err(self.no_memory()),
+                Err(_) => return Ok(false),
+            }
+        }
+        Ok(false)
     }
 
     // What is not canonical in the head of a constructed encoding.
@@ -66,7 +97,11 @@ impl<'a> Walk<'a> {
         let Some(top) = self.open.last() else {
             return notes;
         };
-        let is_last = later.starts_with(&[0, 0]);
+        let end = self
+            .taken
+            .saturating_add(opening.head())
+            .saturating_add(contents.len());
+        let is_last = self.is_string_over(end, later);
         if self.rule == Canonical::Cer {
             if let Some(note) = cer_size_note(node, top.count == 0, is_last, contents.len()) {
                 notes.add(note);
@@ -76,6 +111,28 @@ impl<'a> Walk<'a> {
             notes.add(note);
         }
         notes
+    }
+
+    // Whether the string whose segment ends at this place, before these octets, surely ends there too.
+    fn is_string_over(&self, end: usize, later: &[u8]) -> bool {
+        let mut end = end;
+        let mut later = later;
+        for open in self.open.iter().rev() {
+            if !matches!(open.held, Held::Segments(_)) {
+                return true;
+            }
+            if open.frame.definite {
+                if open.frame.end != end {
+                    return false;
+                }
+            } else if later.starts_with(&[0, 0]) {
+                end = end.saturating_add(2);
+                later = behind(later, 2);
+            } else {
+                return false;
+            }
+        }
+        true
     }
 }
 
@@ -102,6 +159,13 @@ fn item_note(list: &mut Open<'_>, start: usize, opening: &Opening, octets: &[u8]
     } else {
         None
     }
+}
+
+// Whether the walk goes no further for lack of memory.
+fn is_out_of_memory(walk: &Walk<'_>) -> bool {
+    walk.stop
+        .as_ref()
+        .is_some_and(|stop| stop.refusal == Refusal::NoMemory)
 }
 
 // Whether there are more length octets than needed.

@@ -4,7 +4,7 @@ ghost use Rattle.std.specs.Prelude.{◌≤◌};
 
 use crate::open::{Held, Open};
 use crate::places::Places;
-use crate::{Line, Notes, Part, Reason, Step, Stop, Stopped, What};
+use crate::{Line, Note, Notes, Part, Reason, Step, Stop, Stopped, What};
 use berslice::MAX_NESTED;
 use encoding_parts::{Joined, OUTSIDE, contents_refusal, read_end, read_head_tag};
 use judging::{is_string, why_no_value};
@@ -30,6 +30,8 @@ pub struct Walk<'a> {
     pub(crate) is_taken: bool,
     pub(crate) is_over: bool,
     pub(crate) line: Line<'a>,
+    // where the item begins that stands before the one that is told in a SET OF
+    pub(crate) item_before: usize,
     // why the walk goes no further, once it does not
     pub(crate) stop: Option<Stop<'a>>,
 }
@@ -38,7 +40,11 @@ impl<'a> Walk<'a> {
     /// A walk over values of the type, before the first one. What is not canonical is said by the rule. Takes no memory
     /// now.
     pub fn new(alloc: Global, rule: Canonical, ty: &'a WellTyped) -> Walk<'a> {
-        let ty = ty.as_type();
+        Walk::over(alloc, rule, ty.as_type())
+    }
+
+    // A walk over values of a type that is part of a well-typed one.
+    pub(crate) fn over(alloc: Global, rule: Canonical, ty: &'a Ty) -> Walk<'a> {
         Walk {
             alloc,
             ty,
@@ -59,6 +65,7 @@ impl<'a> Walk<'a> {
                 what: What::End,
                 notes: Notes::none(),
             },
+            item_before: 0,
             stop: None,
         }
     }
@@ -109,6 +116,15 @@ impl<'a> Walk<'a> {
     /// Goes to the next identifier, or the end of an indefinite form, of which `line` tells then. False behind the end
     /// of the value. The octets are those from the front of the value on, the same at each call.
     pub fn next_line(&mut self, octets: &[u8]) -> Result<bool, Stopped> {
+        let is_there = self.step(octets)?;
+        if is_there && self.line.notes.has(Note::ItemOrder) {
+            self.judge_item_order(octets)?;
+        }
+        Ok(is_there)
+    }
+
+    // As `next_line`, but items of a SET OF are compared as they are encoded, canonical or not.
+    pub(crate) fn step(&mut self, octets: &[u8]) -> Result<bool, Stopped> {
         self.close_definite()?;
         if self.is_over {
             return Ok(false);
@@ -246,7 +262,7 @@ impl<'a> Walk<'a> {
             rest,
         ) {
             Ok(read) => read,
-            Err(refusal) => return Err(self.no_identifier(refusal)),
+            Err(refusal) => return Err(self.no_identifier(refusal, rest)),
         };
         let default = self.due(tag)?;
         let opening = self.opening(constructed, identifier, rest)?;
@@ -257,11 +273,13 @@ impl<'a> Walk<'a> {
         }
     }
 
-    // Goes no further, since no identifier stands here.
+    // Goes no further, since no identifier stands in front of the rest of the octets.
     #[inline(never)]
-    fn no_identifier(&mut self, refusal: Refusal) -> Stopped {
+    fn no_identifier(&mut self, refusal: Refusal, rest: &[u8]) -> Stopped {
         let words = match refusal {
-            Refusal::Truncated => "the input ends where an identifier must stand",
+            Refusal::Truncated if rest.is_empty() =>
+                "the input ends where an identifier must stand",
+            Refusal::Truncated => "the input ends inside the identifier octets",
             Refusal::TooLong => "more than 1,048,576 octets (the limit is asn1x's own)",
             _ =>
                 "malformed identifier octets, or a tag number above 268,435,455 (the limit is asn1x's own)",
