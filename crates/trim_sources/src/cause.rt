@@ -11,12 +11,18 @@ pub enum Cause<'a> {
     /// `ANY`, or a field of a class.
     #[error("an open type")]
     Open,
+    /// A field of a class that has a type of its own.
+    #[error("a field of a class that has a type of its own")]
+    FixedField,
     /// A tag with the keyword IMPLICIT in front of a CHOICE or an open type.
     #[error("IMPLICIT in front of a CHOICE or an open type")]
     ImplicitChoice,
     /// A tag without a keyword in front of a field of a class.
     #[error("a tag without a keyword in front of a field of a class")]
     UnmarkedField,
+    /// An automatic tag in front of a field of a class.
+    #[error("an automatic tag in front of a field of a class")]
+    AutomaticField,
     /// A tag of the class UNIVERSAL.
     #[error("a tag of the class UNIVERSAL")]
     Universal,
@@ -53,9 +59,15 @@ pub enum Cause<'a> {
     /// A module that stands in the files more than once.
     #[error("the module {0} stands in the files more than once")]
     RepeatedModule(&'a str),
+    /// A type that two words name, of which the module assigns another type to this one, or imports it.
+    #[error("a type of two words, of which the module assigns or imports {0}")]
+    Assigned(&'static str),
     /// A name that is not one of a type.
     #[error("{0} is no type")]
     NoType(&'a str),
+    /// A set of values that is used as a type.
+    #[error("{0} is a set of values")]
+    ValueSet(&'a str),
     /// A number that is not known, or beyond the limits.
     #[error("a number that is not known, or out of range")]
     Number,
@@ -78,17 +90,19 @@ pub enum Cause<'a> {
 
 impl<'a> Cause<'a> {
     /// What the user can do about it that is not asked for yet, if anything. It goes on with the place of an
-    /// open type.
+    /// open type, or of a field.
     pub fn to_do(&self, request: &Request) -> &'static str {
         match self {
-            Cause::Open => "; give --as ",
+            Cause::Open | Cause::FixedField => "; give --as ",
             Cause::NotGiven(_, _) => "; give its file",
             Cause::RepeatedModule(_) => "; give one of its files",
             Cause::Recursion(_) if request.unroll == 0 => "; give --unroll N",
             Cause::NotInProfile(_) if !request.narrow => {
                 "; --narrow leaves it out where values may do without it"
             }
+            Cause::ValueSet(_) => "; write the type of these in its place",
             Cause::ComponentsOf(_) => "; write the components out",
+            Cause::AutomaticField => "; give the file of the class",
             Cause::UnmarkedField => "; write EXPLICIT or IMPLICIT behind the tag",
             _ => "",
         }
@@ -103,6 +117,7 @@ impl<'a> Cause<'a> {
             Cause::Repeated(name) => Cause::Repeated(front_of(name)),
             Cause::RepeatedModule(name) => Cause::RepeatedModule(front_of(name)),
             Cause::NoType(name) => Cause::NoType(front_of(name)),
+            Cause::ValueSet(name) => Cause::ValueSet(front_of(name)),
             Cause::Recursion(name) => Cause::Recursion(front_of(name)),
             Cause::Within(name, node) => Cause::Within(front_of(name), node),
             _ => self,
@@ -145,7 +160,9 @@ impl Fault<'_> {
         let path = self.path.as_str();
         let to_do = cause.to_do(request);
         match cause {
-            Cause::Open => format!(in alloc; "{cause} at {path}{to_do}{path}=TYPE"),
+            Cause::Open | Cause::FixedField => format!(in alloc;
+                "{cause} at {path}{to_do}{path}=TYPE"
+            ),
             _ => format!(in alloc; "{cause} at {path}{to_do}"),
         }
     }

@@ -9,6 +9,7 @@ mod messages;
 mod naming;
 mod printing;
 mod request;
+mod reserved;
 mod simple;
 mod sources;
 mod values;

@@ -41,7 +41,8 @@ impl<'a> Sources<'a> {
         match simple {
             Simple::Boolean => Ok(boolean_literal(found.value)),
             Simple::Integer => Ok(self.number_literal(found, budget)),
-            Simple::BitString | Simple::OctetString => bits_literal(alloc, found.value),
+            Simple::BitString => bits_literal(alloc, found.value),
+            Simple::OctetString => octets_literal(alloc, found.value),
             Simple::Utf8String
             | Simple::NumericString
             | Simple::PrintableString
@@ -80,12 +81,57 @@ fn item_literal(alloc: Global, value: &Value) -> Result<Option<DefaultValue>, Al
     }
 }
 
-// A value of a BIT STRING or an OCTET STRING.
+// A value of a BIT STRING.
 fn bits_literal(alloc: Global, value: &Value) -> Result<Option<DefaultValue>, AllocError> {
     match &value.form {
         ValueForm::Binary(text) => Ok(Some(DefaultValue::Binary(copied(alloc, text)?))),
         ValueForm::Hex(text) => Ok(Some(DefaultValue::Hex(copied(alloc, text)?))),
         _ => Ok(None),
+    }
+}
+
+// A value of an OCTET STRING, in hexadecimal, since the profile takes no other: bits 0 make its last octet whole (X.680
+// clause 23).
+fn octets_literal(alloc: Global, value: &Value) -> Result<Option<DefaultValue>, AllocError> {
+    let mut text = String::from_str(alloc, "'")?;
+    match &value.form {
+        ValueForm::Binary(bits) => {
+            for four in digits_in(bits.as_str()).as_bytes().chunks(4) {
+                text.push(digit_of(four))?;
+            }
+        }
+        ValueForm::Hex(digits) => text.push_str(digits_in(digits.as_str()))?,
+        _ => return Ok(None),
+    }
+    // One character more than digits.
+    if text.len() % 2 == 0 {
+        text.push('0')?;
+    }
+    text.push_str("'H")?;
+    Ok(Some(DefaultValue::Hex(text)))
+}
+
+// What stands between the apostrophes.
+fn digits_in(text: &str) -> &str {
+    match text.split_once('\'') {
+        Some((_, behind)) => match behind.split_once('\'') {
+            Some((digits, _)) => digits,
+            None => behind,
+        },
+        None => text,
+    }
+}
+
+// The hexadecimal digit of four bits, of which the last that are not there are 0.
+fn digit_of(bits: &[u8]) -> char {
+    let mut number = 0u32;
+    for place in 0..4 {
+        let bit = bits.get(place) == Some(&b'1');
+        number = number.saturating_mul(2).saturating_add(u32::from(bit));
+    }
+    match char::from_digit(number, 16) {
+        Some(digit) => digit.to_ascii_uppercase(),
+        None => '0',
     }
 }
 

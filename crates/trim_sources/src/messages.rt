@@ -11,6 +11,8 @@ pub enum Kind {
     Narrowed,
     /// Something is left out that no encoding depends on.
     Dropped,
+    /// The type that is asked for is written under another name.
+    Renamed,
 }
 
 impl Kind {
@@ -20,6 +22,7 @@ impl Kind {
             Kind::Refused => "refused",
             Kind::Narrowed => "narrowed",
             Kind::Dropped => "dropped",
+            Kind::Renamed => "renamed",
         }
     }
 }

@@ -1,7 +1,7 @@
 //! The modules of all files, and what names in them stand for (X.680 clause 13).
 
 use crate::cause::Cause;
-use published::{Assignment, Body, Module, Reference, Type, Value, Word};
+use published::{Assignment, Body, Form, Module, Reference, Type, Value, Word};
 use std::alloc::{AllocError, Global};
 use std::collections::BTreeMap;
 
@@ -98,6 +98,16 @@ impl<'a> Sources<'a> {
         Err(Cause::NotAssigned(name))
     }
 
+    /// Whether the module assigns or imports the name.
+    pub fn has_name(&self, module: usize, name: &'a str) -> bool {
+        match self.scopes.get(module) {
+            Some(scope) => {
+                scope.assigned.get(&name).is_some() || scope.imported.get(&name).is_some()
+            }
+            None => false,
+        }
+    }
+
     /// Where the name is assigned that a module gives by its own name.
     pub fn find_in(&self, module: &'a str, name: &'a str) -> Result<Spot, Cause<'a>> {
         let module = self.module_of(module, name)?;
@@ -169,6 +179,19 @@ impl<'a> Sources<'a> {
         };
         let found = fields.iter().find(|found| found.name.name == field.name)?;
         Some(found.is_open)
+    }
+
+    /// Whether the type is a field of a class that has a type of its own, behind names perhaps.
+    pub fn is_fixed_field(&self, module: usize, ty: &'a Type) -> bool {
+        let Ok(base) = self.base_of(module, ty) else {
+            return false;
+        };
+        match &base.ty.form {
+            Form::Field(class, Some(field)) => {
+                self.is_open_field(base.module, class, field) == Some(false)
+            }
+            _ => false,
+        }
     }
 }
 

@@ -53,16 +53,21 @@ impl<'a> Sources<'a> {
         for _step in 0..MAX_STEPS {
             match &base.ty.form {
                 Form::Tagged(_, inner) => base.ty = inner,
-                Form::Reference(reference) => base = self.referred(base.module, reference)?,
+                Form::Reference(reference) => {
+                    base = self.assigned_at(self.find(base.module, reference)?)?;
+                }
+                Form::Simple(simple) => match self.assigned_for(base.module, *simple)? {
+                    Some(spot) => base = self.assigned_at(spot)?,
+                    None => return Ok(base),
+                },
                 _ => return Ok(base),
             }
         }
         Err(Cause::TooLarge)
     }
 
-    // The type that a name stands for.
-    fn referred(&self, module: usize, reference: &'a Reference) -> Result<Base<'a>, Cause<'a>> {
-        let spot = self.find(module, reference)?;
+    // The type that is assigned there.
+    fn assigned_at(&self, spot: Spot) -> Result<Base<'a>, Cause<'a>> {
         match self.type_at(spot) {
             Some(ty) => Ok(Base {
                 module: spot.module,

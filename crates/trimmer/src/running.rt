@@ -133,7 +133,7 @@ impl Library {
     }
 }
 
-// Prints the module, and what was left out of it.
+// Prints the module, and what is told of it.
 fn print_trimmed<W: Write, E: Write>(
     alloc: Global,
     line: &Line,

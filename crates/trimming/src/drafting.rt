@@ -6,7 +6,7 @@ use published::{Form, Place, Reference, Simple, Type};
 use std::alloc::{AllocError, Global};
 use syntax::Expr;
 use trim_rules::Root;
-use trim_sources::{Cause, in_profile, is_left_out_string, name_of_left_out};
+use trim_sources::{Cause, Spot, in_profile, is_left_out_string, name_of_left_out};
 
 impl<'a> Trimmer<'a> {
     /// What the type is in the profile. What is wrong with it is noted.
@@ -45,7 +45,8 @@ impl<'a> Trimmer<'a> {
                 Ok(Draft::whole(Expr::Simple(syntax::Simple::Integer)))
             }
             Form::NamedBits(bits) => self.named_bits(alloc, place, bits),
-            Form::Any(_) | Form::Field(_, _) => self.open(alloc, place),
+            Form::Any(_) => self.open(alloc, place, Cause::Open),
+            Form::Field(_, _) => self.field(alloc, ty),
             Form::Parameterised(_) => self.refuse(alloc, place, Cause::Parameterised),
             Form::Selection(_, _) => self.refuse(alloc, place, Cause::Selection),
             Form::InstanceOf(_) => self.refuse(alloc, place, Cause::InstanceOf),
@@ -53,11 +54,39 @@ impl<'a> Trimmer<'a> {
         }
     }
 
-    // A type that is named by reserved words alone.
+    // A field of a class.
+    fn field(&mut self, alloc: Global, ty: &'a Type) -> Result<Draft, AllocError> {
+        let cause = if self.sources.is_fixed_field(self.work.module, ty) {
+            Cause::FixedField
+        } else {
+            Cause::Open
+        };
+        self.open(alloc, ty.place, cause)
+    }
+
+    // A type that is named by reserved words alone, or that the module assigns to such a word.
     fn simple(&mut self, alloc: Global, place: Place, simple: Simple) -> Result<Draft, AllocError> {
+        match self.sources.assigned_for(self.work.module, simple) {
+            Ok(None) => {}
+            Ok(Some(spot)) => return self.assigned_at(alloc, place, spot),
+            Err(cause) => return self.refuse(alloc, place, cause),
+        }
         match in_profile(simple) {
             Some(simple) => Ok(Draft::whole(Expr::Simple(simple))),
             None => self.refuse(alloc, place, Cause::NotInProfile(name_of_left_out(simple))),
+        }
+    }
+
+    // The type that is assigned there, which is used at this place.
+    fn assigned_at(
+        &mut self,
+        alloc: Global,
+        place: Place,
+        spot: Spot,
+    ) -> Result<Draft, AllocError> {
+        match self.reach(alloc, spot)? {
+            Ok(node) => self.of_node(alloc, place, node),
+            Err(cause) => self.refuse(alloc, place, cause),
         }
     }
 
@@ -96,12 +125,24 @@ impl<'a> Trimmer<'a> {
             Form::Choice(_) => Ok(Root::Choice),
             Form::Any(_) => Ok(Root::Open),
             Form::Field(class, field) => self.root_of_field(alloc, class, field),
-            Form::Simple(simple) if is_left_out_string(*simple) => Ok(Root::LeftOutString),
+            Form::Simple(simple) => self.root_of_simple(alloc, *simple),
             Form::Reference(reference) => match self.refer(alloc, reference)? {
                 Ok(node) => Ok(self.root_at(node)),
                 Err(_) => Ok(Root::Other),
             },
             _ => Ok(Root::Other),
+        }
+    }
+
+    // What a type that reserved words name is at its root.
+    fn root_of_simple(&mut self, alloc: Global, simple: Simple) -> Result<Root, AllocError> {
+        match self.sources.assigned_for(self.work.module, simple) {
+            Ok(None) if is_left_out_string(simple) => Ok(Root::LeftOutString),
+            Ok(None) | Err(_) => Ok(Root::Other),
+            Ok(Some(spot)) => match self.reach(alloc, spot)? {
+                Ok(node) => Ok(self.root_at(node)),
+                Err(_) => Ok(Root::Other),
+            },
         }
     }
 

@@ -171,6 +171,7 @@ impl<'a> Trimmer<'a> {
             class: TagClass::ContextSpecific,
             number,
             mode: TagMode::Unmarked,
+            is_automatic: true,
         };
         self.labelled(alloc, label, body)
     }

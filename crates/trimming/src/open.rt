@@ -3,21 +3,25 @@
 use crate::trimmer::{Draft, Trimmer};
 use published::{Place, Reference, Word};
 use std::alloc::{AllocError, Global};
-use syntax::Expr;
+use syntax::{Expr, Simple};
 use trim_rules::Root;
 use trim_sources::{Cause, Given, Spot, Substitute, simple_of_words};
 
 impl<'a> Trimmer<'a> {
-    /// An open type, or a field of a class: the type that the request gives to its place.
-    pub fn open(&mut self, alloc: Global, place: Place) -> Result<Draft, AllocError> {
+    /// An open type, or a field of a class: the type that the request gives to its place. Without one it is
+    /// refused for this cause.
+    pub fn open(
+        &mut self,
+        alloc: Global,
+        place: Place,
+        cause: Cause<'a>,
+    ) -> Result<Draft, AllocError> {
         let path = self.path(alloc)?;
         let Some(given) = self.take_given(path.as_str()) else {
-            return self.refuse(alloc, place, Cause::Open);
+            return self.refuse(alloc, place, cause);
         };
-        if given.ty.module.is_none() {
-            if let Some(simple) = simple_of_words(given.ty.name.as_str()) {
-                return Ok(Draft::whole(Expr::Simple(simple)));
-            }
+        if let Some(simple) = self.simple_given(&given.ty) {
+            return Ok(Draft::whole(Expr::Simple(simple)));
         }
         let name = given.ty.name.as_str();
         let Some(spot) = self.spot_of(alloc, &given.ty)? else {
@@ -25,7 +29,11 @@ impl<'a> Trimmer<'a> {
         };
         match self.reach(alloc, spot)? {
             Ok(node) => self.of_node(alloc, place, node),
-            Err(Cause::NoType(_)) => self.refuse(alloc, place, Cause::NoSubstitute(name)),
+            Err(Cause::NoType(_) | Cause::ValueSet(_)) => self.refuse(
+                alloc,
+                place,
+                Cause::NoSubstitute(name),
+            ),
             Err(cause) => self.refuse(alloc, place, cause),
         }
     }
@@ -57,7 +65,7 @@ impl<'a> Trimmer<'a> {
         let Some(given) = self.request.given.get(place) else {
             return Ok(Root::Field);
         };
-        if given.ty.module.is_none() && simple_of_words(given.ty.name.as_str()).is_some() {
+        if self.simple_given(&given.ty).is_some() {
             return Ok(Root::Other);
         }
         let Some(spot) = self.spot_of(alloc, &given.ty)? else {
@@ -66,6 +74,19 @@ impl<'a> Trimmer<'a> {
         match self.reach(alloc, spot)? {
             Ok(node) => Ok(self.root_at(node)),
             Err(_) => Ok(Root::Other),
+        }
+    }
+
+    // The type that reserved words name which the request gives. None: it gives another, or the module assigns
+    // another one to the word.
+    fn simple_given(&self, ty: &'a Substitute) -> Option<Simple> {
+        if ty.module.is_some() {
+            return None;
+        }
+        let words = ty.name.as_str();
+        match self.sources.assigned_for_word(self.work.module, words) {
+            Ok(None) => simple_of_words(words),
+            Ok(Some(_)) | Err(_) => None,
         }
     }
 

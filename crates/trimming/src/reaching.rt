@@ -2,7 +2,7 @@
 
 use crate::node::{Made, Node, State};
 use crate::trimmer::Trimmer;
-use published::{Reference, Type, Word};
+use published::{Assignment, Body, LeftOut, Reference, Type, Word};
 use std::alloc::{AllocError, Global};
 use trim_rules::Root;
 use trim_sources::{Cause, Spot};
@@ -35,7 +35,7 @@ impl<'a> Trimmer<'a> {
         };
         let word = &assignment.name;
         let Some(body) = self.sources.type_at(spot) else {
-            return Ok(Err(Cause::NoType(word.name.as_str())));
+            return Ok(Err(cause_against(assignment)));
         };
         let Some(level) = self.level_for(spot) else {
             self.work.is_finite = false;
@@ -127,5 +127,14 @@ impl<'a> Trimmer<'a> {
             }
         }
         Ok(())
+    }
+}
+
+// Why the assignment gives no type.
+fn cause_against(assignment: &Assignment) -> Cause<'_> {
+    let name = assignment.name.name.as_str();
+    match &assignment.body {
+        Body::LeftOut(LeftOut::Set) => Cause::ValueSet(name),
+        _ => Cause::NoType(name),
     }
 }

@@ -152,7 +152,25 @@ impl<'a> Trimmer<'a> {
         Ok(())
     }
 
-    /// What was left out of these types, in order of place.
+    /// Notes under which name a type is written, where its own cannot stand in the profile.
+    pub fn note_name(&mut self, alloc: Global, node: usize) -> Result<(), AllocError> {
+        let Some(node) = self.nodes.get_mut(node) else {
+            return Ok(());
+        };
+        let asked = node.word.name.as_str();
+        let name = node.name.as_str();
+        if !is_same(asked, name) {
+            let text = format!(in alloc; "{asked} is written as {name}")?;
+            node.made.messages.push(Message {
+                place: Some(node.word.place),
+                kind: Kind::Renamed,
+                text,
+            })?;
+        }
+        Ok(())
+    }
+
+    /// What is told of these types, in order of place.
     pub fn left_out(&mut self, alloc: Global, kept: &[usize]) -> Result<Vec<Message>, AllocError> {
         let mut messages = Vec::new(alloc);
         for place in self.found_from(alloc, kept, Link::Inclusion)? {
@@ -174,4 +192,9 @@ fn place_of(message: &Message) -> (u32, u32, u32) {
         Some(place) => (place.file, place.line, place.column),
         None => (0, 0, 0),
     }
+}
+
+// Whether the two are one name.
+fn is_same<'b>(asked: &'b str, name: &'b str) -> bool {
+    asked == name
 }

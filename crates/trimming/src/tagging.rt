@@ -21,6 +21,8 @@ pub struct Label {
     pub number: u32,
     /// Its keyword.
     pub mode: TagMode,
+    /// Whether automatic tagging gives it.
+    pub is_automatic: bool,
 }
 
 impl<'a> Trimmer<'a> {
@@ -57,6 +59,7 @@ impl<'a> Trimmer<'a> {
                 class,
                 number,
                 mode: tag.mode,
+                is_automatic: false,
             }),
             None => Err(Cause::Number),
         }
@@ -75,7 +78,7 @@ impl<'a> Trimmer<'a> {
         let keyword = match self.keyword_at(label, root) {
             Ok(keyword) => keyword,
             Err(cause) => {
-                self.refuse(alloc, label.place, cause)?;
+                self.refuse_label(alloc, label, cause, inner)?;
                 return self.draft(alloc, inner);
             }
         };
@@ -87,10 +90,30 @@ impl<'a> Trimmer<'a> {
         Ok(Draft::whole(Expr::Tagged(prefix, Box::new(alloc, inner)?)))
     }
 
+    // Notes why the tag in front of the type is not taken. A field that has a type of its own is refused itself where
+    // no keyword is known, since its type is not given; the tag is all right then.
+    fn refuse_label(
+        &mut self,
+        alloc: Global,
+        label: Label,
+        cause: Cause<'a>,
+        inner: &'a Type,
+    ) -> Result<(), AllocError> {
+        let is_by_field = matches!(cause, Cause::UnmarkedField | Cause::AutomaticField);
+        if !is_by_field || !self.sources.is_fixed_field(self.work.module, inner) {
+            self.refuse(alloc, label.place, cause)?;
+        }
+        Ok(())
+    }
+
     // The keyword of a tag in front of a type that is this at its root, or why it has none.
     fn keyword_at(&self, label: Label, root: Root) -> Result<Keyword, Cause<'a>> {
         if label.mode == TagMode::Unmarked && root == Root::Field {
-            return Err(Cause::UnmarkedField);
+            return Err(if label.is_automatic {
+                Cause::AutomaticField
+            } else {
+                Cause::UnmarkedField
+            });
         }
         match keyword_of(self.work.tagging, label.mode, root.is_open()) {
             Some(keyword) => Ok(keyword),

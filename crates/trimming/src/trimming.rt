@@ -12,7 +12,7 @@ pub struct Trimmed {
     pub text: String,
     /// The name of the type that was asked for, in it.
     pub name: String,
-    /// What is narrowed and dropped, in order of place.
+    /// What is narrowed, dropped and renamed, in order of place.
     pub messages: Vec<Message>,
 }
 
@@ -75,6 +75,7 @@ fn drafted_at<'a>(
     spot: Spot,
 ) -> Result<Drafted, Stop> {
     let root = made(alloc, trimmer, request, spot)?;
+    trimmer.note_name(alloc, root)?;
     let kept = trimmer.kept(alloc, root)?;
     let messages = trimmer.left_out(alloc, kept.as_slice())?;
     let text = text_of(alloc, trimmer, spot, kept.as_slice())?;

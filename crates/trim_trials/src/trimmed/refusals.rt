@@ -25,7 +25,16 @@ T --narrow; T ::= SEQUENCE { COMPONENTS OF U, b ANY OPTIONAL } U ::= SEQUENCE { 
 T; T ::= [0] IMPLICIT CHOICE { a NULL }; m.asn:2:7: refused: IMPLICIT in front of a CHOICE or an open type at T
 T --as T=NULL; T ::= [0] IMPLICIT ANY; m.asn:2:7: refused: IMPLICIT in front of a CHOICE or an open type at T
 T --as T=NULL; T ::= [0] X.&id; m.asn:2:7: refused: a tag without a keyword in front of a field of a class at T; write EXPLICIT or IMPLICIT behind the tag
+T; T ::= SEQUENCE { a [0] K.&id, b K.&Type } K ::= CLASS { &id INTEGER UNIQUE, &Type }; m.asn:2:24: refused: a field of a class that has a type of its own at T.a; give --as T.a=TYPE m.asn:2:33: refused: an open type at T.b; give --as T.b=TYPE
+T; END N DEFINITIONS AUTOMATIC TAGS ::= BEGIN T ::= SEQUENCE { a K.&id, b U } U ::= K.&id K ::= CLASS { &id INTEGER UNIQUE }; m.asn:2:63: refused: a field of a class that has a type of its own at T.a; give --as T.a=TYPE m.asn:2:82: refused: a field of a class that has a type of its own at U; give --as U=TYPE
+T --as T.a=NULL; END N DEFINITIONS AUTOMATIC TAGS ::= BEGIN T ::= SEQUENCE { a K.&id }; m.asn:2:63: refused: an automatic tag in front of a field of a class at T.a; give the file of the class
 T; T ::= [UNIVERSAL 3] IMPLICIT INTEGER; m.asn:2:7: refused: a tag of the class UNIVERSAL at T
+T; T ::= SEQUENCE { a UTF8String } UTF8String ::= [UNIVERSAL 12] IMPLICIT INTEGER; m.asn:2:48: refused: a tag of the class UNIVERSAL at UTF8String
+T; T ::= SEQUENCE { a UTF8String } UTF8String ::= [UNIVERSAL 12] EXPLICIT OCTET STRING; m.asn:2:48: refused: a tag of the class UNIVERSAL at UTF8String
+T; T ::= SEQUENCE { a UTF8String } UTF8String ::= [UNIVERSAL 30] IMPLICIT OCTET STRING; m.asn:2:48: refused: a tag of the class UNIVERSAL at UTF8String
+T; T ::= SEQUENCE { a VisibleString } ISO646String ::= NULL; m.asn:2:20: refused: a type of two words, of which the module assigns or imports ISO646String at T.a
+T; T ::= SEQUENCE { a TIME } TIME ::= NULL TIME ::= NULL; m.asn:2:20: refused: TIME is assigned more than once at T.a
+T; IMPORTS TIME FROM N;T ::= SEQUENCE { a TIME }; m.asn:2:40: refused: TIME is of the module N, which is in none of the files at T.a; give its file
 T; T ::= SEQUENCE { a S DEFAULT {} } S ::= SEQUENCE OF NULL; m.asn:2:30: refused: a DEFAULT of a kind that asn1x does not take at T.a
 T --narrow; T ::= SEQUENCE { a REAL, b P {NULL}, c x < C } C ::= CHOICE { x NULL }; m.asn:2:20: refused: REAL at T.a m.asn:2:28: refused: a type with parameters at T.b m.asn:2:40: refused: a selection type at T.c
 T; T ::= SEQUENCE { a EXTERNAL, b TeletexString, c [0] EXPLICIT T61String }; m.asn:2:20: refused: EXTERNAL at T.a; --narrow leaves it out where values may do without it m.asn:2:32: refused: TeletexString at T.b; --narrow leaves it out where values may do without it m.asn:2:62: refused: TeletexString at T.c; --narrow leaves it out where values may do without it
@@ -33,6 +42,9 @@ T; T ::= SEQUENCE { a INSTANCE OF X, b BIT STRING { } }; m.asn:2:20: refused: IN
 T; T ::= SEQUENCE { a N.U, b U, c X } U ::= NULL U ::= NULL X ::= CLASS { &id INTEGER }; m.asn:2:20: refused: U is of the module N, which is in none of the files at T.a; give its file m.asn:2:27: refused: U is assigned more than once at T.b m.asn:2:32: refused: X is no type at T.c
 T; T ::= SEQUENCE { a N.U } END N DEFINITIONS ::= BEGIN U ::= NULL END N DEFINITIONS ::= BEGIN U ::= NULL; m.asn:2:20: refused: the module N stands in the files more than once at T.a; give one of its files
 T; T ::= SEQUENCE { a U } U ::= SEQUENCE { $ }; m.asn:2:20: refused: U is neither assigned nor imported at T.a m.asn:2:41: refused: no token of ASN.1 begins so
+T; Foo INTEGER ::= { 1 | 2 } T ::= SEQUENCE { a Foo }; m.asn:2:46: refused: Foo is a set of values at T.a; write the type of these in its place
+M.Foo; Foo INTEGER ::= { 1 | 2 }; asn1x-trim: refused: Foo is a set of values
+T --as T.a=S --narrow; T ::= SEQUENCE { a ANY OPTIONAL } S INTEGER ::= { 1 }; m.asn:2:20: refused: no type, or several, of the name S that --as gives at T.a
 T; T ::= SEQUENCE OF T; m.asn:2:19: refused: T refers to itself at T; give --unroll N
 T --unroll 1; T ::= SEQUENCE OF T; m.asn:2:19: refused: T refers to itself at T
 T; T ::= SET { a U, b V } U ::= W; m.asn:2:20: refused: V is neither assigned nor imported at T.b m.asn:2:30: refused: W is neither assigned nor imported at U

@@ -41,16 +41,32 @@ AUTOMATIC TAGS; T --narrow; T ::= SEQUENCE { a REAL OPTIONAL, b NULL }; T ::= SE
 ; T; T ::= SEQUENCE { a E DEFAULT y, b BOOLEAN DEFAULT t } E ::= ENUMERATED { x, y } y E ::= x t BOOLEAN ::= TRUE; T ::= SEQUENCE { a E DEFAULT y, b BOOLEAN DEFAULT TRUE } E ::= ENUMERATED { x(0), y(1) };
 ; T; T ::= SEQUENCE { a B DEFAULT { y, x }, b [0] B DEFAULT {}, c [1] B DEFAULT '0101'B } B ::= BIT STRING { x(1), y(4) }; T ::= SEQUENCE { a B DEFAULT '01001'B, b [0] EXPLICIT B DEFAULT ''B, c [1] EXPLICIT B DEFAULT '0101'B } B ::= BIT STRING { x(1), y(4) };
 ; T; T ::= SEQUENCE { a OCTET STRING DEFAULT '0F'H, b IA5String DEFAULT s } s IA5String ::= \"a\"\"b\"; T ::= SEQUENCE { a OCTET STRING DEFAULT '0F'H, b IA5String DEFAULT \"a\"\"b\" };
+# of an OCTET STRING in hexadecimal, with bits 0 up to whole octets (X.680 23), and of a BIT STRING as it is
+IMPLICIT TAGS; T; T ::= SEQUENCE { a OCTET STRING DEFAULT 'ABC'H, b [0] OCTET STRING DEFAULT '01'B, c [1] OCTET STRING DEFAULT 'AB C'H }; T ::= SEQUENCE { a OCTET STRING DEFAULT 'ABC0'H, b [0] IMPLICIT OCTET STRING DEFAULT '40'H, c [1] IMPLICIT OCTET STRING DEFAULT 'ABC0'H };
+IMPLICIT TAGS; T; T ::= SEQUENCE { a U DEFAULT u, b BIT STRING DEFAULT 'ABC'H, c [1] BIT STRING DEFAULT '01'B } U ::= [0] OCTET STRING u U ::= v v U ::= '000000001'B; T ::= SEQUENCE { a U DEFAULT '0080'H, b BIT STRING DEFAULT 'ABC'H, c [1] IMPLICIT BIT STRING DEFAULT '01'B } U ::= [0] IMPLICIT OCTET STRING;
+IMPLICIT TAGS; T; T ::= SEQUENCE { a OCTET STRING DEFAULT ''H, b [0] OCTET STRING DEFAULT ''B, c [1] OCTET STRING DEFAULT '00000000'B }; T ::= SEQUENCE { a OCTET STRING DEFAULT ''H, b [0] IMPLICIT OCTET STRING DEFAULT ''H, c [1] IMPLICIT OCTET STRING DEFAULT '00'H };
 # under an implicit tag a character string has the octets of an OCTET STRING (X.690 8.14 and 8.23)
 ; T; T ::= [0] IMPLICIT U U ::= TeletexString; T ::= [0] IMPLICIT OCTET STRING;
 AUTOMATIC TAGS; T; T ::= SEQUENCE { a GeneralString, b ObjectDescriptor }; T ::= SEQUENCE { a [0] IMPLICIT OCTET STRING, b [1] IMPLICIT OCTET STRING };
 ; T; T ::= ISO646String; T ::= VisibleString;
+# a word that X.680 reserved later means the type that the module assigns to it, but where that has the octets of its own
+; T; UTF8String ::= OCTET STRING T ::= SEQUENCE { a UTF8String }; T ::= SEQUENCE { a UTF8String-2 } UTF8String-2 ::= OCTET STRING;
+IMPLICIT TAGS; T; T ::= SEQUENCE { a [0] TIME, b [1] UniversalString } TIME ::= CHOICE { x NULL } UniversalString ::= CHOICE { y NULL }; T ::= SEQUENCE { a [0] EXPLICIT TIME-2, b [1] EXPLICIT UniversalString-2 } TIME-2 ::= CHOICE { x NULL } UniversalString-2 ::= CHOICE { y NULL };
+; T; T ::= SEQUENCE { a DATE DEFAULT 5, b BMPString DEFAULT two } DATE ::= INTEGER BMPString ::= [0] ENUMERATED { one, two }; T ::= SEQUENCE { a DATE-2 DEFAULT 5, b BMPString-2 DEFAULT two } DATE-2 ::= INTEGER BMPString-2 ::= [0] EXPLICIT ENUMERATED { one(0), two(1) };
+; T --as T.a=BMPString --as T.b=UTF8String; T ::= SEQUENCE { a ANY, b ANY } BMPString ::= NULL UTF8String ::= [UNIVERSAL 12] IMPLICIT OCTET STRING; T ::= SEQUENCE { a BMPString-2, b UTF8String } BMPString-2 ::= NULL;
+; T; T ::= SEQUENCE { a UTF8String DEFAULT \"b\" } UTF8String ::= [UNIVERSAL 12] IMPLICIT OCTET STRING; T ::= SEQUENCE { a UTF8String DEFAULT \"b\" };
+IMPLICIT TAGS; T; T ::= SEQUENCE { a BMPString, b GeneralizedTime, c [0] UniversalString } BMPString ::= [UNIVERSAL 30] OCTET STRING GeneralizedTime ::= [UNIVERSAL 24] IMPLICIT VisibleString UniversalString ::= [UNIVERSAL 28] IMPLICIT OCTET STRING; T ::= SEQUENCE { a BMPString, b GeneralizedTime, c [0] IMPLICIT OCTET STRING };
+; T; T ::= SEQUENCE { a VisibleString, b ISO646String } ISO646String ::= VisibleString; T ::= SEQUENCE { a VisibleString, b VisibleString };
+# under which name the type is written that is asked for, where its own cannot stand
+; Un_der; Un_der ::= SEQUENCE { a_b NULL, c TIME } TIME ::= NULL; Un-der ::= SEQUENCE { a-b NULL, c TIME-2 } TIME-2 ::= NULL; m.asn:2:1: renamed: Un_der is written as Un-der
+; TIME --verbose; TIME ::= INTEGER (0..5); TIME-2 ::= INTEGER; m.asn:2:1: renamed: TIME is written as TIME-2 m.asn:2:18: dropped: a constraint of TIME
 # the types of open types: a value is encoded as one of its own type (X.690 8.15)
 ; T --as T.a=U --as V=NULL; T ::= SEQUENCE { a ANY DEFINED BY b, b V } U ::= BOOLEAN V ::= FOO.&Type FOO ::= TYPE-IDENTIFIER; T ::= SEQUENCE { a U, b V } U ::= BOOLEAN V ::= NULL;
 ; T --as T.a.b=INTEGER; T ::= SET OF SEQUENCE { a CHOICE { b ANY } }; T ::= SET OF SEQUENCE { a CHOICE { b INTEGER } };
 # a field of a class is open by what its class says (X.681 9 and 14), and a tag in front of an open type explicit
 IMPLICIT TAGS; T --as T.a=NULL --as T.b=NULL --as T.c=C --as T.d=NULL; T ::= SEQUENCE { a [0] X.&Type, b [1] X.&id, c [2] X.&id, d [3] IMPLICIT X.&id } X ::= CLASS { &id INTEGER UNIQUE, &Type } C ::= CHOICE { x NULL }; T ::= SEQUENCE { a [0] EXPLICIT NULL, b [1] IMPLICIT NULL, c [2] EXPLICIT C, d [3] IMPLICIT NULL } C ::= CHOICE { x NULL };
 IMPLICIT TAGS; T --as T.a=NULL --as U=NULL; T ::= SEQUENCE { a [0] X.&value, b [1] U } X ::= CLASS { &value &Type, &Type OPTIONAL, &Set INTEGER } U ::= X.&Set; T ::= SEQUENCE { a [0] EXPLICIT NULL, b [1] IMPLICIT U } U ::= NULL;
+AUTOMATIC TAGS; T --as T.a=INTEGER --as T.b=NULL; T ::= SEQUENCE { a K.&id, b K.&Type } K ::= CLASS { &id INTEGER UNIQUE, &Type }; T ::= SEQUENCE { a [0] IMPLICIT INTEGER, b [1] EXPLICIT NULL };
 # a component or an alternative without a name, as X.208 has it, is named by its place
 ; T; T ::= SEQUENCE { a NULL, CHOICE { b BOOLEAN, [0] NULL } }; T ::= SEQUENCE { a NULL, unnamed-2 CHOICE { b BOOLEAN, unnamed-2 [0] EXPLICIT NULL } };
 # COMPONENTS OF stands for the components of the root (X.680 25.5), each with the tags that it has where it is written
@@ -96,23 +112,25 @@ fn steps(rt: HostRuntime) -> Result<(), Fail> {
 
 // Two modules, of which one imports from the other.
 const TWO: &str = "
-A DEFINITIONS IMPLICIT TAGS ::= BEGIN IMPORTS U, v FROM B { 1 2 3 } ;
-T ::= SEQUENCE { a U, b Time, c [v] B.Time }
+A DEFINITIONS IMPLICIT TAGS ::= BEGIN IMPORTS U, v, DATE FROM B { 1 2 3 } ;
+T ::= SEQUENCE { a U, b Time, c [v] B.Time, d DATE }
 Time ::= NULL
 END
-B { 1 2 3 } DEFINITIONS EXPLICIT TAGS ::= BEGIN EXPORTS U, Time ;
+B { 1 2 3 } DEFINITIONS EXPLICIT TAGS ::= BEGIN EXPORTS U, Time, DATE ;
 U ::= [1] Time
 Time ::= [2] INTEGER (0..v)
 v INTEGER ::= 9
 Time-2 ::= NULL
+DATE ::= [3] NULL
 END";
 
 #[test]
 fn modules_that_import(rt: HostRuntime) -> Result<(), Fail> {
     let ran = ran(rt.alloc(), TWO, "T")?;
     let wanted =
-        "A DEFINITIONS EXPLICIT TAGS ::= BEGIN T ::= SEQUENCE { a U, b Time, c [9] IMPLICIT Time-2 } \
-U ::= [1] EXPLICIT Time-2 Time ::= NULL Time-2 ::= [2] EXPLICIT INTEGER END";
+        "A DEFINITIONS EXPLICIT TAGS ::= BEGIN T ::= SEQUENCE { a U, b Time, c [9] IMPLICIT Time-2, d DATE-2 } \
+U ::= [1] EXPLICIT Time-2 Time ::= NULL Time-2 ::= [2] EXPLICIT INTEGER \
+DATE-2 ::= [3] EXPLICIT NULL END";
     let out = squeezed(rt.alloc(), ran.out.as_str())?;
     assert_eq!(rt; out.as_str(), wanted);
     assert_eq!(rt; ran.err.as_str(), "");
