@@ -32,7 +32,9 @@ pub struct Nest<'a> {
 /// The part that comes next, as its identifier octets say.
 #[derive(Clone, Copy, Debug)]
 pub struct Next<'a> {
+    /// Its tag.
     pub tag: Tag,
+    /// Whether its encoding is constructed.
     pub constructed: bool,
     /// How many identifier octets there are.
     pub identifier: usize,

@@ -1,8 +1,8 @@
-//! Reads values at once whose encodings are whole at the front of some octets.
+//! Reads a value in one go where its whole encoding is at the front of some octets.
 //!
 //! Most values of a stream are whole in the piece at hand. Such a one is read here by calls that nest as its type does;
 //! a stack of open encodings is kept for the segments of a constructed string alone. What is refused is left to a reader
-//! that goes part by part: what is not read here has taken nothing.
+//! that goes part by part; nothing has been taken then.
 #![tactic(auto)]
 
 mod components;

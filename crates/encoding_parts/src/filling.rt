@@ -1,4 +1,4 @@
-//! Values of contents octets, made where they stay: a value is large to hand on.
+//! Values of contents octets, written in place: to move a `Value` is costly.
 
 ghost use Rattle.std.specs.Prelude.{◌≡◌, IsTrue};
 ghost use Rattle.octets.specs.Rule.{ber};
@@ -18,9 +18,9 @@ use std::alloc::Global;
 use strings::{allowed, is_time};
 use types::{Ty, Value, conforms};
 
-/// Makes the value that of a type without parts that the contents octets of a primitive encoding are, and says whether
-/// it has. Where they are those of none, or memory runs out, it says no more. The types that are met most have ways of
-/// their own. Octets go into the room of those that the value holds.
+/// Makes the value that of a type without parts that the contents octets of a primitive encoding are, and returns whether
+/// it could; it does not say why not. The types that are met most have ways of their own. Octets go into the room of
+/// those that the value holds.
 #[inline(always)]
 pub fn fill(alloc: Global, ty: &Ty, contents: &[u8], value: &mut Value) -> bool
     requires { IsLeaf (ty_view ty.now) }

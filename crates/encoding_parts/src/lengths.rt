@@ -8,11 +8,11 @@ use primitives::MAX_INTEGER_OCTETS;
 use strings::{TextKind, TimeKind};
 use types::Ty;
 
-// 128 bits.
+// The octets of 128 bits.
 const MOST_OF_AN_ITEM: usize = 16;
 
-// 128 subidentifiers of 128 bits, seven bits an octet.
-const MOST_OF_ARCS: usize = 2432;
+// Of 128 subidentifiers of 128 bits each, by seven bits an octet, which are 19 octets.
+const MOST_OF_ARCS: usize = 2_432;
 
 /// Whether so many contents octets are within the bounds of a primitive encoding of `ty` (X.690 8.2 to
 /// 8.4, 8.6, 8.8, 8.19, 8.20, 8.23, 11.7 and 11.8). Where they are not, no octets after that length make one.

@@ -7,7 +7,7 @@ ghost use Rattle.octets.specs.Front.{Appends};
 
 use crate::NoMemory;
 
-/// Appends the octets of `number` in base 128: mostly one, for which there is room.
+/// Appends the octets of `number` in base 128. One octet, for which there is room, is put here; all else by a call.
 #[inline(always)]
 pub fn put_base_128(out: &mut Vec<u8>, number: u128) -> Result<(), NoMemory>
     ensures appended { OnOk result (Appends (IsBase128 number) out.old.items out.new.items) }
@@ -20,7 +20,7 @@ pub fn put_base_128(out: &mut Vec<u8>, number: u128) -> Result<(), NoMemory>
     put_long_base_128(out, number)
 }
 
-// Appends the octets of `number` in base 128, of any size: mostly two or three, for which there is room.
+// Appends the octets of `number` in base 128, of any size. Two or three, for which there is room, are put here.
 #[inline(never)]
 fn put_long_base_128(out: &mut Vec<u8>, number: u128) -> Result<(), NoMemory>
     ensures appended { OnOk result (Appends (IsBase128 number) out.old.items out.new.items) }

@@ -1,4 +1,4 @@
-//! Encodings of types without parts, read into values where these stay: a value is large to hand on.
+//! Encodings of types without parts, read into values in place: to move a `Value` is costly.
 
 ghost use Rattle.std.specs.Prelude.{◌≡◌, length, IsTrue, IfSome};
 ghost use Rattle.octets.specs.declared.canonical.Canonical.{Canonical};
@@ -39,9 +39,9 @@ pub fn read_shortly(
     }
 }
 
-// Makes the value that of a type without parts that the contents octets are, as CER and DER have them, and says whether
-// it has. Where they are those of none, or memory runs out, it says no more. Of BOOLEAN and BIT STRING BER has others
-// (X.690 11.1 and 11.2): these stand apart, so that all other types are told apart once.
+// Makes the value that of a type without parts that the contents octets are, as CER and DER have them, and returns
+// whether it could; it does not say why not. Of BOOLEAN and BIT STRING BER has others (X.690 11.1 and 11.2): these stand
+// apart, so that all other types are told apart once.
 #[inline(always)]
 fn fill_canonical(alloc: Global, ty: &Ty, contents: &[u8], value: &mut Value) -> bool
     requires { IsLeaf (ty_view ty.now) }

@@ -89,7 +89,7 @@ fn read_place(
     Ok((start, start + size))
 }
 
-// Whether a string of so many contents octets is one that CER cuts, and DER none (X.690 9.2 and 10.2).
+// Whether the rule cuts a string of so many contents octets: CER above 1,000, DER never (X.690 9.2 and 10.2).
 fn is_to_be_cut(rule: Canonical, ty: &Ty, size: usize) -> bool
     requires { IsLeaf (ty_view ty.now) }
     ensures { result ≡ false ↔ IsWhole rule (ty_view ty.now) size }

@@ -1,4 +1,4 @@
-//! What the strict readers answer to octets that stand behind a value, and to octets of BER alone.
+//! What the strict readers return for octets behind a value, and for octets that BER alone allows.
 
 use crate::type_notation::{OctetsTable, OfOctets};
 use crate::value_notation::comes_to;

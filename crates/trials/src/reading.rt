@@ -1,4 +1,4 @@
-//! Values whose octets come in pieces. What `read` answers to whole values stands in the tables of `vectors`.
+//! Values whose octets come in pieces. What `read` returns for whole values is in the tables of `vectors`.
 
 ghost use Rattle.std.specs.Prelude.{◌≤◌};
 

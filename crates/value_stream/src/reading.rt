@@ -16,9 +16,11 @@ use types::{Refusal, Value, WellTyped};
 /// A source, and a reader that is given the octets of a piece of it.
 #[derive(Drop)]
 pub struct Reading<'a, S> {
+    /// The type of the values.
     pub ty: &'a WellTyped,
     pub reader: AnyReader<'a>,
     pub source: S,
+    /// The piece that was read last.
     pub piece: Piece,
     /// How many octets of the piece were read.
     pub at: usize,
