@@ -7,8 +7,8 @@ use Rattle.octets.proofs.IdentifierLemmas.{identifier_unique}
 use Rattle.octets.proofs.LengthLemmas.{length_unique}
 use Rattle.types.specs.FirstTags.{IsUsable}
 use Rattle.types.proofs.NestingLemmas.{no_length-128}
-use Rattle.cutting.specs.declared.head.Opened.{Opened}
-use Rattle.cutting.specs.declared.head.Opened.TheVariants.{Definite, Indefinite, End}
+use Rattle.cutting.specs.declared.found.Opened.{Opened}
+use Rattle.cutting.specs.declared.found.Opened.TheVariants.{Definite, Indefinite, End}
 use Rattle.cutting.specs.Heads.{IsHead, IsDefiniteHead, IsIndefiniteHead}
 
 -- the tag of end-of-contents octets

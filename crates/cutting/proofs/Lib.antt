@@ -4,3 +4,4 @@ pub mod HeadLemmas
 pub mod RestLemmas
 pub mod StateLemmas
 pub mod ReadLemmas
+pub mod StreamLemmas

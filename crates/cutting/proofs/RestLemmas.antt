@@ -4,8 +4,8 @@ use Rattle.std.specs.List.{AllByRecursion, concat}
 use Rattle.std.proofs.lemmas.List.{take-append-drop, length-take-le}
 use Rattle.std.proofs.Math.Seq.{drop-append_seam}
 use Rattle.octets.specs.Length.{IsLength}
-use Rattle.cutting.specs.declared.head.Opened.{Opened}
-use Rattle.cutting.specs.declared.head.Opened.TheVariants.{Definite, Indefinite, End}
+use Rattle.cutting.specs.declared.found.Opened.{Opened}
+use Rattle.cutting.specs.declared.found.Opened.TheVariants.{Definite, Indefinite, End}
 use Rattle.cutting.specs.Encoding.{IsSomeDefinite, IsIndefiniteOf, IsAnyEncoding}
 use Rattle.cutting.specs.Rest.{IsRestOf, IsRestBehind, IsFromHead}
 use Rattle.cutting.specs.Heads.{IsHead, IsDefiniteHead, IsIndefiniteHead}

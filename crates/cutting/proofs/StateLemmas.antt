@@ -9,8 +9,8 @@ use Rattle.octets.specs.Front.{HasFront}
 use Rattle.octets.proofs.FrontLemmas.{front_of_more, whole_front, HasFront-from_parts}
 use Rattle.types.specs.declared.refusal.Refusal.{Refusal}
 use Rattle.cutting.specs.declared.ends.Ends.{Ends}
-use Rattle.cutting.specs.declared.head.Opened.{Opened}
-use Rattle.cutting.specs.declared.head.Opened.TheVariants.{Definite, Indefinite, End}
+use Rattle.cutting.specs.declared.found.Opened.{Opened}
+use Rattle.cutting.specs.declared.found.Opened.TheVariants.{Definite, Indefinite, End}
 use Rattle.cutting.specs.Encoding.{IsAnyEncoding}
 use Rattle.cutting.specs.Rest.{IsRestOf, IsRestBehind, IsFromHead, IsCompletion}
 use Rattle.cutting.specs.Heads.{IsHead, IsSomeHead}
@@ -126,16 +126,42 @@ held_none old new octets none is (n, there, c) =
     let whole : take new.count new.head ≡ g.head ++ (g.rest ++ drop n octets) = split ∙ (ap (λ x. x ++ drop n octets) g.joined ∙ append_assoc g.head g.rest (drop n octets)) in
     new.cut (HasFront-from_parts IsSomeHead g.head (g.rest ++ drop n octets) (take new.count new.head) whole (g.opened, g.is))
 
+-- the head that begins a front which completes it, and what follows
+record IsFrontHeaded (ends : Ends) (all : List ℕ) : Type 0 where
+  opened : Opened
+  head : List ℕ
+  rest : List ℕ
+  behind : List ℕ
+  is : IsHead opened head
+  joined : take ends.count ends.head ++ all ≡ head ++ rest
+  follows : Follows opened ends.open behind
+
+front_headed : (ends : Ends) (all : List ℕ) (n : ℕ) → ends.left ≡ 0 → Completes ends (take n all) → IsFrontHeaded ends all
+front_headed ends all n none c =
+    let held = take ends.count ends.head in
+    let g = headed ends.open (held ++ take n all) ((none_due ends.left ends.open held (take n all) none).0 c) in
+    record {
+      opened = g.opened;
+      head = g.head;
+      rest = g.rest ++ drop n all;
+      behind = g.rest;
+      is = g.is;
+      joined = ap (λ x. held ++ x) (whole_front n all) ∙ (sym (append_assoc held (take n all) (drop n all)) ∙ (ap (λ x. x ++ drop n all) g.joined ∙ append_assoc g.head g.rest (drop n all)));
+      follows = g.follows;
+    }
+
+held_split : (ends : Ends) (front octets rest more : List ℕ) → octets ≡ front ++ rest → take ends.count ends.head ++ (octets ++ more) ≡ (take ends.count ends.head ++ front) ++ (rest ++ more)
+held_split ends front octets rest more split =
+    let held = take ends.count ends.head in
+    ap (λ x. held ++ (x ++ more)) split ∙ (ap (λ x. held ++ x) (append_assoc front rest more) ∙ sym (append_assoc held front (rest ++ more)))
+
 -- where no head begins so, nothing completes it
 pub headless_never : (ends : Ends) (front octets : List ℕ) → ends.left ≡ 0 → (rest : List ℕ) → octets ≡ front ++ rest
     → ((more : List ℕ) → HasFront IsSomeHead ((take ends.count ends.head ++ front) ++ more) → ⊥) → EndsNever ends octets
-headless_never ends front octets none rest split h more c =
-    let held = take ends.count ends.head in
-    let from = (none_due ends.left ends.open held (octets ++ more) none).0 c in
-    let g = headed ends.open (held ++ (octets ++ more)) from in
-    let joined : held ++ (octets ++ more) ≡ (held ++ front) ++ (rest ++ more) =
-    ap (λ x. held ++ (x ++ more)) split ∙ (ap (λ x. held ++ x) (append_assoc front rest more) ∙ sym (append_assoc held front (rest ++ more))) in
-    h (rest ++ more) (HasFront-from_parts IsSomeHead g.head g.rest ((held ++ front) ++ (rest ++ more)) (sym joined ∙ g.joined) (g.opened, g.is))
+headless_never ends front octets none rest split h more (n, there, c) =
+    let all = octets ++ more in
+    let g = front_headed ends all n none c in
+    h (rest ++ more) (HasFront-from_parts IsSomeHead g.head g.rest ((take ends.count ends.head ++ front) ++ (rest ++ more)) (sym (held_split ends front octets rest more split) ∙ g.joined) (g.opened, g.is))
 
 no_end_outside : (around : ℕ) (rest : List ℕ) → around ≡ 0 → Follows End around rest → ⊥
 no_end_outside zero rest none f = f
@@ -144,12 +170,11 @@ no_end_outside (suc around) rest none f = omega arith
 -- nor where end-of-contents octets end nothing
 pub end_never : (ends : Ends) (front octets : List ℕ) → ends.left ≡ 0 → ends.open ≡ 0 → (rest : List ℕ) → octets ≡ front ++ rest
     → IsHead End (take ends.count ends.head ++ front) → EndsNever ends octets
-end_never ends front octets none outside rest split is more c =
-    let held = take ends.count ends.head in
-    let from = (none_due ends.left ends.open held (octets ++ more) none).0 c in
-    let joined : held ++ (octets ++ more) ≡ (held ++ front) ++ (rest ++ more) =
-    ap (λ x. held ++ (x ++ more)) split ∙ (ap (λ x. held ++ x) (append_assoc front rest more) ∙ sym (append_assoc held front (rest ++ more))) in
-    no_end_outside ends.open (rest ++ more) outside (behind_head End ends.open (held ++ front) (rest ++ more) is (subst (IsFromHead ends.open) joined from))
+end_never ends front octets none outside rest split is more (n, there, c) =
+    let all = octets ++ more in
+    let g = front_headed ends all n none c in
+    let same = head_unique End g.opened (take ends.count ends.head ++ front) g.head (rest ++ more) g.rest is g.is (sym (held_split ends front octets rest more split) ∙ g.joined) in
+    no_end_outside ends.open g.behind outside (subst (λ o. Follows o ends.open g.behind) (sym same.opened) g.follows)
 
 -- where contents octets are due, no head is taken
 pub due_moved : (ends : Ends) → 0 < ends.left → ends.count ≡ 0 → HasMoved ends ends []
@@ -253,9 +278,9 @@ goes_on initial now new piece at f g rest =
     let third = along (Completes initial) (take at piece ++ (drop at piece ++ rest)) (piece ++ rest) joined in
     (λ x. third.0 (second.0 (first.0 x)), λ x. first.1 (second.1 (third.1 x)))
 
-pub never_on : (initial now : Ends) (piece : List ℕ) (at : ℕ) → GoesOn initial now (take at piece) → EndsNever now (drop at piece) → EndsNever initial piece
-never_on initial now piece at f never more c =
-    never more ((f (drop at piece ++ more)).1 (subst (Completes initial) (front_of_more at piece more) c))
+pub never_on : (initial now : Ends) (piece : List ℕ) (at : ℕ) → EndsNotBefore initial (take at piece) → GoesOn initial now (take at piece) → EndsNever now (drop at piece) → EndsNever initial piece
+never_on initial now piece at before goes never more h =
+    none_behind initial now (take at piece) (drop at piece ++ more) before goes (never more) (subst (HasFront (Completes initial)) (front_of_more at piece more) h)
 
 -- a refusal that went through a `?`
 pub refused : (old new : Ends) (octets : List ℕ) (r : Result (Option ℕ) Refusal) (refusal : Refusal) → IsErrAnd r (λ e. e ≡ refusal) → TakesHead old new octets (Err refusal) → TakesHead old new octets r

@@ -10,9 +10,9 @@ use Rattle.octets.specs.Length.{IsLength}
 use Rattle.types.specs.declared.refusal.Refusal.{Refusal}
 use Rattle.types.specs.declared.refusal.Refusal.TheVariants.{StreamTooLong}
 use Rattle.types.specs.FirstTags.{IsUsable}
-use Rattle.cutting.specs.declared.head.Opened.{Opened}
-use Rattle.cutting.specs.declared.head.Opened.TheVariants.{Definite, Indefinite, End}
-use Rattle.cutting.specs.declared.head.Found.{Found}
+use Rattle.cutting.specs.declared.found.Opened.{Opened}
+use Rattle.cutting.specs.declared.found.Opened.TheVariants.{Definite, Indefinite, End}
+use Rattle.cutting.specs.declared.found.Found.{Found}
 use Rattle.cutting.specs.Refused.{IsOfHead}
 
 -- of the definite form, of so many contents octets

@@ -1,5 +1,6 @@
 -- Encodings that are begun, and what completes them.
-use Rattle.std.specs.Prelude.{ℕ, ◌⊎◌, ◌<◌, ◌↔◌, List, ◌++◌, take}
+use Rattle.std.specs.Prelude.{ℕ, ◌⊎◌, ◌+◌, ◌<◌, ◌↔◌, List, ◌++◌, take}
+use Rattle.octets.specs.Front.{HasFront}
 use Rattle.cutting.specs.declared.ends.Ends.{Ends}
 use Rattle.cutting.specs.declared.cutter.Cutter.{Cutter}
 use Rattle.cutting.specs.Encoding.{IsAnyEncoding}
@@ -8,6 +9,10 @@ use Rattle.cutting.specs.Rest.{IsCompletion}
 -- one is open, or contents octets of it are to come, or a part of its head has come
 abbrev pub IsBegun : Ends → Type 0
 IsBegun ends = (0 < ends.open) ⊎ ((0 < ends.left) ⊎ (0 < ends.count))
+
+-- how many octets have come: those passed, and those of a head that is cut
+abbrev pub came : Ends → ℕ
+came ends = ends.passed + ends.count
 
 -- what is cut so far ends within one
 abbrev pub IsInside : {K : Type 0} → Cutter K → Type 0
@@ -25,6 +30,6 @@ AnEncodingCompletesNone = (ends : Ends) → ¬ IsBegun ends → (octets : List �
 abbrev pub GoesOn : Ends → Ends → List ℕ → Type 0
 GoesOn old new octets = (rest : List ℕ) → Completes new rest ↔ Completes old (octets ++ rest)
 
--- nothing that begins so completes it
+-- no octets that begin so have a front that completes it
 abbrev pub EndsNever : Ends → List ℕ → Type 0
-EndsNever ends octets = (more : List ℕ) → ¬ Completes ends (octets ++ more)
+EndsNever ends octets = (more : List ℕ) → ¬ HasFront (Completes ends) (octets ++ more)

@@ -1,9 +1,10 @@
 //! A stream in files, its octets unchanged.
 
-ghost use Rattle.std.specs.Prelude.{◌≡◌, ◌≤◌, ◌↔◌, ℕ, List, Option, IsOk, IfErr, OnOk, length, take};
+ghost use Rattle.std.specs.Prelude.{◌≡◌, ◌≢◌, ◌+◌, ◌^◌, ◌≤◌, ◌↔◌, ℕ, List, Option, IsOk, IfErr, OnOk, length, take};
 ghost use Rattle.std.specs.Io.KnownBytes.{Appends};
 ghost use Rattle.cutting.specs.Refused.{IsOfCutting};
-ghost use Rattle.cutting.specs.Inside.{IsInside};
+ghost use Rattle.cutting.specs.Inside.{IsInside, came};
+ghost use Rattle.cutting.specs.Streams.{Passes, NeverBetween};
 
 use crate::Ends;
 use devices::Failed;
@@ -61,12 +62,16 @@ impl<K: Outputs> Cutter<K> {
     }
 
     /// How many octets have been passed, those of a head that is cut or refused left out.
-    pub fn passed(&self) -> u64 {
+    pub fn passed(&self) -> u64
+        ensures { result ≡ self.now.ends.passed }
+    {
         self.ends.passed()
     }
 
     /// How many octets have been passed before the encoding that is begun, or would begin next.
-    pub fn ended(&self) -> u64 {
+    pub fn ended(&self) -> u64
+        ensures { result ≡ self.now.ended }
+    {
         self.ended
     }
 
@@ -76,6 +81,12 @@ impl<K: Outputs> Cutter<K> {
         ensures whole { OnOk result (Appends (K.taken self.old.outputs) (K.taken self.new.outputs) piece.now) }
         ensures front { IfErr result (λ fault. (refusal : Refusal) → fault ≡ CutFault.Refused refusal →
             (n : ℕ) × (n ≤ length piece.now) × Appends (K.taken self.old.outputs) (K.taken self.new.outputs) (take n piece.now)) }
+        ensures passed { OnOk result (Passes self.old.ends self.new.ends piece.now) }
+        ensures counted { OnOk result (came self.new.ends ≡ came self.old.ends + length piece.now) }
+        ensures never { IfErr result (λ fault. (refusal : Refusal) → fault ≡ CutFault.Refused refusal →
+            refusal ≢ Refusal.StreamTooLong → NeverBetween self.old.ends piece.now) }
+        ensures too_long { IfErr result (λ fault. fault ≡ CutFault.Refused Refusal.StreamTooLong →
+            2 ^ 64 ≤ came self.old.ends + length piece.now) }
         ensures numbers { IfErr result IsOfCutting }
         ensures least { self.new.least ≡ self.old.least }
     {
@@ -87,7 +98,7 @@ impl<K: Outputs> Cutter<K> {
                     at += used;
                     self.ended = self.ends.passed();
                 }
-                Ok(None) => break,
+                Ok(None) => return self.write(&piece[from..]),
                 Err(refusal) => {
                     self.write(&piece[from..at])?;
                     return Err(CutFault::Refused(refusal));
@@ -120,6 +131,7 @@ impl<K: Outputs> Cutter<K> {
 
     fn write(&mut self, octets: &[u8]) -> Result<(), CutFault>
         ensures taken { OnOk result (Appends (K.taken self.old.outputs) (K.taken self.new.outputs) octets.now) }
+        ensures ends { (self.new.ends ≡ self.old.ends) × (self.new.ended ≡ self.old.ended) }
         ensures numbers { IfErr result (λ fault. fault ≡ CutFault.Output) }
         ensures least { self.new.least ≡ self.old.least }
     {
@@ -134,6 +146,7 @@ impl<K: Outputs> Cutter<K> {
 
     fn end_file(&mut self) -> Result<(), CutFault>
         ensures taken { OnOk result (K.taken self.new.outputs ≡ K.taken self.old.outputs) }
+        ensures ends { (self.new.ends ≡ self.old.ends) × (self.new.ended ≡ self.old.ended) }
         ensures numbers { IfErr result (λ fault. fault ≡ CutFault.Output) }
         ensures least { self.new.least ≡ self.old.least }
     {

@@ -1,11 +1,12 @@
 //! Where encodings end, by their heads alone.
 
-ghost use Rattle.std.specs.Prelude.{◌≡◌, ◌≤◌, ◌<◌, ◌+◌, IfOk, IfErr, take};
+ghost use Rattle.std.specs.Prelude.{◌≡◌, ◌≤◌, ◌<◌, ◌+◌, ◌^◌, IfOk, IfErr, take};
 ghost use Rattle.octets.specs.Front.{HasFront};
 ghost use Rattle.types.specs.declared.refusal.Refusal.TheVariants.{StreamTooLong};
 ghost use Rattle.cutting.specs.Heads.{IsSomeHead};
 
-use crate::head::{Opened, head_of};
+use crate::found::{Found, Opened};
+use crate::head::head_of;
 use types::Refusal;
 
 // One octet more than a head has at most: five identifier octets, and 127 length octets.
@@ -26,17 +27,18 @@ pub struct Ends {
     ghost short: { count ≤ 132 },
     ghost cut: { ¬ HasFront IsSomeHead (take count head) },
     ghost alone: { 0 < left → count ≡ 0 },
+    ghost nested: { «open» ≤ passed },
 }
 
 impl Ends {
-    ghost use Rattle.std.specs.Prelude.{◌≢◌, ◌↔◌, length, IsTrue, IfSome, IfNone};
-    ghost use Rattle.cutting.specs.Inside.{IsBegun, Completes, GoesOn, EndsNever};
+    ghost use Rattle.std.specs.Prelude.{◌≢◌, ◌↔◌, length, IsTrue, IfSome, IfNone, unwrap_or};
+    ghost use Rattle.cutting.specs.Inside.{IsBegun, came, Completes, GoesOn, EndsNever};
     ghost use Rattle.cutting.specs.Steps.{TakesHead, HasOpened, HasPassed};
     ghost use Rattle.cutting.specs.Refused.{IsOfHead};
 
     /// No octet has come.
     pub fn new() -> Ends
-        ensures { ¬ IsBegun result }
+        ensures { (¬ IsBegun result) × (result.passed ≡ 0) }
     {
         Ends {
             open: 0,
@@ -48,7 +50,9 @@ impl Ends {
     }
 
     /// How many octets have been passed of all encodings. Those of a head that is cut, or refused, are not counted.
-    pub fn passed(&self) -> u64 {
+    pub fn passed(&self) -> u64
+        ensures { result ≡ self.now.passed }
+    {
         self.passed
     }
 
@@ -67,7 +71,10 @@ impl Ends {
         ensures ended { IfOk result (λ found. IfSome found (λ used. ¬ IsBegun self.new)) }
         ensures begun { IfOk result (λ found. IfNone found (GoesOn self.old self.new piece.now)) }
         ensures none { IfOk result (λ found. IfNone found (¬ HasFront (Completes self.old) piece.now)) }
+        ensures inside { IfOk result (λ found. IfNone found (0 < length piece.now → IsBegun self.new)) }
+        ensures counted { IfOk result (λ found. came self.new ≡ came self.old + unwrap_or found (length piece.now)) }
         ensures never { IfErr result (λ refusal. refusal ≢ StreamTooLong → EndsNever self.old piece.now) }
+        ensures too_long { IfErr result (λ refusal. refusal ≡ StreamTooLong → 2 ^ 64 ≤ came self.old + length piece.now) }
         ensures numbers { IfErr result IsOfHead }
     {
         let mut at = 0;
@@ -89,6 +96,7 @@ impl Ends {
     // Passes contents octets, of which so many are there at most, and returns how many they are.
     fn pass(&mut self, there: usize) -> Result<usize, Refusal>
         ensures passed { IfOk result (HasPassed self.old self.new there) }
+        ensures too_long { IfErr result (λ _. 2 ^ 64 ≤ self.old.passed + there) }
         ensures numbers { IfErr result (λ refusal. refusal ≡ StreamTooLong) }
     {
         let passed = self.left.min(there);
@@ -110,8 +118,9 @@ impl Ends {
         }
         match head_of(octets)? {
             Some(found) => {
-                self.open(found.opened, found.used)?;
-                Ok(Some(found.used))
+                let used = found.used;
+                self.open(found)?;
+                Ok(Some(used))
             }
             None => self.take_cut_head(octets),
         }
@@ -128,7 +137,10 @@ impl Ends {
             match head_of(&self.head[..count])? {
                 Some(found) => {
                     self.count = 0;
-                    self.open(found.opened, count)?;
+                    self.open(Found {
+                        opened: found.opened,
+                        used: count,
+                    })?;
                     return Ok(Some(place + 1));
                 }
                 None => self.count = count,
@@ -137,24 +149,26 @@ impl Ends {
         Ok(None)
     }
 
-    // Passes a head of so many octets.
-    fn open(&mut self, opened: Opened, octets: usize) -> Result<(), Refusal>
+    // Passes a head.
+    fn open(&mut self, found: Found) -> Result<(), Refusal>
         requires { self.old.count ≡ 0 }
-        ensures { HasOpened opened self.old self.new result }
+        ensures { HasOpened found self.old self.new result }
     {
-        match opened {
+        let passed = sum(self.passed, found.used as u64)?;
+        match found.opened {
             Opened::Definite(contents) => self.left = contents,
-            Opened::Indefinite => self.open = sum(self.open, 1)?,
+            Opened::Indefinite => self.open += 1,
             Opened::End if self.open == 0 => return Err(Refusal::EndOfContents),
             Opened::End => self.open -= 1,
         }
-        self.passed = sum(self.passed, octets as u64)?;
+        self.passed = passed;
         Ok(())
     }
 }
 
 fn sum(count: u64, more: u64) -> Result<u64, Refusal>
     ensures value { IfOk result (λ sum. sum ≡ count + more) }
+    ensures too_long { IfErr result (λ _. 2 ^ 64 ≤ count + more) }
     ensures numbers { IfErr result (λ refusal. refusal ≡ StreamTooLong) }
 {
     match count.checked_add(more) {

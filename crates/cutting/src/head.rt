@@ -2,25 +2,9 @@
 
 ghost use Rattle.cutting.specs.Heads.{AnswersHead, IsReadEnd, IsReadUsable};
 
+use crate::found::{Found, Opened};
 use octets::{Head, Length, Tag, read_identifier, read_length};
 use types::Refusal;
-
-// What a head says of the octets behind it.
-#[derive(Drop)]
-pub(crate) enum Opened {
-    // So many contents octets.
-    Definite(usize),
-    Indefinite,
-    // It is the end of an indefinite form.
-    End,
-}
-
-// A head at the front of some octets, and how many of them it has.
-#[derive(Drop)]
-pub(crate) struct Found {
-    pub(crate) opened: Opened,
-    pub(crate) used: usize,
-}
 
 // The head at the front; None where it is cut.
 pub(crate) fn head_of(octets: &[u8]) -> Result<Option<Found>, Refusal>

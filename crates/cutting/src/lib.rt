@@ -5,6 +5,7 @@
 
 mod cutter;
 mod ends;
+mod found;
 mod head;
 mod laws;
 

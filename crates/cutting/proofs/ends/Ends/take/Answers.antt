@@ -16,7 +16,7 @@ returns-in_err-used-clause-never c =
     let at = c.loop-used.at in
     let said = c.in_err-used.ensures in
     IfErr-from c.from_residual.result _ (λ refusal. refusal ≢ StreamTooLong → EndsNever old piece) c.from_residual.ensures.1
-    (λ e is other. never_on old ends piece at c.loop-used.invariant.goes (behind (EndsNever ends) piece at (said.1 (λ long. other (is ∙ long)))))
+    (λ e is other. never_on old ends piece at c.loop-used.invariant.before c.loop-used.invariant.goes (behind (EndsNever ends) piece at (said.1 (λ long. other (is ∙ long)))))
 
 pub returns-in-None-clause-begun : goal.returns-in-None-clause-begun
 returns-in-None-clause-begun c =
@@ -65,6 +65,8 @@ loop-used-preserved c =
     record {
       within = turn_within ends mid new piece at used passed c.loop-used.invariant.within said c.in_ok-at.ensures.passed;
       before = moved.none_before;
+      inside = λ _. some;
+      counted = omega (arith, c.loop-used.invariant.counted, said.3, c.in_ok-at.ensures.passed.counted, c.in_ok-at.ensures.passed.same.1);
       goes = moved_on c.args.self.now new (take (at + used + passed) piece) moved some;
     }
 
