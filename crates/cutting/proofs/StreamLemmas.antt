@@ -1,7 +1,9 @@
 -- Lemmas on streams: what completes an encoding begins nothing else that does, so a stream is cut in one way.
-use Rattle.std.proofs.Common.{◌≡◌, ℕ, zero, suc, ◌+◌, ◌-◌, ◌<◌, ◌≤◌, List, [], ◌∷◌, ◌++◌, inl, inr, length, take, drop, Ok, Err, OnOk, refl, sym, ap, ◌∙◌, subst, arith, append_assoc, append-nil, length-append}
+use Rattle.std.proofs.Common.{◌≡◌, ℕ, zero, suc, ◌+◌, ◌-◌, ◌<◌, ◌≤◌, List, [], ◌∷◌, ◌++◌, inl, inr, length, take, drop, Ok, Err, OnOk, Option, Some, None, IfSome, map, refl, sym, ap, ◌∙◌, subst, arith, append_assoc, append-nil, length-append}
 use Rattle.std.specs.declared.result.Result.{Result}
 use Rattle.std.specs.List.{AllByRecursion, concat}
+use Rattle.std.specs.Io.KnownBytes.{Appends}
+use Rattle.devices.proofs.DeviceLemmas.{appends_none, appends_more}
 use Rattle.std.proofs.lemmas.List.{length-take-le, length-drop, take_all, take_rest}
 use Rattle.std.proofs.Math.Seq.{take-add}
 use Rattle.std.proofs.lemmas.Bool.{cases_lt}
@@ -14,7 +16,7 @@ use Rattle.cutting.specs.Encoding.{IsAnyEncoding}
 use Rattle.cutting.specs.Rest.{IsRestOf, IsFromHead, IsCompletion}
 use Rattle.cutting.specs.Heads.{IsHead, IsSomeHead}
 use Rattle.cutting.specs.Inside.{IsBegun, Completes, GoesOn, EndsNever}
-use Rattle.cutting.specs.Streams.{IsRestOfStream, EndsBetween, Passes, NeverBetween}
+use Rattle.cutting.specs.Streams.{IsRestOfStream, EndsBetween, Passes, NeverBetween, AreEndedBetween}
 use Rattle.cutting.proofs.HeadLemmas.{head_unique}
 use Rattle.cutting.proofs.RestLemmas.{Follows, headed}
 use Rattle.cutting.proofs.StateLemmas.{some_used, completes_none}
@@ -186,3 +188,34 @@ rest_passes initial now new piece at some before goes none begun =
 pub on_ok : {E : Type 0} (r : Result (Unit {0}) E) (P : Type 0) → P → OnOk r P
 on_ok (Ok x) P h = h
 on_ok (Err e) P h = tt
+
+-- before any file is ended
+none_ended : (ends : Ends) (octets : List ℕ) (before : ℕ) (told : Option (List ℕ)) → AreEndedBetween ends octets before told told
+none_ended ends octets before told = record { places = []; each = tt; added = appends_none told }
+
+pub none_ended_if : (ends : Ends) (octets : List ℕ) (taken told : Option (List ℕ)) → IfSome taken (λ all. AreEndedBetween ends octets (length all) told told)
+none_ended_if ends octets None told = tt
+none_ended_if ends octets (Some all) told = none_ended ends octets (length all) told
+
+all_more : (P : ℕ → Type 0) (places : List ℕ) (n : ℕ) → AllByRecursion P places → P n → AllByRecursion P (places ++ (n ∷ []))
+all_more P [] n each one = (one, tt)
+all_more P (x ∷ xs) n each one = (each.0, all_more P xs n each.1 one)
+
+map_more : (f : ℕ → ℕ) (places : List ℕ) (n : ℕ) → map f (places ++ (n ∷ [])) ≡ map f places ++ (f n ∷ [])
+map_more f [] n = refl
+map_more f (x ∷ xs) n = ap (λ k. f x ∷ k) (map_more f xs n)
+
+-- one more is ended behind a front of the octets
+pub one_ended : (ends : Ends) (octets : List ℕ) (n : ℕ) (taken now old mid new : Option (List ℕ)) → n ≤ length octets → EndsBetween ends (take n octets)
+    → Appends taken now (take n octets) → IfSome taken (λ all. AreEndedBetween ends octets (length all) old mid)
+    → IfSome now (λ all. Appends mid new (length all ∷ [])) → IfSome taken (λ all. AreEndedBetween ends octets (length all) old new)
+one_ended ends octets n None now old mid new within ends_there written before ended = tt
+one_ended ends octets n (Some all) None old mid new within ends_there written before ended = absurd written
+one_ended ends octets n (Some all) (Some more) old mid new within ends_there written before ended =
+    let size : length more ≡ length all + n = ap length written ∙ (length-append all (take n octets) ∙ ap (λ k. length all + k) (length-take-le n octets within)) in
+    let one = subst (λ k. Appends mid new (k ∷ [])) size ended in
+    record {
+      places = before.places ++ (n ∷ []);
+      each = all_more (λ k. (k ≤ length octets) × EndsBetween ends (take k octets)) before.places n before.each (within, ends_there);
+      added = appends_more old mid new (map (λ k. length all + k) before.places) ((length all + n) ∷ []) (map (λ k. length all + k) (before.places ++ (n ∷ []))) before.added one (map_more (λ k. length all + k) before.places n);
+    }

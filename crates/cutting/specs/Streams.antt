@@ -1,6 +1,7 @@
 -- Streams: encodings one after another, from within one of them on.
-use Rattle.std.specs.Prelude.{◌≡◌, ◌⊎◌, ◌↔◌, List, [], ◌++◌, ℕ}
+use Rattle.std.specs.Prelude.{◌≡◌, ◌⊎◌, ◌↔◌, ◌≤◌, ◌+◌, ℕ, List, [], ◌++◌, Option, length, map, take}
 use Rattle.std.specs.List.{AllByRecursion, concat}
+use Rattle.std.specs.Io.KnownBytes.{Appends}
 use Rattle.cutting.specs.declared.ends.Ends.{Ends}
 use Rattle.cutting.specs.Encoding.{IsAnyEncoding}
 use Rattle.cutting.specs.Inside.{IsBegun, Completes}
@@ -24,3 +25,9 @@ Passes old new octets = (rest : List ℕ) → EndsBetween new rest ↔ EndsBetwe
 -- nothing that begins so ends it between encodings
 abbrev pub NeverBetween : Ends → List ℕ → Type 0
 NeverBetween ends octets = (more : List ℕ) → ¬ EndsBetween ends (octets ++ more)
+
+-- each file that was ended meanwhile ends between encodings, behind so many octets and a front of these
+pub record AreEndedBetween (ends : Ends) (octets : List ℕ) (before : ℕ) (old new : Option (List ℕ)) : Type 0 where
+  pub places : List ℕ
+  pub each : AllByRecursion (λ n. (n ≤ length octets) × EndsBetween ends (take n octets)) places
+  pub added : Appends old new (map (λ n. before + n) places)

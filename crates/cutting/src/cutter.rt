@@ -1,10 +1,10 @@
 //! A stream in files, its octets unchanged.
 
-ghost use Rattle.std.specs.Prelude.{◌≡◌, ◌≢◌, ◌+◌, ◌^◌, ◌≤◌, ◌↔◌, ℕ, List, Option, IsOk, IfErr, OnOk, length, take};
+ghost use Rattle.std.specs.Prelude.{◌≡◌, ◌≢◌, ◌+◌, ◌^◌, ◌≤◌, ◌↔◌, ℕ, List, [], ◌∷◌, Option, None, IfSome, IsOk, IfErr, OnOk, length, take};
 ghost use Rattle.std.specs.Io.KnownBytes.{Appends};
 ghost use Rattle.cutting.specs.Refused.{IsOfCutting};
 ghost use Rattle.cutting.specs.Inside.{IsInside, came};
-ghost use Rattle.cutting.specs.Streams.{Passes, NeverBetween};
+ghost use Rattle.cutting.specs.Streams.{AreEndedBetween, Passes, NeverBetween};
 
 use crate::Ends;
 use devices::Failed;
@@ -14,14 +14,18 @@ use types::Refusal;
 pub trait Outputs {
     // The octets of all files, one file behind another, where the files tell them.
     ghost taken: { Self → Option (List ℕ) };
+    // How many octets all files had wherever one was ended, where the files tell it.
+    ghost cuts: { Self → Option (List ℕ) } = { λ _. None };
 
     /// Ends the file that is written, if there is one. What is written next goes to another one.
     fn end_file(&mut self) -> Result<(), Failed>
-        ensures { OnOk result (taken self.new ≡ taken self.old) };
+        ensures taken { OnOk result (taken self.new ≡ taken self.old) }
+        ensures cuts { OnOk result (IfSome (taken self.old) (λ all. Appends (cuts self.old) (cuts self.new) (length all ∷ []))) };
 
     /// Writes all octets to the file, which is made first if there is none.
     fn write(&mut self, octets: &[u8]) -> Result<(), Failed>
-        ensures { OnOk result (Appends (taken self.old) (taken self.new) octets.now) };
+        ensures taken { OnOk result (Appends (taken self.old) (taken self.new) octets.now) }
+        ensures cuts { OnOk result (cuts self.new ≡ cuts self.old) };
 }
 
 /// Why a stream is not cut to its end.
@@ -50,7 +54,7 @@ pub struct Cutter<K> {
 impl<K: Outputs> Cutter<K> {
     /// Nothing has been cut.
     pub fn new(outputs: K, least: u64) -> Cutter<K>
-        ensures { (result.outputs ≡ outputs) × (result.least ≡ least) × ¬ IsInside result }
+        ensures { (result.outputs ≡ outputs) × (result.least ≡ least) × (came result.ends ≡ 0) × (result.ended ≡ 0) × ¬ IsInside result }
     {
         Cutter {
             outputs,
@@ -81,6 +85,8 @@ impl<K: Outputs> Cutter<K> {
         ensures whole { OnOk result (Appends (K.taken self.old.outputs) (K.taken self.new.outputs) piece.now) }
         ensures front { IfErr result (λ fault. (refusal : Refusal) → fault ≡ CutFault.Refused refusal →
             (n : ℕ) × (n ≤ length piece.now) × Appends (K.taken self.old.outputs) (K.taken self.new.outputs) (take n piece.now)) }
+        ensures between { OnOk result (IfSome (K.taken self.old.outputs) (λ all.
+            AreEndedBetween self.old.ends piece.now (length all) (K.cuts self.old.outputs) (K.cuts self.new.outputs))) }
         ensures passed { OnOk result (Passes self.old.ends self.new.ends piece.now) }
         ensures counted { OnOk result (came self.new.ends ≡ came self.old.ends + length piece.now) }
         ensures never { IfErr result (λ fault. (refusal : Refusal) → fault ≡ CutFault.Refused refusal →
@@ -131,6 +137,7 @@ impl<K: Outputs> Cutter<K> {
 
     fn write(&mut self, octets: &[u8]) -> Result<(), CutFault>
         ensures taken { OnOk result (Appends (K.taken self.old.outputs) (K.taken self.new.outputs) octets.now) }
+        ensures cuts { OnOk result (K.cuts self.new.outputs ≡ K.cuts self.old.outputs) }
         ensures ends { (self.new.ends ≡ self.old.ends) × (self.new.ended ≡ self.old.ended) }
         ensures numbers { IfErr result (λ fault. fault ≡ CutFault.Output) }
         ensures least { self.new.least ≡ self.old.least }
@@ -146,6 +153,8 @@ impl<K: Outputs> Cutter<K> {
 
     fn end_file(&mut self) -> Result<(), CutFault>
         ensures taken { OnOk result (K.taken self.new.outputs ≡ K.taken self.old.outputs) }
+        ensures cuts { OnOk result (IfSome (K.taken self.old.outputs) (λ all.
+            Appends (K.cuts self.old.outputs) (K.cuts self.new.outputs) (length all ∷ []))) }
         ensures ends { (self.new.ends ≡ self.old.ends) × (self.new.ended ≡ self.old.ended) }
         ensures numbers { IfErr result (λ fault. fault ≡ CutFault.Output) }
         ensures least { self.new.least ≡ self.old.least }

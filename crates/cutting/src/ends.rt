@@ -38,7 +38,7 @@ impl Ends {
 
     /// No octet has come.
     pub fn new() -> Ends
-        ensures { (¬ IsBegun result) × (result.passed ≡ 0) }
+        ensures { (¬ IsBegun result) × (came result ≡ 0) }
     {
         Ends {
             open: 0,

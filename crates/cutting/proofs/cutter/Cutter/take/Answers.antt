@@ -1,14 +1,15 @@
-use Rattle.std.proofs.Common.{rules, ◌≡◌, ◌≢◌, ◌∙◌, ◌+◌, ◌-◌, ◌≤◌, ◌<◌, length, take, drop, IfSome, IfNone, unwrap_or, ap, arith, sym, subst}
+use Rattle.std.proofs.Common.{rules, ◌≡◌, ◌≢◌, ◌∙◌, ◌+◌, ◌-◌, ◌≤◌, ◌<◌, length, take, drop, IfSome, IfNone, unwrap_or, refl, ap, arith, sym, subst}
 use Rattle.std.specs.Io.KnownBytes.{Appends}
 use Rattle.std.proofs.lemmas.List.{take_all}
 use Rattle.octets.specs.Front.{HasFront}
+use Rattle.octets.proofs.ResultLemmas.{OnOk-map}
 use Rattle.types.specs.declared.refusal.Refusal.TheVariants.{StreamTooLong}
 use Rattle.cutting.specs.Inside.{IsBegun, came, Completes, GoesOn, EndsNever}
-use Rattle.cutting.specs.Streams.{Passes}
+use Rattle.cutting.specs.Streams.{Passes, AreEndedBetween}
 use Rattle.cutting.proofs.CutLemmas.{take_to}
 use Rattle.cutting.proofs.ReadLemmas.{behind}
-use Rattle.cutting.proofs.StreamLemmas.{step_passes, rest_passes, never_between, on_ok}
-use Rattle.devices.proofs.DeviceLemmas.{appends_more}
+use Rattle.cutting.proofs.StreamLemmas.{step_passes, rest_passes, never_between, on_ok, between, passes_none, none_ended_if, one_ended}
+use Rattle.devices.proofs.DeviceLemmas.{appends_more, appends_none}
 use Rattle.cutting.proofs.cutter.Cutter.take.Goals as goal
 
 pub loop-at-preserved-then-is_full : goal.loop-at-preserved-then-is_full
@@ -26,12 +27,17 @@ loop-at-preserved-then-is_full g c =
     let same : c.end_file.new.self.ends ≡ new = c.in_ok-end_file.ensures.ends.0 ∙ c.in_ok-write.ensures.ends.0 in
     let completes = subst (λ f. IfSome f (λ n. Completes now (take n (take (length piece - at) (drop at piece))))) c.in-Ok-Some.field-0-is c.in-Ok-Some.ensures.value in
     let outside = subst (λ f. IfSome f (λ n. IsBegun new → ⊥)) c.in-Ok-Some.field-0-is c.in-Ok-Some.ensures.ended in
+    let passes = (step_passes initial now new piece at used c.loop-at.invariant.passed completes outside) in
+    let there : to ≤ length piece = search rules in
+    let cuts = subst (λ told. IfSome (g.K.Outputs.taken c.args.self.now.outputs) (λ all. AreEndedBetween initial piece (length all) (g.K.Outputs.cuts c.args.self.now.outputs) told)) (sym c.in_ok-write.ensures.cuts) c.loop-at.invariant.between in
     let counted = subst (λ f. came new ≡ came now + unwrap_or f (length (take (length piece - at) (drop at piece)))) c.in-Ok-Some.field-0-is c.in-Ok-Some.ensures.counted in
     record {
       ordered = search rules;
       within = search rules;
       taken = subst (λ told. Appends (g.K.Outputs.taken c.args.self.now.outputs) told (take to piece)) (sym c.in_ok-end_file.ensures.taken) written;
-      passed = subst (λ e. Passes initial e (take to piece)) (sym same) (step_passes initial now new piece at used c.loop-at.invariant.passed completes outside);
+      passed = subst (λ e. Passes initial e (take to piece)) (sym same) passes;
+      between = one_ended initial piece to (g.K.Outputs.taken c.args.self.now.outputs) (g.K.Outputs.taken c.write-then-is_full.new.self.outputs) (g.K.Outputs.cuts c.args.self.now.outputs) (g.K.Outputs.cuts c.write-then-is_full.new.self.outputs) (g.K.Outputs.cuts c.end_file.new.self.outputs)
+          there (between initial new (take to piece) passes outside) written cuts c.in_ok-end_file.ensures.cuts;
       counted = ap came same ∙ omega (arith, counted, c.loop-at.invariant.counted);
       least = c.in_ok-end_file.ensures.least ∙ c.in_ok-write.ensures.least ∙ c.loop-at.invariant.least;
     }
@@ -52,6 +58,7 @@ loop-at-preserved g c =
       within = search rules;
       taken = search rules;
       passed = step_passes initial now new piece at used c.loop-at.invariant.passed completes outside;
+      between = c.loop-at.invariant.between;
       counted = omega (arith, counted, c.loop-at.invariant.counted);
       least = search rules;
     }
@@ -93,3 +100,26 @@ returns-clause-passed g c =
     let initial = c.args.self.now.ends in
     let whole = subst (Passes initial c.loop-at.self.ends) (take_all c.loop-at.at piece (omega arith)) c.loop-at.invariant.passed in
     on_ok c.write-2.result (Passes initial c.write-2.new.self.ends piece) (subst (λ e. Passes initial e piece) (sym c.write-2.ensures.ends.0) whole)
+
+pub loop-at-init : goal.loop-at-init
+loop-at-init g c = record {
+  ordered = search rules;
+  within = search rules;
+  taken = appends_none (g.K.Outputs.taken c.args.self.now.outputs);
+  passed = passes_none c.args.self.now.ends;
+  counted = omega arith;
+  least = refl;
+  between = none_ended_if c.args.self.now.ends c.args.piece.now (g.K.Outputs.taken c.args.self.now.outputs) (g.K.Outputs.cuts c.args.self.now.outputs);
+}
+
+pub returns-in-Ok-None-clause-between : goal.returns-in-Ok-None-clause-between
+returns-in-Ok-None-clause-between g c =
+    OnOk-map c.write.result _ _
+    (λ same. subst (λ told. IfSome (g.K.Outputs.taken c.args.self.now.outputs) (λ all. AreEndedBetween c.args.self.now.ends c.args.piece.now (length all) (g.K.Outputs.cuts c.args.self.now.outputs) told)) (sym same) c.loop-at.invariant.between)
+    c.write.ensures.cuts
+
+pub returns-clause-between : goal.returns-clause-between
+returns-clause-between g c =
+    OnOk-map c.write-2.result _ _
+    (λ same. subst (λ told. IfSome (g.K.Outputs.taken c.args.self.now.outputs) (λ all. AreEndedBetween c.args.self.now.ends c.args.piece.now (length all) (g.K.Outputs.cuts c.args.self.now.outputs) told)) (sym same) c.loop-at.invariant.between)
+    c.write-2.ensures.cuts
