@@ -9,6 +9,8 @@ use Rattle.types.specs.Encoding.{Meaning}
 use Rattle.types.specs.Shape.{Shape}
 use Rattle.canon.proofs.PartLemmas.{take_two}
 use Rattle.devices.proofs.DeviceLemmas.{appends_none, appends_more}
+use Rattle.engine.specs.declared.any_reader.AnyReader.{AnyReader}
+use Rattle.engine.specs.AnyReader.{read_rule}
 use Rattle.engine.specs.Feeding.{IsUnfinished}
 use Rattle.engine.specs.Passing.{Gathers, HasGathered, HasNotPassed, HasPassed, StopsGathering, Writes}
 use Rattle.engine.proofs.FeedingLemmas.{cut_piece}
@@ -103,53 +105,55 @@ gathers_anyway (Err refusal) rule shape Stands StandsOld StandsAt old piece batc
     (g.rest, g.gathers)
 
 -- nothing of a piece was passed on yet
-pub passed_none : (StandsAt : List ℕ → Type 0) (rule : Rule) (shape : Shape) (Stands : Meaning) (done : ℕ) (front : List ℕ) (taken : Option (List ℕ)) → front ≡ [] → HasPassed StandsAt StandsAt rule shape Stands done done front taken taken
-passed_none StandsAt rule shape Stands done front taken none = record {
+pub passed_none : (shape : Shape) (Stands : Meaning) (reader : AnyReader) (done : ℕ) (front : List ℕ) (taken : Option (List ℕ)) → front ≡ [] → HasPassed shape Stands reader reader done done front taken taken
+passed_none shape Stands reader done front taken none = record {
+  same_rule = refl;
   passed = λ old unfinished. record {
     rest = old;
     written = [];
     count = 0;
     counted = omega arith;
     takes = appends_none taken;
-    writes = subst (λ octets. Writes rule shape Stands 0 octets old [] []) (sym (ap (λ x. old ++ x) none ∙ append-nil old)) (writes_none rule shape Stands old);
+    writes = subst (λ octets. Writes (read_rule reader) shape Stands 0 octets old [] []) (sym (ap (λ x. old ++ x) none ∙ append-nil old)) (writes_none (read_rule reader) shape Stands old);
     stands = unfinished;
   };
   few = omega arith;
 }
 
 -- all of it was
-pub passed_whole : (StandsOld StandsNew : List ℕ → Type 0) (rule : Rule) (shape : Shape) (Stands : Meaning) (before now : ℕ) (front piece : List ℕ) (taken_old taken_new : Option (List ℕ)) → front ≡ piece
-    → HasPassed StandsOld StandsNew rule shape Stands before now front taken_old taken_new → HasPassed StandsOld StandsNew rule shape Stands before now piece taken_old taken_new
-passed_whole StandsOld StandsNew rule shape Stands before now front piece taken_old taken_new same = subst (λ octets. HasPassed StandsOld StandsNew rule shape Stands before now octets taken_old taken_new) same
+pub passed_whole : (shape : Shape) (Stands : Meaning) (old new : AnyReader) (before now : ℕ) (front piece : List ℕ) (taken_old taken_new : Option (List ℕ)) → front ≡ piece
+    → HasPassed shape Stands old new before now front taken_old taken_new → HasPassed shape Stands old new before now piece taken_old taken_new
+passed_whole shape Stands old new before now front piece taken_old taken_new same = subst (λ octets. HasPassed shape Stands old new before now octets taken_old taken_new) same
 
 -- one batch more
-pub passed_on : (StandsOld StandsAt StandsNew : List ℕ → Type 0) (rule : Rule) (shape : Shape) (Stands : Meaning) (before done now : ℕ) (front more piece : List ℕ) (taken_old taken taken_new : Option (List ℕ)) → front ++ more ≡ piece
-    → HasPassed StandsOld StandsAt rule shape Stands before done front taken_old taken → HasPassed StandsAt StandsNew rule shape Stands done now more taken taken_new → HasPassed StandsOld StandsNew rule shape Stands before now piece taken_old taken_new
-passed_on StandsOld StandsAt StandsNew rule shape Stands before done now front more piece taken_old taken taken_new whole p q = record {
-  passed = λ old unfinished.
-      let f = p.passed old unfinished in
-      let s = q.passed f.rest f.stands in
+pub passed_on : (shape : Shape) (Stands : Meaning) (old mid new : AnyReader) (before done now : ℕ) (front more piece : List ℕ) (taken_old taken taken_new : Option (List ℕ)) → front ++ more ≡ piece
+    → HasPassed shape Stands old mid before done front taken_old taken → HasPassed shape Stands mid new done now more taken taken_new → HasPassed shape Stands old new before now piece taken_old taken_new
+passed_on shape Stands old mid new before done now front more piece taken_old taken taken_new whole p q = record {
+  same_rule = q.same_rule ∙ p.same_rule;
+  passed = λ at unfinished.
+      let f = p.passed at unfinished in
+      let s = (rw p.same_rule at q.passed) f.rest f.stands in
       record {
         rest = s.rest;
         written = f.written ++ s.written;
         count = f.count + s.count;
         counted = omega (arith, f.counted, s.counted);
         takes = appends_more taken_old taken taken_new f.written s.written (f.written ++ s.written) f.takes s.takes refl;
-        writes = subst (λ octets. Writes rule shape Stands (f.count + s.count) octets s.rest (f.written ++ s.written) []) (append_assoc old front more ∙ ap (λ octets. old ++ octets) whole)
-            (writes_on rule shape Stands (old ++ front) f.written f.rest more s.written [] s.rest f.count s.count f.writes s.writes);
+        writes = subst (λ octets. Writes (read_rule old) shape Stands (f.count + s.count) octets s.rest (f.written ++ s.written) []) (append_assoc at front more ∙ ap (λ octets. at ++ octets) whole)
+            (writes_on (read_rule old) shape Stands (at ++ front) f.written f.rest more s.written [] s.rest f.count s.count f.writes s.writes);
         stands = s.stands;
       };
   few = omega (arith, p.few, q.few, length-append front more, ap length whole);
 }
 
 -- the rest was not passed on whole
-pub not_passed_on : (StandsOld StandsAt : List ℕ → Type 0) (rule : Rule) (shape : Shape) (Stands : Meaning) (CanBeTooLong : Type 0) (before now done : ℕ) (refusal : Refusal) (front more piece : List ℕ) (taken_old taken taken_new : Option (List ℕ)) → front ++ more ≡ piece
-    → HasPassed StandsOld StandsAt rule shape Stands before now front taken_old taken → HasNotPassed StandsAt rule shape Stands CanBeTooLong now done refusal more taken taken_new
-    → HasNotPassed StandsOld rule shape Stands CanBeTooLong before done refusal piece taken_old taken_new
-not_passed_on StandsOld StandsAt rule shape Stands CanBeTooLong before now done refusal front more piece taken_old taken taken_new whole p q = record {
-  stopped = λ old unfinished.
-      let f = p.passed old unfinished in
-      let s = q.stopped f.rest f.stands in
+pub not_passed_on : (shape : Shape) (Stands : Meaning) (CanBeTooLong : Type 0) (old mid : AnyReader) (before now done : ℕ) (refusal : Refusal) (front more piece : List ℕ) (taken_old taken taken_new : Option (List ℕ)) → front ++ more ≡ piece
+    → HasPassed shape Stands old mid before now front taken_old taken → HasNotPassed shape Stands CanBeTooLong mid now done refusal more taken taken_new
+    → HasNotPassed shape Stands CanBeTooLong old before done refusal piece taken_old taken_new
+not_passed_on shape Stands CanBeTooLong old mid before now done refusal front more piece taken_old taken taken_new whole p q = record {
+  stopped = λ at unfinished.
+      let f = p.passed at unfinished in
+      let s = (rw p.same_rule at q.stopped) f.rest f.stands in
       record {
         rest = s.rest;
         written = f.written ++ s.written;
@@ -157,11 +161,11 @@ not_passed_on StandsOld StandsAt rule shape Stands CanBeTooLong before now done 
         count = f.count + s.count;
         counted = omega (arith, f.counted, s.counted);
         takes = appends_more taken_old taken taken_new f.written s.written (f.written ++ s.written) f.takes s.takes refl;
-        writes = subst (λ octets. Writes rule shape Stands (f.count + s.count) octets s.rest (f.written ++ s.written) s.part) (append_assoc old front more ∙ ap (λ octets. old ++ octets) whole)
-            (writes_on rule shape Stands (old ++ front) f.written f.rest more s.written s.part s.rest f.count s.count f.writes s.writes);
+        writes = subst (λ octets. Writes (read_rule old) shape Stands (f.count + s.count) octets s.rest (f.written ++ s.written) s.part) (append_assoc at front more ∙ ap (λ octets. at ++ octets) whole)
+            (writes_on (read_rule old) shape Stands (at ++ front) f.written f.rest more s.written s.part s.rest f.count s.count f.writes s.writes);
         stops = s.stops;
       };
   source = q.source;
   long = q.long;
-  numbers = q.numbers;
+  numbers = rw p.same_rule at q.numbers;
 }

@@ -1,6 +1,6 @@
 -- What a reader over pieces led to, and what is gathered by it.
 use Rattle.std.proofs.Common.{◌≡◌, ◌≢◌, ℕ, ◌<◌, inl, inr, List, [], ◌∷◌, ◌++◌, length, take, drop, zero, suc, refl, sym, ap, ◌∙◌, append_assoc, arith, length-append, append-nil, subst, take-append-drop, Result, Ok, Err}
-use Rattle.std.specs.Prelude.{⊤, is_ok, IsTrue, OnOk, IfErr}
+use Rattle.std.specs.Prelude.{⊤, is_ok, IsTrue}
 use Rattle.octets.specs.Front.{HasFront}
 use Rattle.octets.specs.Rule.{Rule}
 use Rattle.types.specs.declared.refusal.Refusal.{Refusal}
@@ -70,8 +70,3 @@ add_refused rule shape Stands refusal v octets batch lengths batch_new lengths_n
     | inr memory ↦ subst (λ r. StopsAnyway rule shape Stands r rest []) (sym memory) (memory_refused rule shape Stands rest)
   ];
 }
-
--- what follows of Ok and of each refusal
-pub either_way : (r : Result (Unit {0}) Refusal) (A C : Type 0) (B : Refusal → Type 0) → OnOk r A → IfErr r B → (A → C) → ((e : Refusal) → B e → C) → C
-either_way (Ok _) A C B ok err f g = f ok
-either_way (Err e) A C B ok err f g = g e err

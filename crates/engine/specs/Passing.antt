@@ -1,6 +1,6 @@
 -- A stream passed on piece by piece: what stands between two reads, and behind each piece. `StandsAt` is what is
 -- said of a reader and the octets that it took since it was fresh.
-use Rattle.std.specs.Prelude.{◌≡◌, ◌≤◌, ◌+◌, ℕ, List, [], ◌∷◌, ◌++◌, length, map, Option}
+use Rattle.std.specs.Prelude.{◌≡◌, ◌≤◌, ◌+◌, ℕ, List, [], ◌∷◌, ◌++◌, length, map, Bool, IsTrue, Option}
 use Rattle.std.specs.Io.KnownBytes.{Appends, Consumes}
 use Rattle.std.specs.List.{AllZip, concat}
 use Rattle.octets.specs.Rule.{Rule}
@@ -9,9 +9,11 @@ use Rattle.types.specs.declared.refusal.Refusal.TheVariants.{OutputTooLong}
 use Rattle.types.specs.Encoding.{Meaning, IsAccepted}
 use Rattle.types.specs.Refusal.{IsOfWriting}
 use Rattle.types.specs.Shape.{Shape, Val}
+use Rattle.engine.specs.declared.any_reader.AnyReader.{AnyReader}
+use Rattle.engine.specs.AnyReader.{read_rule, StandsBy}
 use Rattle.engine.specs.Feeding.{IsUnfinished}
 use Rattle.engine.specs.Refusal.{IsOfConverting}
-use Rattle.engine.specs.Stream.{BeginsWith, BeginsWritten, Refuses, RefusesToWrite, source_failures}
+use Rattle.engine.specs.Stream.{most_streamed, BeginsWith, BeginsWritten, Refuses, RefusesToWrite, source_failures}
 
 -- the octets are encodings of values and then a rest; the batch is what stands for each of these values, and the
 -- lengths are those of its parts
@@ -84,17 +86,28 @@ pub record StopsPassing (rule : Rule) (shape : Shape) (Stands : Meaning) (before
   pub writes : Writes rule shape Stands count octets rest written part
   pub stops : StopsAnyway rule shape Stands refusal rest part
 
--- so it was, behind whatever octets the reader stood at before, by `StandsOld`
-pub record HasPassed (StandsOld StandsNew : List ℕ → Type 0) (rule : Rule) (shape : Shape) (Stands : Meaning) (before now : ℕ) (piece : List ℕ) (taken_old taken_new : Option (List ℕ)) : Type 0 where
-  pub passed : (old : List ℕ) → IsUnfinished StandsOld rule shape old → PassesOn (IsUnfinished StandsNew rule shape) rule shape Stands before now (old ++ piece) taken_old taken_new
+-- a piece can be passed on: no value is complete where the reader stands, what is copied stands for its value, the sink
+-- has not failed, and no more octets are counted than a stream may have
+pub record CanPass (shape : Shape) (Stands : Meaning) (reader : AnyReader) (copies : Bool) (failures total : ℕ) : Type 0 where
+  pub stands : (front : List ℕ) × IsUnfinished (StandsBy shape reader) (read_rule reader) shape front
+  pub copied : IsTrue copies → (v : Val) (octets : List ℕ) → IsAccepted (read_rule reader) shape v octets → Stands v octets
+  pub sink : failures ≡ 0
+  pub room : total ≤ most_streamed
+
+-- it was passed on, behind whatever octets the reader stood at before
+pub record HasPassed (shape : Shape) (Stands : Meaning) (old new : AnyReader) (before now : ℕ) (piece : List ℕ) (taken_old taken_new : Option (List ℕ)) : Type 0 where
+  pub same_rule : read_rule new ≡ read_rule old
+  pub passed : (front : List ℕ) → IsUnfinished (StandsBy shape old) (read_rule old) shape front
+      → PassesOn (IsUnfinished (StandsBy shape new) (read_rule old) shape) (read_rule old) shape Stands before now (front ++ piece) taken_old taken_new
   pub few : now ≤ before + length piece
 
 -- or it was not
-pub record HasNotPassed (StandsOld : List ℕ → Type 0) (rule : Rule) (shape : Shape) (Stands : Meaning) (CanBeTooLong : Type 0) (before done : ℕ) (refusal : Refusal) (piece : List ℕ) (taken_old taken_new : Option (List ℕ)) : Type 0 where
-  pub stopped : (old : List ℕ) → IsUnfinished StandsOld rule shape old → StopsPassing rule shape Stands before done refusal (old ++ piece) taken_old taken_new
+pub record HasNotPassed (shape : Shape) (Stands : Meaning) (CanBeTooLong : Type 0) (reader : AnyReader) (before done : ℕ) (refusal : Refusal) (piece : List ℕ) (taken_old taken_new : Option (List ℕ)) : Type 0 where
+  pub stopped : (front : List ℕ) → IsUnfinished (StandsBy shape reader) (read_rule reader) shape front
+      → StopsPassing (read_rule reader) shape Stands before done refusal (front ++ piece) taken_old taken_new
   pub source : source_failures refusal ≡ 0
   pub long : refusal ≡ OutputTooLong → CanBeTooLong
-  pub numbers : IsOfConverting rule refusal
+  pub numbers : IsOfConverting (read_rule reader) refusal
 
 -- between two reads: what was given is encodings of the values done and what the reader stands at
 pub record StandsAfter (StandsAt : List ℕ → Type 0) (rule : Rule) (shape : Shape) (Stands : Meaning) (done total : ℕ) (left_old left_new taken_old taken_new : Option (List ℕ)) : Type 0 where

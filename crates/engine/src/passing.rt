@@ -1,12 +1,11 @@
 //! A stream passed on piece by piece, from a source through a reader and a writer to a sink.
 
-ghost use Rattle.std.specs.Prelude.{◌≡◌, ◌≢◌, ◌≤◌, ◌+◌, ℕ, List, [], length, take, IsTrue, OnOk, IfOk, IfErr};
+ghost use Rattle.std.specs.Prelude.{◌≡◌, ◌≢◌, ◌≤◌, ◌+◌, ℕ, List, [], length, take, IsTrue, IfOk, IfErr};
 ghost use Rattle.types.specs.Encoding.{IsAccepted};
 ghost use Rattle.types.specs.Shape.{Val};
 ghost use Rattle.engine.specs.AnyReader.{read_rule, StandsBy};
-ghost use Rattle.engine.specs.Feeding.{IsUnfinished};
 ghost use Rattle.engine.specs.Given.{HasGiven};
-ghost use Rattle.engine.specs.Passing.{Writes, HasPassed, HasNotPassed};
+ghost use Rattle.engine.specs.Passing.{Writes, CanPass, HasPassed, HasNotPassed};
 ghost use Rattle.engine.specs.Refusal.{IsOfConverting};
 ghost use Rattle.engine.specs.Stream.{CountsBy, most_streamed, IsStopped, OfStream, source_failures, sink_failures};
 
@@ -30,18 +29,11 @@ fn pass<P: Put, K: Sink>(
     piece: &[u8],
     done: u64,
 ) -> Result<u64, Stopped>
-    requires stands { (old : List ℕ) × IsUnfinished (StandsBy (P.shape writer.now) reader.old) (read_rule reader.old) (P.shape writer.now) old }
-    requires sink { K.failures sink.old ≡ 0 }
-    requires room { done + length piece.now ≤ most_streamed }
-    requires copied { IsTrue batch.old.copies → (v : Val) (octets : List ℕ) →
-        IsAccepted (read_rule reader.old) (P.shape writer.now) v octets → P.stands writer.now v octets }
+    requires { CanPass (P.shape writer.now) (P.stands writer.now) reader.old batch.old.copies (K.failures sink.old) (done + length piece.now) }
     ensures copies { batch.new.copies ≡ batch.old.copies }
-    ensures rule_stays { OnOk result (read_rule reader.new ≡ read_rule reader.old) }
-    ensures passed { IfOk result (λ now. HasPassed (StandsBy (P.shape writer.now) reader.old)
-        (StandsBy (P.shape writer.now) reader.new) (read_rule reader.old) (P.shape writer.now) (P.stands writer.now)
+    ensures passed { IfOk result (λ now. HasPassed (P.shape writer.now) (P.stands writer.now) reader.old reader.new
         done now piece.now (K.taken sink.old) (K.taken sink.new)) }
-    ensures stopped { IfErr result (λ stopped. HasNotPassed (StandsBy (P.shape writer.now) reader.old)
-        (read_rule reader.old) (P.shape writer.now) (P.stands writer.now) P.can_be_too_long
+    ensures stopped { IfErr result (λ stopped. HasNotPassed (P.shape writer.now) (P.stands writer.now) P.can_be_too_long reader.old
         done stopped.done stopped.refusal piece.now (K.taken sink.old) (K.taken sink.new)) }
     ensures sink { CountsBy sink_failures result (K.failures sink.new) }
 {
@@ -64,20 +56,13 @@ fn pass_batch<P: Put, K: Sink>(
     piece: &[u8],
     done: &mut u64,
 ) -> Result<usize, Stopped>
-    requires stands { (old : List ℕ) × IsUnfinished (StandsBy (P.shape writer.now) reader.old) (read_rule reader.old) (P.shape writer.now) old }
-    requires sink { K.failures sink.old ≡ 0 }
-    requires room { done.old + length piece.now ≤ most_streamed }
-    requires copied { IsTrue batch.old.copies → (v : Val) (octets : List ℕ) →
-        IsAccepted (read_rule reader.old) (P.shape writer.now) v octets → P.stands writer.now v octets }
+    requires { CanPass (P.shape writer.now) (P.stands writer.now) reader.old batch.old.copies (K.failures sink.old) (done.old + length piece.now) }
     ensures copies { batch.new.copies ≡ batch.old.copies }
-    ensures rule_stays { OnOk result (read_rule reader.new ≡ read_rule reader.old) }
     ensures there { IfOk result (λ used. used ≤ length piece.now) }
     ensures some { piece.now ≢ [] → IfOk result (λ used. 1 ≤ used) }
-    ensures passed { IfOk result (λ used. HasPassed (StandsBy (P.shape writer.now) reader.old)
-        (StandsBy (P.shape writer.now) reader.new) (read_rule reader.old) (P.shape writer.now) (P.stands writer.now)
+    ensures passed { IfOk result (λ used. HasPassed (P.shape writer.now) (P.stands writer.now) reader.old reader.new
         done.old done.new (take used piece.now) (K.taken sink.old) (K.taken sink.new)) }
-    ensures stopped { IfErr result (λ stopped. HasNotPassed (StandsBy (P.shape writer.now) reader.old)
-        (read_rule reader.old) (P.shape writer.now) (P.stands writer.now) P.can_be_too_long
+    ensures stopped { IfErr result (λ stopped. HasNotPassed (P.shape writer.now) (P.stands writer.now) P.can_be_too_long reader.old
         done.old stopped.done stopped.refusal piece.now (K.taken sink.old) (K.taken sink.new)) }
     ensures sink { CountsBy sink_failures result (K.failures sink.new) }
 {

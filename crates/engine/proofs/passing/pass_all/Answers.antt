@@ -57,7 +57,7 @@ loop-piece-preserved g c =
     let gives = subst (Consumes (g.S.Source.left c.loop-piece.source) (g.S.Source.left c.read_from.new.source)) (sym c.octets-octets.ensures) c.in-Ok.ensures.given in
     record {
       copies = c.in_ok-done.ensures.copies ∙ c.loop-piece.invariant.copies;
-      same_rule = c.in_ok-done.ensures.rule_stays ∙ c.loop-piece.invariant.same_rule;
+      same_rule = c.in_ok-done.ensures.passed.same_rule ∙ c.loop-piece.invariant.same_rule;
       stands = goes_on _ _ _ _ _ _ _ _ _ _ _ _ _ _ _ c.octets-octets.result.now c.loop-piece.invariant.stands gives refl (rw c.loop-piece.invariant.same_rule at c.in_ok-done.ensures.passed.passed);
       source = c.in-Ok.ensures.count;
       sink = c.in_ok-done.ensures.sink;
@@ -70,15 +70,16 @@ returns-in_err-done-clause-stopped g c = IfErr-from c.from_residual.result _ _ c
     let gives = subst (Consumes (g.S.Source.left c.loop-piece.source) (g.S.Source.left c.read_from.new.source)) (sym c.octets-octets.ensures) c.in-Ok.ensures.given in
     rw same (stops _ _ _ _ _ _ _ _ _ _ _ _ _ _ c.octets-octets.result.now c.loop-piece.invariant.stands gives (rw c.loop-piece.invariant.same_rule at c.in_err-done.ensures.stopped.stopped)))
 
-pub pass-requires-clause-stands : goal.pass-requires-clause-stands
-pass-requires-clause-stands g c =
-    let s = c.loop-piece.invariant.stands in
-    (s.rest, rw (sym c.loop-piece.invariant.same_rule) at s.stands)
-
 pub returns-in_err-done-clause-numbers : goal.returns-in_err-done-clause-numbers
 returns-in_err-done-clause-numbers g c = IfErr-from c.from_residual.result _ _ c.from_residual.ensures.1 (λ stopped same.
     rw same (rw c.loop-piece.invariant.same_rule at c.in_err-done.ensures.stopped.numbers))
 
-pub pass-requires-clause-copied : goal.pass-requires-clause-copied
-pass-requires-clause-copied g c = λ copies v octets accepted.
-    c.requires.copied (rw c.loop-piece.invariant.copies at copies) v octets (rw c.loop-piece.invariant.same_rule at accepted)
+pub pass-requires : goal.pass-requires
+pass-requires g c =
+    let so_far = c.loop-piece.invariant in
+    record {
+      stands = (so_far.stands.rest, rw (sym so_far.same_rule) at so_far.stands.stands);
+      copied = λ copies v octets accepted. c.requires.copied (rw so_far.copies at copies) v octets (rw so_far.same_rule at accepted);
+      sink = so_far.sink;
+      room = omega (arith, so_far.few, so_far.within, c.if-octets-total.false);
+    }

@@ -41,6 +41,7 @@ pub returns-in-Ok-gathered-clause-passed : goal.returns-in-Ok-gathered-clause-pa
 returns-in-Ok-gathered-clause-passed g c =
     let octets = c.gather-gathered.new.self.octets.items in
     record {
+      same_rule = c.in-Ok-gathered.ensures.rule_stays;
       passed = λ old unfinished.
           let n = c.in-Ok-gathered.ensures.gathered old unfinished in
           record {
