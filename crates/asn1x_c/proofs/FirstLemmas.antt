@@ -45,6 +45,7 @@ not_written Stands rule shape octets refusal numbers too_long =
     record {
       none = record {
         truncated = λ is. absurd (subst IsOfWriting is numbers);
+        begun = λ is. absurd (subst IsOfWriting is numbers);
         never = λ final. absurd (not_final refusal numbers final);
       };
       too_long = too_long;

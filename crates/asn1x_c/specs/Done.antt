@@ -12,6 +12,7 @@ use Rattle.types.specs.View.{ty_view}
 use Rattle.texts.specs.Shown.{IsShown}
 use Rattle.engine.specs.Refusal.{IsOfChecking, IsOfConverting, IsOfListing, IsOfReadingBy}
 use Rattle.engine.specs.Stream.{IsChecked, IsCheckStopped, IsConverted, IsLine, IsListed, IsStopped}
+use Rattle.engine.specs.Transcoding.{EndsInside}
 use Rattle.engine.specs.declared.stopped.Stopped.{Stopped}
 use Rattle.asn1x_c.specs.Numbers.{wrong_argument}
 use Rattle.asn1x_c.specs.declared.done.Done.{Done}
@@ -62,6 +63,7 @@ pub record HasChecked (from : Rule) (shape : Shape) (octets : List ℕ) (done : 
 -- no value is at the front of the octets, and after some refusals none of any octets that begin so
 pub record HasNoFirst (rule : Rule) (shape : Shape) (octets : List ℕ) (refusal : Refusal) : Type 0 where
   pub truncated : refusal ≡ Truncated → ¬ HasFront (IsSomeAccepted rule shape) octets
+  pub begun : refusal ≡ Truncated → EndsInside rule shape octets
   pub never : IsFinal refusal → (more : List ℕ) → ¬ HasFront (IsSomeAccepted rule shape) (octets ++ more)
 
 -- so many octets at the front encode a value

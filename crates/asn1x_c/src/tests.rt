@@ -9,7 +9,7 @@ use std::alloc::Global;
 use std::test::Fail;
 
 const MODULE: &[u8] =
-    b"M DEFINITIONS ::= BEGIN\n  T ::= SEQUENCE OF BOOLEAN\n  L ::= SET OF L\nEND";
+    b"M DEFINITIONS ::= BEGIN\n  T ::= SEQUENCE OF BOOLEAN\n    L ::= SET OF L\nEND";
 
 // A value that BER spells in one of its many ways, another, and what no value begins with.
 const OCTETS: &[u8] = &[
@@ -156,7 +156,7 @@ fn makes_types_by_names_that_are_text(rt: HostRuntime) -> Result<(), Fail> {
 fn says_where_a_module_is_refused(rt: HostRuntime) -> Result<(), Fail> {
     let mut ty = held(rt.alloc());
     let fault = asn1x_type_from(rt.alloc(), &mut ty, MODULE, b"L".as_slice());
-    assert_eq!(rt; (fault.number, fault.line, fault.column), (25, 3, 3));
+    assert_eq!(rt; (fault.number, fault.line, fault.column), (25, 3, 5));
     let mut name = [0; 5];
     assert_eq!(rt; asn1x_name(fault.number, &mut name), 5);
     assert_eq!(rt; name.as_slice(), b"Cycle".as_slice());

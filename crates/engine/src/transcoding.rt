@@ -8,7 +8,7 @@ ghost use Rattle.types.specs.View.{ty_view, value_view};
 ghost use Rattle.types.specs.WellFormed.{IsWellFormed};
 ghost use Rattle.engine.specs.Refusal.{IsOfReadingBy, IsOfTranscoding};
 ghost use Rattle.engine.specs.Rule.{rule_of, canonical_rule_of};
-ghost use Rattle.engine.specs.Transcoding.{IsTranscoded, HasNoShortEncoding};
+ghost use Rattle.engine.specs.Transcoding.{IsTranscoded, HasNoShortEncoding, EndsInside};
 
 use crate::putting::{Encodings, Put};
 use crate::{Canonical, Rule};
@@ -30,6 +30,7 @@ pub fn transcode(
         IsTranscoded (rule_of from) (canonical_rule_of to) (ty_view ty.now) octets.now out.items) }
     ensures truncated { result ≡ Err Refusal.Truncated →
         ¬ IsSomeAccepted (rule_of from) (ty_view ty.now) octets.now }
+    ensures begun { result ≡ Err Refusal.Truncated → EndsInside (rule_of from) (ty_view ty.now) octets.now }
     ensures never { IfErr result (λ refusal. IsFinal refusal →
         ¬ Begins (IsSomeAccepted (rule_of from) (ty_view ty.now)) octets.now) }
     ensures too_long { result ≡ Err Refusal.OutputTooLong →
@@ -60,6 +61,7 @@ pub fn read_by(
         × IsAccepted (rule_of from) (ty_view ty.now) (value_view p.0) (take p.1 octets.now)) }
     ensures truncated { result ≡ Err Refusal.Truncated →
         ¬ HasFront (IsSomeAccepted (rule_of from) (ty_view ty.now)) octets.now }
+    ensures begun { result ≡ Err Refusal.Truncated → EndsInside (rule_of from) (ty_view ty.now) octets.now }
     ensures never { IfErr result (λ refusal. IsFinal refusal → (more : List ℕ) →
         ¬ HasFront (IsSomeAccepted (rule_of from) (ty_view ty.now)) (octets.now ++ more)) }
     ensures numbers { IfErr result (IsOfReadingBy (rule_of from)) }

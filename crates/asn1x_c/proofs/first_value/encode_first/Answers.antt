@@ -18,6 +18,7 @@ returns-in_err-value-clause-refused c =
     (λ refusal same. subst (RefusesFirst Stands rule shape octets) (sym same) (not_read Stands rule shape octets c.in_err-value.field-0.0
     (record {
       truncated = λ is. c.in_err-value.ensures.truncated (ap Err is);
+      begun = λ is. c.in_err-value.ensures.begun (ap Err is);
       never = c.in_err-value.ensures.never;
     }) c.in_err-value.ensures.numbers))
 

@@ -17,6 +17,10 @@ returns-in_err-value-clause-truncated c = λ refused h.
     let known = Err-known c.from_residual.result _ _ refused c.from_residual.ensures.1 in
     c.in_err-value.ensures.truncated (ap Err (sym known)) (HasFront-whole (IsSomeAccepted (rule_of c.args.from) (ty_view c.args.ty.now)) octets h)
 
+pub returns-in_err-value-clause-begun : goal.returns-in_err-value-clause-begun
+returns-in_err-value-clause-begun c = λ refused.
+    c.in_err-value.ensures.begun (ap Err (sym (Err-known c.from_residual.result _ _ refused c.from_residual.ensures.1)))
+
 pub returns-in_err-value-clause-never : goal.returns-in_err-value-clause-never
 returns-in_err-value-clause-never c =
     let Some = IsSomeAccepted (rule_of c.args.from) (ty_view c.args.ty.now) in
