@@ -76,13 +76,14 @@ impl Batch {
     }
 
     /// Gathers what stands for the values that the front of a piece completes, in place of what was gathered, and returns
-    /// how many octets of the piece were taken: all, unless the batch has to be written before. Each value is read into
-    /// the room of the one before it, which is given back with the last of the batch.
+    /// how many octets of the piece were taken: all, unless the batch has to be written before. The slot has the value
+    /// read last, into whose room the next one is read.
     pub fn gather<P: Put>(
         &mut self,
         reader: &mut AnyReader<'_>,
         writer: &P,
         piece: &[u8],
+        slot: &mut Option<Value>,
     ) -> Result<usize, Refusal>
         requires stands { (old : List ℕ) × IsUnfinished (StandsBy (P.shape writer.now) reader.old) (read_rule reader.old) (P.shape writer.now) old }
         requires copied { IsTrue self.old.copies → (v : Val) (octets : List ℕ) →
@@ -106,12 +107,11 @@ impl Batch {
     {
         self.octets.clear();
         self.lengths.clear();
-        let mut slot = None;
         let mut rest = piece;
         while !rest.is_empty() {
             let is_copied = self.copies && reader.finish().is_ok();
-            let used = reader.feed(rest, &mut slot)?;
-            let Some(value) = &slot else {
+            let used = reader.feed(rest, slot)?;
+            let Some(value) = slot else {
                 return Ok(piece.len());
             };
             let (front, behind) = rest.split_at(used);

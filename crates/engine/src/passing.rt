@@ -14,7 +14,7 @@ use crate::any_reader::AnyReader;
 use crate::batch::Batch;
 use crate::putting::Put;
 use devices::{Piece, Sink, Source, whole_parts, write_all};
-use types::Refusal;
+use types::{Refusal, Value};
 
 /// The most octets of a stream.
 pub const MAX_STREAM: u64 = 4_294_967_295;
@@ -38,9 +38,10 @@ fn pass<P: Put, K: Sink>(
     ensures sink { CountsBy sink_failures result (K.failures sink.new) }
 {
     let mut now = done;
+    let mut slot = None;
     let mut rest = piece;
     while !rest.is_empty() {
-        let used = pass_batch(reader, writer, batch, sink, rest, &mut now)?;
+        let used = pass_batch(reader, writer, batch, sink, rest, &mut slot, &mut now)?;
         rest = &rest[used..];
     }
     Ok(now)
@@ -54,6 +55,7 @@ fn pass_batch<P: Put, K: Sink>(
     batch: &mut Batch,
     sink: &mut K,
     piece: &[u8],
+    slot: &mut Option<Value>,
     done: &mut u64,
 ) -> Result<usize, Stopped>
     requires { CanPass (P.shape writer.now) (P.stands writer.now) reader.old batch.old.copies (K.failures sink.old) (done.old + length piece.now) }
@@ -66,7 +68,7 @@ fn pass_batch<P: Put, K: Sink>(
         done.old stopped.done stopped.refusal piece.now (K.taken sink.old) (K.taken sink.new)) }
     ensures sink { CountsBy sink_failures result (K.failures sink.new) }
 {
-    let gathered = batch.gather(reader, writer, piece);
+    let gathered = batch.gather(reader, writer, piece, slot);
     let lengths = batch.lengths.as_slice();
     match write_all(sink, batch.octets.as_slice()) {
         Ok(()) => {}
