@@ -27,7 +27,7 @@ pub struct Batch {
     /// How many octets stand for each of them.
     pub lengths: Vec<usize>,
     /// Memory for the line of one value.
-    pub room: Vec<u8>,
+    pub room: String,
     /// Whether the encoding that a value is read from stands for it.
     pub copies: bool,
 }
@@ -42,7 +42,7 @@ impl Batch {
         Batch {
             octets: Vec::new(alloc),
             lengths: Vec::new(alloc),
-            room: Vec::new(alloc),
+            room: String::new(alloc),
             copies,
         }
     }
@@ -130,7 +130,7 @@ fn put<P: Put>(
     writer: &P,
     value: &Value,
     encoding: Option<&[u8]>,
-    room: &mut Vec<u8>,
+    room: &mut String,
     out: &mut Vec<u8>,
 ) -> Result<(), Refusal>
     requires conforms { Conforms (P.shape writer.now) (value_view value.now) }

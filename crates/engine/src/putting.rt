@@ -29,7 +29,7 @@ pub trait Put {
     fn can_outgrow(&self) -> bool;
 
     /// Appends what stands for a value. What is in `room` is lost: a writer may use its memory.
-    fn put(&self, value: &Value, room: &mut Vec<u8>, out: &mut Vec<u8>) -> Result<(), Refusal>
+    fn put(&self, value: &Value, room: &mut String, out: &mut Vec<u8>) -> Result<(), Refusal>
         requires { Conforms (shape self.now) (value_view value.now) }
         ensures appended { OnOk result
             (Appends (stands self.now (value_view value.now)) out.old.items out.new.items) }
@@ -59,7 +59,7 @@ impl Put for Encodings<'_> {
         false
     }
 
-    fn put(&self, value: &Value, _room: &mut Vec<u8>, out: &mut Vec<u8>) -> Result<(), Refusal> {
+    fn put(&self, value: &Value, _room: &mut String, out: &mut Vec<u8>) -> Result<(), Refusal> {
         match self.to {
             Canonical::Cer => Cer.put(self.alloc, self.ty, value, out),
             Canonical::Der => Der.put(self.alloc, self.ty, value, out),
@@ -84,7 +84,7 @@ impl Put for Nothing<'_> {
         false
     }
 
-    fn put(&self, _value: &Value, _room: &mut Vec<u8>, _out: &mut Vec<u8>) -> Result<(), Refusal> {
+    fn put(&self, _value: &Value, _room: &mut String, _out: &mut Vec<u8>) -> Result<(), Refusal> {
         Ok(())
     }
 }

@@ -44,7 +44,7 @@ pub fn transcode(
         return Err(Refusal::Identifier);
     }
     let mut out = Vec::new(alloc);
-    Encodings { alloc, ty, to }.put(&value, &mut Vec::new(alloc), &mut out)?;
+    Encodings { alloc, ty, to }.put(&value, &mut String::new(alloc), &mut out)?;
     Ok(out)
 }
 

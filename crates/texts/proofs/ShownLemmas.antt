@@ -1,8 +1,7 @@
 -- Lemmas on texts of values.
 use Rattle.std.specs.List.{AllByRecursion, AllZip}
-use Rattle.std.proofs.Common.{◌≡◌, ◌∙◌, ◌++◌, ℕ, zero, suc, List, [], ◌∷◌, String, Global, Ok, Err, IfOk, string_bytes, refl, sym, ap, subst}
+use Rattle.std.proofs.Common.{◌≡◌, ◌∙◌, ◌++◌, ℕ, zero, suc, List, [], ◌∷◌, refl, sym, ap, subst}
 use Rattle.std.proofs.lemmas.List.Sorted.{IsPermutation-refl}
-use Rattle.std.specs.declared.result.Result.{Result}
 use Rattle.octets.specs.Front.{Appends}
 use Rattle.types.specs.Shape.{Val, Slots, no_slot, absent, present, listed, Shape, Components, no_component, component, Alternatives, no_alternative, alternative}
 use Rattle.types.specs.Conforms.{Conforms, SlotsConform, AlternativeConforms}
@@ -55,6 +54,5 @@ pub shown_as_it_stands : (shape : Shape) (v : Val) (text : List ℕ) → Conform
 shown_as_it_stands shape v text c h is = record { ordered = v; same = same_refl shape v c; ascends = h; is = is }
 
 -- a text behind none is the text alone
-pub shown_alone : {E : Type 0} (shape : Shape) (v : Val) (before : String Global) (result : Result (String Global) E) → string_bytes before ≡ [] → IfOk result (λ text. Appends (IsShown shape v) (string_bytes before) (string_bytes text)) → IfOk result (λ text. IsShown shape v (string_bytes text))
-shown_alone shape v before (Ok text) none h = subst (IsShown shape v) (sym (h.1 ∙ ap (λ octets. octets ++ h.0) none)) h.2
-shown_alone shape v before (Err e) none h = tt
+pub shown_alone : (shape : Shape) (v : Val) (before text : List ℕ) → before ≡ [] → Appends (IsShown shape v) before text → IsShown shape v text
+shown_alone shape v before text none h = subst (IsShown shape v) (sym (h.1 ∙ ap (λ octets. octets ++ h.0) none)) h.2

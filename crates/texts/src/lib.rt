@@ -15,4 +15,4 @@ pub use laws::same_values_have_one_text;
 pub use leaf::put_integer;
 pub use printing::put_value;
 pub use quoting::{put_bits_before, put_octets, put_readable, put_text};
-pub use showing::{show, show_behind};
+pub use showing::{put_shown, show};

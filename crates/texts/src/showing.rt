@@ -1,6 +1,6 @@
 //! Texts of whole values.
 
-ghost use Rattle.std.specs.Prelude.{IfOk, string_bytes};
+ghost use Rattle.std.specs.Prelude.{IfOk, OnOk, string_bytes};
 ghost use Rattle.octets.specs.Front.{Appends};
 ghost use Rattle.types.specs.Conforms.{Conforms};
 ghost use Rattle.types.specs.View.{ty_view, value_view};
@@ -23,28 +23,26 @@ pub fn show(alloc: Global, ty: &WellTyped, value: &Value) -> Result<String, NoMe
     requires { Conforms (ty_view ty.now) (value_view value.now) }
     ensures { IfOk result (λ text. IsShown (ty_view ty.now) (value_view value.now) (string_bytes text)) }
 {
-    show_behind(alloc, ty, value, String::new(alloc))
+    let mut text = String::new(alloc);
+    put_shown(alloc, ty, value, &mut text)?;
+    Ok(text)
 }
 
-/// The text `before` and that of a value behind it, in the room that `before` has. Both are dropped
-/// where memory runs out.
-pub fn show_behind(
+/// Appends the text that `show` returns. Where memory runs out a front of it may stand there.
+pub fn put_shown(
     alloc: Global,
     ty: &WellTyped,
     value: &Value,
-    before: String,
-) -> Result<String, NoMemory>
+    out: &mut String,
+) -> Result<(), NoMemory>
     requires { Conforms (ty_view ty.now) (value_view value.now) }
-    ensures { IfOk result (λ text. Appends
-        (IsShown (ty_view ty.now) (value_view value.now)) (string_bytes before) (string_bytes text)) }
+    ensures { OnOk result (Appends
+        (IsShown (ty_view ty.now) (value_view value.now)) (string_bytes out.old) (string_bytes out.new)) }
 {
     let shape = ty.as_type();
-    let mut text = before;
     if is_plain(shape, value) {
-        put_value(shape, value, &mut text)?;
-        return Ok(text);
+        return put_value(shape, value, out);
     }
     let ordered = order(alloc, ty, value)?;
-    put_value(shape, &ordered, &mut text)?;
-    Ok(text)
+    put_value(shape, &ordered, out)
 }
