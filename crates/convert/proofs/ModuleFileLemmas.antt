@@ -1,7 +1,6 @@
 -- The one module that a file spells, and the octets of files.
-use Rattle.std.proofs.Common.{◌≡◌, ◌∙◌, ◌≤◌, ◌<◌, ◌⊎◌, ℕ, List, [], ◌++◌, Option, Some, None, ap, arith, inl, inr, length, refl, subst, sym, take}
+use Rattle.std.proofs.Common.{◌≡◌, ◌∙◌, ℕ, List, [], ◌++◌, Option, Some, None, ap, refl, subst, sym, take}
 use Rattle.std.specs.Prelude.{IfSome, option_map}
-use Rattle.std.specs.Str.{IsUtf8}
 use Rattle.types.specs.Shape.{Shape}
 use Rattle.syntax.specs.Tree.{Tree}
 use Rattle.syntax.specs.ModuleText.{IsModuleText}
@@ -16,11 +15,6 @@ none_meant octets text name is none type means = none means.tree (subst (λ o. I
 pub meant : (octets text name : List ℕ) (m : Tree) → text ≡ octets → ((other : Tree) → IsModuleText text other → other ≡ m) → (type : Shape) → FileMeans octets name type → NameMeans m name type
 meant octets text name m is only type means =
     subst (λ t. NameMeans t name type) (only means.tree (subst (λ o. IsModuleText o means.tree) (sym is) means.file.text)) means.means
-
--- octets that are read as a text are UTF-8 within the limit
-pub not_all_refused : (octets : List ℕ) → IsUtf8 octets → length octets ≤ 262144 → ((IsUtf8 octets → ⊥) ⊎ (262144 < length octets)) → ⊥
-not_all_refused octets utf8 within (inl no_text) = no_text utf8
-not_all_refused octets utf8 within (inr long) = omega (arith, within, long)
 
 -- what a reader gives up to a limit, read into an empty vector
 pub read_up_to : (left : Option (List ℕ)) (limit most : ℕ) (old new : List ℕ) → limit ≡ most → old ≡ [] → IfSome (option_map (take limit) left) (λ xs. new ≡ old ++ xs)

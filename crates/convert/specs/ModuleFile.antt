@@ -23,6 +23,6 @@ pub record FileMeans (octets name : List ℕ) (type : Shape) : Type 0 where
 abbrev pub IsFileFault : Fault → Type 0
 IsFileFault fault = IsModuleFault fault ⊎ IsResolvingFault fault
 
--- where all of a file is refused
-abbrev pub IsAtFront : Fault → Type 0
-IsAtFront fault = (fault.line ≡ 1) × (fault.column ≡ 1)
+-- the fault of this number, where all of a file is refused
+abbrev pub IsAtFront : ℕ → Fault → Type 0
+IsAtFront number fault = (fault.number ≡ number) × (fault.line ≡ 1) × (fault.column ≡ 1)

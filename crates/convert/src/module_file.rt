@@ -25,7 +25,8 @@ pub fn type_from(alloc: Global, octets: &[u8], name: &str) -> Result<WellTyped, 
         (type : Shape) → FileMeans octets.now name.now type → ¬ IsWellFormed type) }
     ensures cycle { IfErr result (λ fault. fault.number ≡ 25 → (type : Shape) → ¬ FileMeans octets.now name.now type) }
     ensures numbers { IfErr result IsFileFault }
-    ensures front { IfErr result (λ fault. (¬ IsUtf8 octets.now) ⊎ (262_144 < length octets.now) → IsAtFront fault) }
+    ensures too_long { 262_144 < length octets.now → IfErr result (IsAtFront 31) }
+    ensures front { length octets.now ≤ 262_144 → ¬ IsUtf8 octets.now → IfErr result (IsAtFront 21) }
 {
     let text = text_of(octets)?;
     let module = parse(alloc, text)?;
@@ -39,7 +40,8 @@ fn text_of(octets: &[u8]) -> Result<&str, notation::Fault>
     ensures refused { IfErr result (λ _. (m : Tree) → ¬ IsModuleFile octets.now m) }
     ensures numbers { IfErr result (λ fault. (fault.number ≡ 21) ⊎ (fault.number ≡ 31)) }
     ensures within { IfOk result (λ _. length octets.now ≤ 262_144) }
-    ensures front { IfErr result IsAtFront }
+    ensures too_long { 262_144 < length octets.now → IfErr result (IsAtFront 31) }
+    ensures front { length octets.now ≤ 262_144 → IfErr result (IsAtFront 21) }
 {
     if octets.len() > MAX_TEXT {
         return Err(at_front(31));
@@ -52,8 +54,7 @@ fn text_of(octets: &[u8]) -> Result<&str, notation::Fault>
 
 // The fault of this number at 1:1.
 fn at_front(number: u32) -> notation::Fault
-    ensures number { result.number ≡ number }
-    ensures front { IsAtFront result }
+    ensures { IsAtFront number result }
 {
     notation::Fault {
         number,
