@@ -76,10 +76,10 @@ fn right_side_at(reader: &mut Reader) -> Result<Body, Stop> {
 fn type_at(reader: &mut Reader) -> Result<Body, Stop> {
     let found = whole_type_at(reader)?;
     if goes_on_as_macro(reader) {
-        rest_of_macro_use_at(reader)
-    } else {
-        Ok(Body::Type(found))
+        drop(found);
+        return rest_of_macro_use_at(reader);
     }
+    Ok(Body::Type(found))
 }
 
 // Whether a word of a macro's notation stands behind a name.
@@ -91,8 +91,14 @@ fn goes_on_as_macro(reader: &Reader) -> bool {
 fn rest_of_macro_use_at(reader: &mut Reader) -> Result<Body, Stop> {
     skip_to_word(reader, Reserved::Syntax)?;
     reader.word(Reserved::Syntax)?;
-    whole_type_at(reader)?;
+    skip_type(reader)?;
     Ok(Body::LeftOut(LeftOut::Macro))
+}
+
+// Passes a type.
+fn skip_type(reader: &mut Reader) -> Result<(), Stop> {
+    drop(whole_type_at(reader)?);
+    Ok(())
 }
 
 // A class, whose word stands in front. Its syntax is passed.
@@ -118,7 +124,7 @@ fn macro_at(reader: &mut Reader) -> Result<Body, Stop> {
 
 // Passes a set of objects or values, whose class or type stands in front.
 fn set_at(reader: &mut Reader) -> Result<Body, Stop> {
-    whole_type_at(reader)?;
+    skip_type(reader)?;
     reader.symbol(Symbol::Assignment)?;
     skip_brackets(reader, Symbol::OpenBrace)?;
     Ok(Body::LeftOut(LeftOut::Set))

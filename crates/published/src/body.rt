@@ -8,6 +8,7 @@ use crate::tree::{Assignment, Import, Module};
 use lexis::Word as Reserved;
 use published_tokens::{Head, Kind, MAX_FILE, Reader, Reason, Stop, Symbol};
 use std::alloc::AllocError;
+use std::mem::drop;
 
 impl Published {
     /// Adds the module with this head, whose first token stands in front, and what is refused in it. In front
@@ -17,25 +18,39 @@ impl Published {
             Ok(name) => name,
             Err(stop) => return self.refused(stop),
         };
-        let mut module = Module {
+        let imports = self.imports_of(reader)?;
+        let assignments = self.assignments_of(reader)?;
+        self.modules.push(Module {
             name,
             tagging: head.tagging,
             is_extensible: head.is_extensible,
-            imports: Vec::new(reader.alloc),
-            assignments: Vec::new(reader.alloc),
-        };
+            imports,
+            assignments,
+        })?;
+        Ok(())
+    }
+
+    // The imports of a module; none where they are refused.
+    fn imports_of(&mut self, reader: &mut Reader) -> Result<Vec<Import>, AllocError> {
         match front_at(reader) {
-            Ok(imports) => module.imports = imports,
-            Err(stop) => self.recover(reader, stop)?,
+            Ok(imports) => Ok(imports),
+            Err(stop) => {
+                self.recover(reader, stop)?;
+                Ok(Vec::new(reader.alloc))
+            }
         }
-        self.add_assignments(reader, &mut module.assignments)?;
+    }
+
+    // The assignments of a module, up to its end.
+    fn assignments_of(&mut self, reader: &mut Reader) -> Result<Vec<Assignment>, AllocError> {
+        let mut assignments = Vec::new(reader.alloc);
+        self.add_assignments(reader, &mut assignments)?;
         if !reader.is_word(Reserved::End) {
             // The text may end within the last assignment.
-            module.assignments.pop();
+            drop(assignments.pop());
             self.refused(reader.stop(Reason::NoEnd))?;
         }
-        self.modules.push(module)?;
-        Ok(())
+        Ok(assignments)
     }
 
     // Adds the assignments of a module.
