@@ -61,6 +61,8 @@ fn line_rest(octets: &[u8]) -> usize
     let hyphens = octets.iter().take_while(|octet| **octet == b'-').count();
     match octets.get(hyphens..) {
         Some([b'\n' | b'\r', ..]) => hyphens,
+        // As many comments of four hyphens as there are.
+        _ if hyphens >= 2 => 2 + (hyphens - 2) / 4 * 4,
         _ => comment_rest(octets),
     }
 }

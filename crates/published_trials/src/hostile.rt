@@ -60,9 +60,18 @@ fn many_parts(rt: HostRuntime) -> Result<(), Fail> {
 }
 
 #[test]
-fn a_file_above_the_limit(rt: HostRuntime) -> Result<(), Fail> {
-    let text = " ".repeat(rt.alloc(), 16_777_217)?;
-    let told = counts(rt.alloc(), text.as_str())?;
+fn many_hyphens(rt: HostRuntime) -> Result<(), Fail> {
+    let comments = repeated(rt.alloc(), "T ::= NULL ", "-", 1_000_000, " U ::= NULL")?;
+    assert_eq!(rt; counts(rt.alloc(), comments.as_str())?, (1, 2, 0, None));
+    Ok(())
+}
+
+#[test]
+fn long_files(rt: HostRuntime) -> Result<(), Fail> {
+    let longest = " ".repeat(rt.alloc(), 16_777_216)?;
+    assert_eq!(rt; counts(rt.alloc(), longest.as_str())?, (0, 0, 0, None));
+    let longer = " ".repeat(rt.alloc(), 16_777_217)?;
+    let told = counts(rt.alloc(), longer.as_str())?;
     assert_eq!(rt; told, (0, 0, 1, Some(Reason::FileTooLong)));
     Ok(())
 }
