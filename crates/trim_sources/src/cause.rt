@@ -56,6 +56,9 @@ pub enum Cause<'a> {
     /// A name that is assigned more than once.
     #[error("{0} is assigned more than once")]
     Repeated(&'a str),
+    /// A name that is imported from more than one module.
+    #[error("{0} is imported from more than one module")]
+    ImportedTwice(&'a str),
     /// A module that stands in the files more than once.
     #[error("the module {0} stands in the files more than once")]
     RepeatedModule(&'a str),
@@ -115,6 +118,7 @@ impl<'a> Cause<'a> {
             Cause::NotGiven(name, module) => Cause::NotGiven(front_of(name), front_of(module)),
             Cause::NoSubstitute(name) => Cause::NoSubstitute(front_of(name)),
             Cause::Repeated(name) => Cause::Repeated(front_of(name)),
+            Cause::ImportedTwice(name) => Cause::ImportedTwice(front_of(name)),
             Cause::RepeatedModule(name) => Cause::RepeatedModule(front_of(name)),
             Cause::NoType(name) => Cause::NoType(front_of(name)),
             Cause::ValueSet(name) => Cause::ValueSet(front_of(name)),

@@ -28,7 +28,8 @@ enum Found {
 #[derive(Drop)]
 struct Scope<'a> {
     assigned: BTreeMap<&'a str, Found>,
-    imported: BTreeMap<&'a str, &'a Word>,
+    // from which module, or None: from several
+    imported: BTreeMap<&'a str, Option<&'a Word>>,
 }
 
 /// The modules of all files, with their names.
@@ -91,7 +92,8 @@ impl<'a> Sources<'a> {
                 None => {}
             }
             match scope.imported.get(&name) {
-                Some(from) => module = self.module_of(from.name.as_str(), name)?,
+                Some(Some(from)) => module = self.module_of(from.name.as_str(), name)?,
+                Some(None) => return Err(Cause::ImportedTwice(name)),
                 None => break,
             }
         }
@@ -204,10 +206,25 @@ fn scope_of<'a>(alloc: Global, module: &'a Module) -> Result<Scope<'a>, AllocErr
     let mut imported = BTreeMap::new(alloc);
     for import in &module.imports {
         for word in &import.names {
-            imported.insert(word.name.as_str(), &import.module)?;
+            enter_imported(&mut imported, word.name.as_str(), &import.module)?;
         }
     }
     Ok(Scope { assigned, imported })
+}
+
+// Enters a name that is imported from this module.
+fn enter_imported<'a>(
+    names: &mut BTreeMap<&'a str, Option<&'a Word>>,
+    name: &'a str,
+    from: &'a Word,
+) -> Result<(), AllocError> {
+    let only = match names.get(&name) {
+        Some(Some(other)) if other.name == from.name => Some(from),
+        Some(_) => None,
+        None => Some(from),
+    };
+    names.insert(name, only)?;
+    Ok(())
 }
 
 // Enters a name with its place, or that it stands for several.

@@ -184,7 +184,10 @@ impl<'a> Trimmer<'a> {
                 None => false,
             },
             Cause::NoSubstitute(_) => false,
-            Cause::TooLarge | Cause::RepeatedModule(_) | Cause::Repeated(_) => false,
+            Cause::TooLarge
+            | Cause::RepeatedModule(_)
+            | Cause::Repeated(_)
+            | Cause::ImportedTwice(_) => false,
             _ => self.request.narrow,
         }
     }
