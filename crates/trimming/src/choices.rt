@@ -51,8 +51,8 @@ impl<'a> Trimmer<'a> {
         self.chosen(alloc, chosen)
     }
 
-    // Whether the alternatives are tagged automatically, which is judged as they are written.
-    fn is_automatic_choice(&self, alternatives: &Alternatives) -> bool {
+    /// Whether the alternatives are tagged automatically, which is judged as they are written.
+    pub fn is_automatic_choice(&self, alternatives: &Alternatives) -> bool {
         let is_tag_written = has_tag(&alternatives.root) || has_tag(&alternatives.additions);
         is_automatic(self.work.tagging, is_tag_written)
     }

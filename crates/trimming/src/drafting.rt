@@ -2,7 +2,7 @@
 
 use crate::node::State;
 use crate::trimmer::{Draft, Trimmer};
-use published::{Form, Place, Reference, Simple, Type};
+use published::{Alternative, Alternatives, Form, Place, Reference, Simple, Type};
 use std::alloc::{AllocError, Global};
 use syntax::Expr;
 use trim_rules::Root;
@@ -120,9 +120,10 @@ impl<'a> Trimmer<'a> {
     }
 
     /// What the type is at its root, where that is known.
+    #[cycle(rooting)]
     pub fn root_of(&mut self, alloc: Global, ty: &'a Type) -> Result<Root, AllocError> {
         match &ty.form {
-            Form::Choice(_) => Ok(Root::Choice),
+            Form::Choice(alternatives) => self.root_of_choice(alloc, alternatives),
             Form::Any(_) => Ok(Root::Open),
             Form::Field(class, field) => self.root_of_field(alloc, class, field),
             Form::Simple(simple) => self.root_of_simple(alloc, *simple),
@@ -132,6 +133,35 @@ impl<'a> Trimmer<'a> {
             },
             _ => Ok(Root::Other),
         }
+    }
+
+    // What an untagged CHOICE is at its root: an open type where an alternative without a tag is one, since it takes any
+    // value then.
+    #[cycle(rooting)]
+    fn root_of_choice(
+        &mut self,
+        alloc: Global,
+        alternatives: &'a Alternatives,
+    ) -> Result<Root, AllocError> {
+        let is_open = !self.is_automatic_choice(alternatives)
+            && (self.has_open_one(alloc, &alternatives.root)?
+                || self.has_open_one(alloc, &alternatives.additions)?);
+        Ok(if is_open { Root::Open } else { Root::Choice })
+    }
+
+    // Whether one of the alternatives takes any value.
+    #[cycle(rooting)]
+    fn has_open_one(
+        &mut self,
+        alloc: Global,
+        alternatives: &'a [Alternative],
+    ) -> Result<bool, AllocError> {
+        for written in alternatives {
+            if self.root_of(alloc, &written.body)?.takes_any() {
+                return Ok(true);
+            }
+        }
+        Ok(false)
     }
 
     // What a type that reserved words name is at its root.

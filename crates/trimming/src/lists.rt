@@ -5,7 +5,8 @@ use crate::leaving::Mark;
 use crate::tagging::Label;
 use crate::trimmer::{Draft, Trimmer};
 use published::{
-    Component as Written, Components, Form, Place, Presence as WrittenPresence, Type, Word,
+    Component as Written, Components, Form, Number, Place, Presence as WrittenPresence, Tag, Type,
+    Word,
 };
 use std::alloc::{AllocError, Global};
 use std::mem::drop;
@@ -27,6 +28,8 @@ struct Slot {
     standing: Standing,
     /// Whether an open type here cannot be taken for another component where it is left out.
     is_apart: bool,
+    /// Whether it is an addition with the tag of another one.
+    shares_tag: bool,
 }
 
 /// A list that is being made.
@@ -100,6 +103,7 @@ impl<'a> Trimmer<'a> {
                 number: number_at(list.is_automatic, first, place),
                 standing: standing_in(section, standing_of(&written.presence)),
                 is_apart: is_apart(list, section, components, place),
+                shares_tag: section == Section::Additions && shares_tag(components, &written.body),
             };
             self.component(alloc, slot, word, written, made)?;
         }
@@ -185,7 +189,8 @@ impl<'a> Trimmer<'a> {
         written: &'a Written,
         mark: Mark,
     ) -> Result<bool, AllocError> {
-        if slot.standing == Standing::Required || !self.can_leave_out_since(mark) {
+        let is_needed = slot.standing == Standing::Required || slot.shares_tag;
+        if is_needed || !self.can_leave_out_since(mark) {
             return Ok(false);
         }
         let is_open = slot.number.is_none() && self.root_of(alloc, &written.body)?.takes_any();
@@ -234,6 +239,35 @@ fn list_of(is_automatic: bool, group: Group, components: &Components) -> List {
         count: root
             .saturating_add(tail)
             .saturating_add(components.additions.len()),
+    }
+}
+
+// Whether several additions have the tag that is written in front of this one. Each may be absent, whatever is written
+// behind it, so one would be read as another where that is left out.
+fn shares_tag(additions: &[Written], addition: &Type) -> bool {
+    let Form::Tagged(tag, _) = &addition.form else {
+        return false;
+    };
+    let has_tag = |component: &&Written| is_tagged_so(&component.body, tag);
+    additions.iter().filter(has_tag).count() > 1
+}
+
+// Whether this tag is written in front of the type.
+fn is_tagged_so(ty: &Type, tag: &Tag) -> bool {
+    match &ty.form {
+        Form::Tagged(written, _) => {
+            written.class == tag.class && is_same_number(&written.number, &tag.number)
+        }
+        _ => false,
+    }
+}
+
+// Whether two numbers are written alike.
+fn is_same_number(one: &Number, other: &Number) -> bool {
+    match (one, other) {
+        (Number::Literal(one), Number::Literal(other)) => one == other,
+        (Number::Name(one), Number::Name(other)) => one.name == other.name,
+        _ => false,
     }
 }
 

@@ -66,6 +66,12 @@ T --narrow; T ::= SET { a C } C ::= CHOICE { x REAL, y NULL }; m.asn:2:15: refus
 T --narrow; T ::= SET { a ANY OPTIONAL }; m.asn:2:15: refused: an open type at T.a; give --as T.a=TYPE
 T --narrow; T ::= SEQUENCE { a NULL OPTIONAL, b ANY OPTIONAL }; m.asn:2:37: refused: an open type at T.b; give --as T.b=TYPE
 T --narrow; T ::= CHOICE { a NULL, b ANY }; m.asn:2:26: refused: an open type at T.b; give --as T.b=TYPE
+T --narrow; T ::= SEQUENCE { c C OPTIONAL, b INTEGER DEFAULT 5 } C ::= CHOICE { x ANY }; m.asn:2:71: refused: an open type at C.x; give --as C.x=TYPE
+T --narrow; T ::= SEQUENCE { c CHOICE { x NULL, y CHOICE { z ANY } } OPTIONAL, b NULL OPTIONAL }; m.asn:2:50: refused: an open type at T.c.y.z; give --as T.c.y.z=TYPE
+T --narrow; T ::= CHOICE { a NULL, c C } C ::= CHOICE { x BOOLEAN, y ANY }; m.asn:2:58: refused: an open type at C.y; give --as C.y=TYPE
+T --narrow; T ::= SEQUENCE { a NULL, ..., b [0] REAL, c [0] BOOLEAN OPTIONAL }; m.asn:2:37: refused: REAL at T.b
+T --narrow; T ::= SEQUENCE { a NULL, ..., b [v] REAL OPTIONAL, [[ c [v] BOOLEAN OPTIONAL ]] } v INTEGER ::= 3; m.asn:2:37: refused: REAL at T.b
+M.T; IMPORTS U FROM N U FROM P;T ::= SEQUENCE { a U } END N DEFINITIONS ::= BEGIN U ::= NULL END P DEFINITIONS ::= BEGIN U ::= BOOLEAN; m.asn:2:46: refused: U is imported from more than one module at T.a
 ";
 
 // Whether what is printed of a row's assignments is what the row says, and nothing is written.
