@@ -106,8 +106,12 @@ impl<'a> Trimmer<'a> {
         Ok(())
     }
 
-    // The keyword of a tag in front of a type that is this at its root, or why it has none.
+    // The keyword of a tag in front of a type that is this at its root, or why it has none. IMPLICIT is written in front
+    // of no open type and no CHOICE (X.680 31.2.9), so a field with it is neither.
     fn keyword_at(&self, label: Label, root: Root) -> Result<Keyword, Cause<'a>> {
+        if label.mode == TagMode::Implicit && root == Root::Field {
+            return Ok(Keyword::Implicit);
+        }
         if label.mode == TagMode::Unmarked && root == Root::Field {
             return Err(if label.is_automatic {
                 Cause::AutomaticField

@@ -65,6 +65,7 @@ IMPLICIT TAGS; T; T ::= SEQUENCE { a BMPString, b GeneralizedTime, c [0] Univers
 ; T --as T.a.b=INTEGER; T ::= SET OF SEQUENCE { a CHOICE { b ANY } }; T ::= SET OF SEQUENCE { a CHOICE { b INTEGER } };
 # a field of a class is open by what its class says (X.681 9 and 14), and a tag in front of an open type explicit
 IMPLICIT TAGS; T --as T.a=NULL --as T.b=NULL --as T.c=C --as T.d=NULL; T ::= SEQUENCE { a [0] X.&Type, b [1] X.&id, c [2] X.&id, d [3] IMPLICIT X.&id } X ::= CLASS { &id INTEGER UNIQUE, &Type } C ::= CHOICE { x NULL }; T ::= SEQUENCE { a [0] EXPLICIT NULL, b [1] IMPLICIT NULL, c [2] EXPLICIT C, d [3] IMPLICIT NULL } C ::= CHOICE { x NULL };
+; T --as T=NULL; T ::= [0] IMPLICIT X.&id; T ::= [0] IMPLICIT NULL;
 IMPLICIT TAGS; T --as T.a=NULL --as U=NULL; T ::= SEQUENCE { a [0] X.&value, b [1] U } X ::= CLASS { &value &Type, &Type OPTIONAL, &Set INTEGER } U ::= X.&Set; T ::= SEQUENCE { a [0] EXPLICIT NULL, b [1] IMPLICIT U } U ::= NULL;
 AUTOMATIC TAGS; T --as T.a=INTEGER --as T.b=NULL; T ::= SEQUENCE { a K.&id, b K.&Type } K ::= CLASS { &id INTEGER UNIQUE, &Type }; T ::= SEQUENCE { a [0] IMPLICIT INTEGER, b [1] EXPLICIT NULL };
 # a component or an alternative without a name, as X.208 has it, is named by its place
@@ -79,6 +80,8 @@ AUTOMATIC TAGS; T; T ::= SET { a [0] NULL, COMPONENTS OF U } U ::= SET { b [1] N
 ; T --narrow; T ::= CHOICE { a REAL, b NULL, c U } U ::= SEQUENCE { x EXTERNAL }; T ::= CHOICE { b NULL }; m.asn:2:18: narrowed: T.a is left out: REAL at T.a m.asn:2:34: narrowed: T.c is left out: EXTERNAL at U.x
 ; T --narrow; T ::= SEQUENCE { a U OPTIONAL, b NULL DEFAULT NULL } U ::= CHOICE { x REAL, y REAL }; T ::= SEQUENCE { }; m.asn:2:20: narrowed: T.a is left out: REAL at U.x m.asn:2:34: narrowed: T.b is left out: a DEFAULT of a kind that asn1x does not take at T.b
 ; T --narrow; T ::= SEQUENCE { a OBJECT IDENTIFIER, b ANY DEFINED BY a OPTIONAL }; T ::= SEQUENCE { a OBJECT IDENTIFIER }; m.asn:2:41: narrowed: T.b is left out: an open type at T.b
+; T --narrow; T ::= SEQUENCE { a CHOICE { x [1] ANY } OPTIONAL, b NULL OPTIONAL }; T ::= SEQUENCE { b NULL OPTIONAL }; m.asn:2:20: narrowed: T.a is left out: an open type at T.a.x
+AUTOMATIC TAGS; T --narrow; T ::= SEQUENCE { a CHOICE { x ANY, y NULL }, b NULL }; T ::= SEQUENCE { a [0] EXPLICIT CHOICE { y [1] IMPLICIT NULL }, b [1] IMPLICIT NULL }; m.asn:2:31: narrowed: T.a.x is left out: an open type at T.a.x
 # a name stands for its type (X.680 14), so one that refers to itself is written out, its last level narrowed
 ; T --unroll 1; T ::= CHOICE { a U, b NULL } U ::= SET OF T; T ::= CHOICE { a U, b NULL } U ::= SET OF T-2 T-2 ::= CHOICE { b NULL }; m.asn:2:18: narrowed: T.a is left out: T refers to itself at U
 ; T --unroll 2; T ::= SEQUENCE { a NULL, b T OPTIONAL }; T ::= SEQUENCE { a NULL, b T-2 OPTIONAL } T-2 ::= SEQUENCE { a NULL, b T-3 OPTIONAL } T-3 ::= SEQUENCE { a NULL }; m.asn:2:28: narrowed: T.b is left out: T refers to itself at T.b
