@@ -12,6 +12,7 @@ mod file_system;
 mod files;
 mod found;
 mod fronts;
+mod hints;
 mod json_text;
 mod module_faults;
 mod module_runs;

@@ -6,6 +6,7 @@ use crate::columns::Columns;
 use crate::files::read_values;
 use crate::found::find;
 use crate::fronts::Fronts;
+use crate::hints::hint_of;
 use crate::printing::Style;
 use crate::value_lines::ValueLines;
 use crate::values::Values;
@@ -79,6 +80,9 @@ impl<D: FileSystem> Showing<'_, D> {
         match read {
             Err(Fault::Refused(refusal)) => {
                 self.print_refused(path, values, refusal, err)?;
+                if values.at() == 0 {
+                    print_hint(path, values.begun(), err);
+                }
                 Err(Fault::Refused(refusal))
             }
             Ok(()) if self.lacks_value(values.done()) => Err(Fault::NoValue),
@@ -206,6 +210,14 @@ fn put_refused<E: Write>(
         err,
         "{path}: octet {at}: {place}: refused {refusal}: {reason}"
     );
+}
+
+// Prints what to do with a file that begins with these octets, if it looks like a text of encodings.
+fn print_hint<E: Write>(path: &str, octets: &[u8], err: &mut E) {
+    if let Some(hint) = hint_of(octets) {
+        let path = PrintedPath(path);
+        let _ = writeln!(err, "{path}: {hint}");
+    }
 }
 
 // The rule that says what is not canonical where octets are read by this one.

@@ -5,8 +5,8 @@ use std::cell::RefCell;
 use std::io::{self, Error, ErrorKind, Read, Write};
 use view::FileSystem;
 
-/// Files by their names: `m` is a module's text, any other name but `none` the input. Of files that are written the
-/// names and the octets are kept, those that begin with `full` take nothing, and `none0001` cannot be made.
+/// Files by their names: `m` is a module's text, any other name but `none` the input, which `whole` gives at once. Of
+/// files that are written the names and the octets are kept, those that begin with `full` take nothing, and `none0001` cannot be made.
 #[derive(Drop)]
 pub struct Fake<'a> {
     pub alloc: Global,
@@ -20,12 +20,13 @@ pub struct Fake<'a> {
 pub struct Dripping {
     octets: Vec<u8>,
     at: usize,
+    most: usize,
 }
 
 impl Read for Dripping {
     fn read(&mut self, room: &mut [u8]) -> io::Result<usize> {
         let left = self.octets.get(self.at..).unwrap_or(&[]);
-        let count = left.len().min(room.len()).min(7);
+        let count = left.len().min(room.len()).min(self.most);
         room[..count].copy_from_slice(&left[..count]);
         self.at = self.at.saturating_add(count);
         Ok(count)
@@ -86,8 +87,10 @@ impl<'a> FileSystem for Fake<'a> {
             "none" => return Err(Error::from(ErrorKind::NotFound)),
             _ => self.input,
         };
+        let most = if path == "whole" { octets.len() } else { 7 };
+        let at = 0;
         match Vec::from_slice(self.alloc, octets) {
-            Ok(octets) => Ok(Dripping { octets, at: 0 }),
+            Ok(octets) => Ok(Dripping { octets, at, most }),
             Err(_) => Err(Error::from(ErrorKind::OutOfMemory)),
         }
     }

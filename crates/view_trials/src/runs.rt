@@ -112,6 +112,14 @@ octets,none,X,in | || none: cannot be read; | 3
 octets,@builtin,X,in | || @builtin: X is none of BOOLEAN, INTEGER, NULL and OCTET STRING; | 64
 octets,@builtin,X\tY,in | || @builtin: X\\u{9}Y is none of BOOLEAN, INTEGER, NULL and OCTET STRING; | 64
 octets,m,X\tY,in | || m:1:1: X\\u{9}Y: refused 24 UnknownType: the name, or one that it reaches, is not assigned; | 2
+// texts in place of encodings, at the front of the input and in its first piece: PEM, and 16 octets of hexadecimal text, not 15, or none
+octets,m,T,whole,--only-refused | 2d2d2d2d2d424547494e20 || whole: octet 0: T: refused 2 Identifier: no part that begins with [UNIVERSAL 13] can stand here;whole: looks like PEM: `openssl asn1parse -in FILE -noout -out FILE.der` unwraps it; | 1
+octets,m,T,whole,--only-refused | 2d2d2d2d2d424547494e || whole: octet 0: T: refused 2 Identifier: no part that begins with [UNIVERSAL 13] can stand here; | 1
+octets,m,T,whole,--only-refused | 3330204630336130620a3032 09303130 || whole: octet 0: T: refused 2 Identifier: no part that begins with [UNIVERSAL 19] can stand here;whole: looks like hexadecimal text, which --hex reads; | 1
+octets,m,T,whole,--only-refused | 3330204630336130620a3032 093031 || whole: octet 0: T: refused 2 Identifier: no part that begins with [UNIVERSAL 19] can stand here; | 1
+octets,m,T,whole,--only-refused | 3330204630336130620a3032 09303167 || whole: octet 0: T: refused 2 Identifier: no part that begins with [UNIVERSAL 19] can stand here; | 1
+octets,m,T,whole,--only-refused | 3003 020107 3330204630336130620a3032 09303130 || whole: octet 5: T: refused 2 Identifier: no part that begins with [UNIVERSAL 19] can stand here; | 1
+octets,m,T,in,--only-refused | 2d2d2d2d2d424547494e20 || in: octet 0: T: refused 2 Identifier: no part that begins with [UNIVERSAL 13] can stand here; | 1
 ";
 
 // The other commands.
