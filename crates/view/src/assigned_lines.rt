@@ -98,16 +98,25 @@ fn word_of_simple(simple: Simple) -> &'static str {
     }
 }
 
+// The longest name that near ones are looked for.
+const MAX_NAME: usize = 256;
+
 /// The assigned names that are nearest to a name which is not: of those with the fewest edits at most three, unless
-/// these are more than half of the name.
+/// these are more than half of the name. To a name of more than 256 octets none is.
 pub fn nearest(
     alloc: Global,
     assignments: &[Assignment],
     name: &str,
 ) -> Result<Vec<String>, NoMemory> {
     let mut found = Vec::new(alloc);
+    if name.len() > MAX_NAME {
+        return Ok(found);
+    }
     let mut least = name.len() / 2;
     for assignment in assignments {
+        if assignment.name.as_str().len().abs_diff(name.len()) > least {
+            continue;
+        }
         let edits = levenshtein(alloc, assignment.name.as_str(), name)?;
         if edits < least {
             found.clear();
