@@ -53,12 +53,13 @@ fn a_path_with_a_line_feed(rt: HostRuntime) -> Result<(), Fail> {
 
 #[test]
 fn wrong_words(rt: HostRuntime) -> Result<(), Fail> {
-    // (words, status)
+    // (words, status, or 1 where they are right)
     let cases = [
         ("", 64),
         ("m.asn", 64),
         ("m.asn T --as T", 64),
         ("m.asn T --as T.a=", 64),
+        ("m.asn T --unroll 60", 1),
         ("m.asn T --unroll 61", 64),
         ("m.asn T --unroll x", 64),
         ("m.asn T --wide", 64),
