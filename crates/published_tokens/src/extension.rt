@@ -13,7 +13,7 @@ use crate::symbol::Symbol;
 use crate::token::Kind;
 
 /// The part of a list that a component belongs to.
-#[derive(Clone, Copy, Debug, PartialEq, Eq)]
+#[derive(Clone, Copy)]
 pub enum Section {
     /// The root, before the first `...`.
     Root,
@@ -24,7 +24,7 @@ pub enum Section {
 }
 
 /// How far a list has come.
-#[derive(Clone, Copy, Debug)]
+#[derive(Clone, Copy)]
 pub struct Extension {
     /// Where the first `...` stands.
     pub marker: Option<Place>,

@@ -6,7 +6,7 @@ ghost use Rattle.published_tokens.specs.Gap.{IsWithin, IsWithinLine};
 use crate::page::page_line;
 
 /// What stands in front.
-#[derive(Clone, Copy, Debug, PartialEq, Eq)]
+#[derive(Clone, Copy)]
 pub(crate) enum Piece {
     /// So many octets of a gap, at least one.
     Of(usize),

@@ -11,7 +11,7 @@ use lexis::Word as Reserved;
 use syntax::Tagging;
 
 /// The head of a module.
-#[derive(Clone, Copy, Debug, PartialEq, Eq)]
+#[derive(Clone, Copy)]
 pub struct Head {
     /// The module's name.
     pub name: Token,
@@ -22,7 +22,7 @@ pub struct Head {
 }
 
 /// What was read of a head.
-#[derive(Clone, Copy, Debug, PartialEq, Eq)]
+#[derive(Clone, Copy)]
 enum Stage {
     /// Nothing.
     Prose,
@@ -48,7 +48,8 @@ enum Stage {
 pub fn next_head(scanner: &mut Scanner) -> Option<Head> {
     let mut stage = Stage::Prose;
     for _turn in 0..=MAX_FILE {
-        let token = scanner.next_in_prose(stage != Stage::Prose);
+        let in_head = !matches!(stage, Stage::Prose);
+        let token = scanner.next_in_prose(in_head);
         if token.kind == Kind::End {
             return None;
         }

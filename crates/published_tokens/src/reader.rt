@@ -17,7 +17,7 @@ use names::Name;
 use std::alloc::Global;
 
 /// A name where it is written.
-#[derive(Debug, Drop)]
+#[derive(Drop)]
 pub struct Word {
     /// Its spelling. Names of vendors may have `_` in them.
     pub name: Name,
@@ -26,7 +26,7 @@ pub struct Word {
 }
 
 /// The tokens of a module that are still to come, and how many parts may still be made of them.
-#[derive(Clone, Copy, Debug)]
+#[derive(Clone, Copy)]
 pub struct Reader<'a> {
     /// Where memory is taken.
     pub alloc: Global,

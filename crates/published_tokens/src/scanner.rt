@@ -11,7 +11,7 @@ use crate::prose::{prose_piece, prose_token_in_front};
 use crate::token::{Kind, Token};
 
 /// The tokens of a text that are still to come.
-#[derive(Clone, Copy, Debug)]
+#[derive(Clone, Copy)]
 pub struct Scanner<'a> {
     /// The text.
     pub text: &'a [u8],

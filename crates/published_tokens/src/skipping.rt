@@ -12,7 +12,7 @@ use lexis::Word as Reserved;
 use std::alloc::Global;
 
 /// The brackets that are open.
-#[derive(Debug, Drop)]
+#[derive(Drop)]
 struct Brackets {
     open: Vec<Symbol>,
 }

@@ -5,7 +5,7 @@ use crate::symbol::Symbol;
 use lexis::Word;
 
 /// What a token is.
-#[derive(Clone, Copy, Debug, PartialEq, Eq)]
+#[derive(Clone, Copy, PartialEq, Eq)]
 pub enum Kind {
     /// A word that X.680 reserves.
     Reserved(Word),
@@ -36,7 +36,7 @@ pub enum Kind {
 }
 
 /// A token. Its span is the part of the text that it was read from, in octets.
-#[derive(Clone, Copy, Debug, PartialEq, Eq)]
+#[derive(Clone, Copy)]
 pub struct Token {
     /// What it is.
     pub kind: Kind,
