@@ -2,7 +2,7 @@
 
 use crate::classes::fields_at;
 use crate::simple::simple_of;
-use crate::tree::{Assignment, Body, LeftOut};
+use crate::tree::{Assignment, Body, LeftOut, Type};
 use crate::types::whole_type_at;
 use crate::values::value_at;
 use lexis::Word as Reserved;
@@ -136,7 +136,7 @@ fn value_assignment_at(reader: &mut Reader) -> Result<Assignment, Stop> {
     let has_parameters = skip_parameters(reader)?;
     let governor = whole_type_at(reader)?;
     let body = if reader.passes_symbol(Symbol::Assignment) {
-        Body::Value(governor, value_at(reader)?)
+        value_body_at(reader, governor)?
     } else {
         drop(governor);
         object_at(reader)?
@@ -147,10 +147,21 @@ fn value_assignment_at(reader: &mut Reader) -> Result<Assignment, Stop> {
     })
 }
 
+// The value that stands in front, of this type.
+fn value_body_at(reader: &mut Reader, governor: Type) -> Result<Body, Stop> {
+    match value_at(reader) {
+        Ok(value) => Ok(Body::Value(governor, value)),
+        Err(stop) => {
+            drop(governor);
+            Err(stop)
+        }
+    }
+}
+
 // Passes an object in the notation of a macro, up to the end of its value.
 fn object_at(reader: &mut Reader) -> Result<Body, Stop> {
     skip_to_assignment(reader)?;
     reader.symbol(Symbol::Assignment)?;
-    value_at(reader)?;
+    drop(value_at(reader)?);
     Ok(Body::LeftOut(LeftOut::Object))
 }

@@ -6,25 +6,28 @@ use published_tokens::{Extension, Kind, MAX_PARTS, Reader, Reason, Section, Stop
 
 /// The items in braces, which stand in front.
 pub(crate) fn enumerated_at(reader: &mut Reader) -> Result<Form, Stop> {
-    let mut root = Vec::new(reader.alloc);
-    let mut additions = Vec::new(reader.alloc);
+    let mut found = Items::new(reader.alloc);
+    add_items(reader, &mut found)?;
+    Ok(Form::Enumerated(found))
+}
+
+// Adds the items in braces.
+fn add_items(reader: &mut Reader, found: &mut Items) -> Result<(), Stop> {
     let mut extension = Extension::new();
     reader.symbol(Symbol::OpenBrace)?;
     for _turn in 0..=MAX_PARTS {
         if !extension.begin(reader)? {
-            match extension.section() {
-                Section::Root => root.push(item_at(reader)?)?,
-                Section::Additions => additions.push(item_at(reader)?)?,
+            let items = match extension.section() {
+                Section::Root => &mut found.root,
+                Section::Additions => &mut found.additions,
                 // No item stands behind a second `...`.
                 Section::Tail => return Err(reader.refuse()),
-            }
+            };
+            items.push(item_at(reader)?)?;
         }
         if extension.end(reader)? {
-            return Ok(Form::Enumerated(Items {
-                root,
-                marker: extension.marker,
-                additions,
-            }));
+            found.marker = extension.marker;
+            return Ok(());
         }
     }
     Err(reader.stop(Reason::TooManyParts))

@@ -1,6 +1,6 @@
-//! Lists of components and alternatives while they are read.
+//! Lists of components, alternatives and items while they are read.
 
-use crate::tree::{Alternatives, Component, Components};
+use crate::tree::{Alternatives, Component, Components, Items};
 use published_tokens::Section;
 use std::alloc::{AllocError, Global};
 
@@ -30,6 +30,17 @@ impl Alternatives {
     /// No alternatives.
     pub(crate) fn new(alloc: Global) -> Alternatives {
         Alternatives {
+            root: Vec::new(alloc),
+            marker: None,
+            additions: Vec::new(alloc),
+        }
+    }
+}
+
+impl Items {
+    /// No items.
+    pub(crate) fn new(alloc: Global) -> Items {
+        Items {
             root: Vec::new(alloc),
             marker: None,
             additions: Vec::new(alloc),

@@ -5,7 +5,7 @@ use published_tokens::{Fault, MAX_FILE, MAX_PARTS, Place, Reader, Reason, Scanne
 use std::alloc::{AllocError, Global};
 
 /// What a file has.
-#[derive(Debug, Drop)]
+#[derive(Drop)]
 pub struct Published {
     /// Its modules, in order of text.
     pub modules: Vec<Module>,

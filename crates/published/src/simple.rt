@@ -3,7 +3,7 @@
 use lexis::Word as Reserved;
 
 /// A type that is named by reserved words alone.
-#[derive(Clone, Copy, Debug, PartialEq, Eq)]
+#[derive(Clone, Copy, Debug)]
 pub enum Simple {
     /// `BOOLEAN`.
     Boolean,

@@ -7,7 +7,7 @@ use published_tokens::{Place, TagClass, Word};
 use syntax::{Group, TagMode, Tagging};
 
 /// A module.
-#[derive(Debug, Drop)]
+#[derive(Drop)]
 pub struct Module {
     /// Its name.
     pub name: Word,
@@ -22,7 +22,7 @@ pub struct Module {
 }
 
 /// Names imported from one module.
-#[derive(Debug, Drop)]
+#[derive(Drop)]
 pub struct Import {
     /// The module.
     pub module: Word,
@@ -31,7 +31,7 @@ pub struct Import {
 }
 
 /// An assignment.
-#[derive(Debug, Drop)]
+#[derive(Drop)]
 pub struct Assignment {
     /// The name at its left.
     pub name: Word,
@@ -40,7 +40,7 @@ pub struct Assignment {
 }
 
 /// What is assigned.
-#[derive(Debug, Drop)]
+#[derive(Drop)]
 pub enum Body {
     /// A type.
     Type(Type),
@@ -53,7 +53,7 @@ pub enum Body {
 }
 
 /// What is recognised and left out of the tree.
-#[derive(Clone, Copy, Debug, PartialEq, Eq)]
+#[derive(Clone, Copy)]
 pub enum LeftOut {
     /// A set of information objects or of values.
     Set,
@@ -66,7 +66,7 @@ pub enum LeftOut {
 }
 
 /// A field of a class.
-#[derive(Debug, Drop)]
+#[derive(Drop)]
 pub struct Field {
     /// Its name, with `&`.
     pub name: Word,
@@ -76,7 +76,7 @@ pub struct Field {
 }
 
 /// A type.
-#[derive(Debug, Drop)]
+#[derive(Drop)]
 #[cycle(tree)]
 pub struct Type {
     /// Where it begins.
@@ -89,7 +89,7 @@ pub struct Type {
 }
 
 /// What a type is.
-#[derive(Debug, Drop)]
+#[derive(Drop)]
 #[cycle(tree)]
 pub enum Form {
     /// A type that is named by reserved words alone.
@@ -124,7 +124,7 @@ pub enum Form {
 }
 
 /// A name that is used, perhaps with its module.
-#[derive(Debug, Drop)]
+#[derive(Drop)]
 pub struct Reference {
     /// The module in front of it.
     pub module: Option<Name>,
@@ -135,7 +135,7 @@ pub struct Reference {
 }
 
 /// What stands in front of a tagged type.
-#[derive(Debug, Drop)]
+#[derive(Drop)]
 pub struct Tag {
     /// The class word.
     pub class: TagClass,
@@ -146,7 +146,7 @@ pub struct Tag {
 }
 
 /// The components of a SEQUENCE or SET.
-#[derive(Debug, Drop)]
+#[derive(Drop)]
 #[cycle(tree)]
 pub struct Components {
     /// Those of the root that stand before the first `...`, or all.
@@ -160,7 +160,7 @@ pub struct Components {
 }
 
 /// A component of a SEQUENCE or SET.
-#[derive(Debug, Drop)]
+#[derive(Drop)]
 #[cycle(tree)]
 pub struct Component {
     /// Its name, which is `unnamed-` and a number where none is written. None: `COMPONENTS OF` stands there.
@@ -174,7 +174,7 @@ pub struct Component {
 }
 
 /// What stands behind a component's type.
-#[derive(Debug, Drop)]
+#[derive(Drop)]
 pub enum Presence {
     /// Nothing.
     Required,
@@ -185,7 +185,7 @@ pub enum Presence {
 }
 
 /// The alternatives of a CHOICE.
-#[derive(Debug, Drop)]
+#[derive(Drop)]
 #[cycle(tree)]
 pub struct Alternatives {
     /// Those of the root.
@@ -197,7 +197,7 @@ pub struct Alternatives {
 }
 
 /// An alternative of a CHOICE.
-#[derive(Debug, Drop)]
+#[derive(Drop)]
 #[cycle(tree)]
 pub struct Alternative {
     /// Its name, which is `unnamed-` and a number where none is written.
@@ -207,7 +207,7 @@ pub struct Alternative {
 }
 
 /// The items of an ENUMERATED.
-#[derive(Debug, Drop)]
+#[derive(Drop)]
 pub struct Items {
     /// Those of the root.
     pub root: Vec<Item>,
@@ -218,7 +218,7 @@ pub struct Items {
 }
 
 /// An item of an ENUMERATED.
-#[derive(Debug, Drop)]
+#[derive(Drop)]
 pub struct Item {
     /// Its name.
     pub name: Word,
@@ -227,7 +227,7 @@ pub struct Item {
 }
 
 /// A named number of an INTEGER, or a named bit of a BIT STRING.
-#[derive(Debug, Drop)]
+#[derive(Drop)]
 pub struct NamedNumber {
     /// Its name.
     pub name: Word,

@@ -9,6 +9,7 @@ use lexis::Word as Reserved;
 use published_tokens::{
     Extension, Kind, MAX_LEVELS, MAX_PARTS, Place, Reader, Reason, Section, Stop, Symbol,
 };
+use std::mem::drop;
 use syntax::Group;
 
 /// The type that stands in front.
@@ -25,12 +26,17 @@ fn type_at(reader: &mut Reader, levels: u32) -> Result<Type, Stop> {
     }
     let place = reader.place();
     let (form, before) = form_at(reader, levels - 1)?;
-    let behind = skip_constraints(reader)?;
-    Ok(Type {
-        place,
-        form,
-        constraint: before.or(behind),
-    })
+    match skip_constraints(reader) {
+        Ok(behind) => Ok(Type {
+            place,
+            form,
+            constraint: before.or(behind),
+        }),
+        Err(stop) => {
+            drop(form);
+            Err(stop)
+        }
+    }
 }
 
 // What a type is, whose parts have at most so many levels, and the constraint before `OF`.
@@ -70,10 +76,17 @@ fn group_at(reader: &mut Reader, levels: u32, group: Group) -> Result<(Form, Opt
 #[cycle(types)]
 fn list_at(reader: &mut Reader, levels: u32, group: Group) -> Result<Form, Stop> {
     let mut found = Components::new(reader.alloc);
+    add_components(reader, levels, &mut found)?;
+    Ok(Form::List(group, found))
+}
+
+// Adds the components in braces.
+#[cycle(types)]
+fn add_components(reader: &mut Reader, levels: u32, found: &mut Components) -> Result<(), Stop> {
     let mut extension = Extension::new();
     reader.symbol(Symbol::OpenBrace)?;
     if reader.passes_symbol(Symbol::CloseBrace) {
-        return Ok(Form::List(group, found));
+        return Ok(());
     }
     for turn in 0..=MAX_PARTS {
         if !extension.begin(reader)? {
@@ -82,7 +95,7 @@ fn list_at(reader: &mut Reader, levels: u32, group: Group) -> Result<Form, Stop>
         }
         if extension.end(reader)? {
             found.marker = extension.marker;
-            return Ok(Form::List(group, found));
+            return Ok(());
         }
     }
     Err(reader.stop(Reason::TooManyParts))
@@ -103,13 +116,18 @@ fn component_at(
         Some(part_name_at(reader, before)?)
     };
     let body = type_at(reader, levels)?;
-    let presence = presence_at(reader)?;
-    Ok(Component {
-        name,
-        body,
-        presence,
-        group,
-    })
+    match presence_at(reader) {
+        Ok(presence) => Ok(Component {
+            name,
+            body,
+            presence,
+            group,
+        }),
+        Err(stop) => {
+            drop(body);
+            Err(stop)
+        }
+    }
 }
 
 // What stands behind the type of a component.
@@ -127,23 +145,33 @@ fn presence_at(reader: &mut Reader) -> Result<Presence, Stop> {
 #[cycle(types)]
 fn choice_at(reader: &mut Reader, levels: u32) -> Result<Form, Stop> {
     let mut found = Alternatives::new(reader.alloc);
-    let mut extension = Extension::new();
     reader.take();
+    add_alternatives(reader, levels, &mut found)?;
+    Ok(Form::Choice(found))
+}
+
+// Adds the alternatives in braces.
+#[cycle(types)]
+fn add_alternatives(
+    reader: &mut Reader,
+    levels: u32,
+    found: &mut Alternatives,
+) -> Result<(), Stop> {
+    let mut extension = Extension::new();
     reader.symbol(Symbol::OpenBrace)?;
     for turn in 0..=MAX_PARTS {
         if !extension.begin(reader)? {
-            match extension.section() {
-                Section::Root => found.root.push(alternative_at(reader, levels, turn)?)?,
-                Section::Additions => {
-                    found.additions.push(alternative_at(reader, levels, turn)?)?
-                }
+            let alternatives = match extension.section() {
+                Section::Root => &mut found.root,
+                Section::Additions => &mut found.additions,
                 // No alternative stands behind the second `...`.
                 Section::Tail => return Err(reader.refuse()),
-            }
+            };
+            alternatives.push(alternative_at(reader, levels, turn)?)?;
         }
         if extension.end(reader)? {
             found.marker = extension.marker;
-            return Ok(Form::Choice(found));
+            return Ok(());
         }
     }
     Err(reader.stop(Reason::TooManyParts))

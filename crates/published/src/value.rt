@@ -6,7 +6,7 @@ use published_tokens::{Place, Word};
 use syntax::SignedNumber;
 
 /// A value.
-#[derive(Debug, Drop)]
+#[derive(Drop)]
 pub struct Value {
     /// Where it begins.
     pub place: Place,
@@ -15,7 +15,7 @@ pub struct Value {
 }
 
 /// What a value is. Strings are kept as they are spelled, quotes and letter included.
-#[derive(Debug, Drop)]
+#[derive(Drop)]
 pub enum ValueForm {
     /// `TRUE`.
     True,
@@ -42,7 +42,7 @@ pub enum ValueForm {
 }
 
 /// A number where one is asked for: in a tag, behind an item, a named number or a named bit.
-#[derive(Debug, Drop)]
+#[derive(Drop)]
 pub enum Number {
     /// The number itself.
     Literal(SignedNumber),
@@ -51,7 +51,7 @@ pub enum Number {
 }
 
 /// An arc of an object identifier.
-#[derive(Debug, Drop)]
+#[derive(Drop)]
 pub enum Arc {
     /// A number.
     Number(u128),
