@@ -6,7 +6,7 @@ use std::alloc::{AllocError, Global};
 use thiserror::Error;
 
 /// Why a type, or a part of one, is not taken.
-#[derive(Clone, Copy, Debug, PartialEq, Eq, Error)]
+#[derive(Clone, Copy, Debug, Error)]
 pub enum Cause<'a> {
     /// `ANY`, or a field of a class.
     #[error("an open type")]
@@ -138,7 +138,7 @@ fn front_of<'a>(name: &'a str) -> &'a str {
 }
 
 /// What is not taken, where and why.
-#[derive(Debug, Drop)]
+#[derive(Drop)]
 pub struct Fault<'a> {
     /// Where it stands.
     pub place: Place,

@@ -1,10 +1,11 @@
 //! Copies of types of the profile.
 
 use std::alloc::{AllocError, Global};
+use std::mem::drop;
 use syntax::{Alternative, Component, DefaultValue, Expr, Item, NamedBit, Presence, Simple};
 
 /// Makes copies of types, with so many parts at most.
-#[derive(Debug, Drop)]
+#[derive(Drop)]
 pub struct Copier {
     alloc: Global,
     /// How many parts may still be copied. Where there are none, what is made is no copy.
@@ -20,11 +21,19 @@ impl Copier {
     /// A copy of the component.
     #[cycle(copying)]
     pub fn component(&mut self, component: &Component) -> Result<Component, AllocError> {
-        Ok(Component {
-            name: component.name.clone()?,
-            body: self.expr(&component.body)?,
-            presence: self.presence(&component.presence)?,
-        })
+        let name = component.name.clone()?;
+        let body = self.expr(&component.body)?;
+        match self.presence(&component.presence) {
+            Ok(presence) => Ok(Component {
+                name,
+                body,
+                presence,
+            }),
+            Err(error) => {
+                drop(body);
+                Err(error)
+            }
+        }
     }
 
     // A copy of the type.
@@ -35,36 +44,47 @@ impl Copier {
             return Ok(Expr::Simple(Simple::Null));
         }
         match expr {
-            Expr::Tagged(prefix, inner) => {
-                let inner = self.expr(inner)?;
-                Ok(Expr::Tagged(*prefix, Box::new(self.alloc, inner)?))
-            }
-            Expr::List(group, components) => {
-                let mut copies = Vec::new(self.alloc);
-                for component in components {
-                    copies.push(self.component(component)?)?;
-                }
-                Ok(Expr::List(*group, copies))
-            }
-            Expr::Of(group, inner) => {
-                let inner = self.expr(inner)?;
-                Ok(Expr::Of(*group, Box::new(self.alloc, inner)?))
-            }
-            Expr::Choice(alternatives) => {
-                let mut copies = Vec::new(self.alloc);
-                for alternative in alternatives {
-                    copies.push(Alternative {
-                        name: alternative.name.clone()?,
-                        body: self.expr(&alternative.body)?,
-                    })?;
-                }
-                Ok(Expr::Choice(copies))
-            }
+            Expr::Tagged(prefix, inner) => Ok(Expr::Tagged(*prefix, self.inner(inner)?)),
+            Expr::List(group, components) => Ok(Expr::List(*group, self.components(components)?)),
+            Expr::Of(group, inner) => Ok(Expr::Of(*group, self.inner(inner)?)),
+            Expr::Choice(alternatives) => Ok(Expr::Choice(self.alternatives(alternatives)?)),
             Expr::Enumerated(items) => self.items(items),
             Expr::NamedBits(bits) => self.bits(bits),
             Expr::Simple(simple) => Ok(Expr::Simple(*simple)),
             Expr::Reference(name) => Ok(Expr::Reference(self.text(name)?)),
         }
+    }
+
+    // A copy of a type behind a tag or `OF`.
+    #[cycle(copying)]
+    fn inner(&mut self, inner: &Expr) -> Result<Box<Expr>, AllocError> {
+        let copy = self.expr(inner)?;
+        Ok(Box::new(self.alloc, copy)?)
+    }
+
+    // A copy of the components of a list.
+    #[cycle(copying)]
+    fn components(&mut self, components: &[Component]) -> Result<Vec<Component>, AllocError> {
+        let mut copies = Vec::new(self.alloc);
+        for component in components {
+            copies.push(self.component(component)?)?;
+        }
+        Ok(copies)
+    }
+
+    // A copy of the alternatives of a CHOICE.
+    #[cycle(copying)]
+    fn alternatives(
+        &mut self,
+        alternatives: &[Alternative],
+    ) -> Result<Vec<Alternative>, AllocError> {
+        let mut copies = Vec::new(self.alloc);
+        for alternative in alternatives {
+            let name = alternative.name.clone()?;
+            let body = self.expr(&alternative.body)?;
+            copies.push(Alternative { name, body })?;
+        }
+        Ok(copies)
     }
 
     // A copy of an ENUMERATED with these items.

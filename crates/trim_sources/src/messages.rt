@@ -3,7 +3,7 @@
 use published::Place;
 
 /// What a message is about.
-#[derive(Clone, Copy, Debug, PartialEq, Eq)]
+#[derive(Clone, Copy, Debug)]
 pub enum Kind {
     /// Something is not taken, and nothing is written.
     Refused,

@@ -3,7 +3,7 @@
 use std::alloc::{AllocError, Global};
 
 /// What is asked for.
-#[derive(Debug, Drop)]
+#[derive(Drop)]
 pub struct Request {
     /// The module of the type, where it is given.
     pub module: Option<String>,
@@ -20,7 +20,7 @@ pub struct Request {
 }
 
 /// The type of an open type at a place.
-#[derive(Debug, Drop)]
+#[derive(Drop)]
 pub struct Given {
     /// The module of the place, where it is given.
     pub module: Option<String>,
@@ -31,7 +31,7 @@ pub struct Given {
 }
 
 /// The type of an open type.
-#[derive(Debug, Drop)]
+#[derive(Drop)]
 pub struct Substitute {
     /// Its module, where it is given.
     pub module: Option<String>,

@@ -9,7 +9,7 @@ use std::collections::BTreeMap;
 pub const MAX_STEPS: usize = 64;
 
 /// Where an assignment stands: its module, and its place among the assignments of that.
-#[derive(Clone, Copy, Debug, PartialEq, Eq)]
+#[derive(Clone, Copy)]
 pub struct Spot {
     /// The module.
     pub module: usize,
@@ -18,7 +18,7 @@ pub struct Spot {
 }
 
 /// One, or several.
-#[derive(Clone, Copy, Debug)]
+#[derive(Clone, Copy)]
 enum Found {
     One(usize),
     Several,

@@ -23,7 +23,7 @@ pub struct ValueOf<'a> {
 }
 
 /// How many names may still be compared with those that types give to numbers and items.
-#[derive(Debug, Drop)]
+#[derive(Drop)]
 pub struct Budget {
     left: usize,
 }
