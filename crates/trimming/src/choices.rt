@@ -83,16 +83,14 @@ impl<'a> Trimmer<'a> {
         chosen: &mut Chosen<'a>,
     ) -> Result<(), AllocError> {
         let mark = self.mark();
+        let name = identifier(alloc, &written.name.name)?;
         self.work.path.push(written.name.name.as_str())?;
-        let draft = self.part(alloc, number, &written.body)?;
-        chosen.is_cut = chosen.is_cut || draft.is_cut;
+        let Draft { expr: body, is_cut } = self.part(alloc, number, &written.body)?;
+        chosen.is_cut = chosen.is_cut || is_cut;
         if self.work.made.faults.len() == mark.faults {
-            chosen.made.push(Alternative {
-                name: identifier(alloc, &written.name.name)?,
-                body: draft.expr,
-            })?;
+            chosen.made.push(Alternative { name, body })?;
         } else {
-            drop(draft);
+            drop((name, body));
             self.leave_alternative_out(alloc, number, written, mark, chosen)?;
         }
         self.work.path.pop();

@@ -4,7 +4,7 @@ use crate::node::State;
 use crate::trimmer::{Draft, Trimmer};
 use published::{Alternative, Alternatives, Form, Place, Reference, Simple, Type};
 use std::alloc::{AllocError, Global};
-use syntax::Expr;
+use syntax::{Expr, Group};
 use trim_rules::Root;
 use trim_sources::{Cause, Spot, in_profile, is_left_out_string, name_of_left_out};
 
@@ -25,14 +25,18 @@ impl<'a> Trimmer<'a> {
             Form::Reference(reference) => self.reference(alloc, reference),
             Form::Tagged(tag, inner) => self.tagged(alloc, ty.place, tag, inner),
             Form::List(group, components) => self.list(alloc, ty.place, *group, components),
-            Form::Of(group, _, inner) => {
-                let inner = self.draft(alloc, inner)?.expr;
-                let inner = Box::new(alloc, inner)?;
-                Ok(Draft::whole(Expr::Of(*group, inner)))
-            }
+            Form::Of(group, _, inner) => self.of(alloc, *group, inner),
             Form::Choice(alternatives) => self.choice(alloc, ty.place, alternatives),
             _ => self.other(alloc, ty),
         }
+    }
+
+    // SEQUENCE OF or SET OF.
+    #[cycle(drafting)]
+    fn of(&mut self, alloc: Global, group: Group, inner: &'a Type) -> Result<Draft, AllocError> {
+        let inner = self.draft(alloc, inner)?.expr;
+        let inner = Box::new(alloc, inner)?;
+        Ok(Draft::whole(Expr::Of(group, inner)))
     }
 
     // What a type without types in it is in the profile.

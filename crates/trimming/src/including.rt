@@ -32,10 +32,7 @@ impl<'a> Trimmer<'a> {
     ) -> Result<(), AllocError> {
         match self.to_include(alloc, at, body)? {
             Ok(node) => self.put_in(alloc, node, body, made),
-            Err(cause) => {
-                self.refuse(alloc, body.place, cause)?;
-                Ok(())
-            }
+            Err(cause) => self.note(alloc, body.place, cause),
         }
     }
 
@@ -122,10 +119,10 @@ impl<'a> Trimmer<'a> {
         }
         self.look_until(copier.left);
         if copier.left == 0 {
-            self.refuse(alloc, body.place, Cause::TooLarge)?;
+            self.note(alloc, body.place, Cause::TooLarge)?;
         }
         if made.len() > MAX_PARTS {
-            self.refuse(alloc, body.place, Cause::Parts)?;
+            self.note(alloc, body.place, Cause::Parts)?;
         }
         Ok(())
     }

@@ -56,7 +56,7 @@ impl<'a> Trimmer<'a> {
     ) -> Result<(), AllocError> {
         self.forget(mark);
         if !self.tell() {
-            self.refuse(alloc, place, Cause::TooLarge)?;
+            self.note(alloc, place, Cause::TooLarge)?;
         }
         let path = self.path(alloc)?;
         self.work.made.messages.push(Message {

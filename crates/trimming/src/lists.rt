@@ -122,23 +122,39 @@ impl<'a> Trimmer<'a> {
     ) -> Result<(), AllocError> {
         let mark = self.mark();
         self.work.path.push(word.name.as_str())?;
-        let draft = self.part(alloc, slot.number, &written.body)?;
-        if draft.is_cut && slot.group == Group::Set {
-            self.refuse(alloc, written.body.place, Cause::CutChoice)?;
-        }
-        let presence = self.presence(alloc, written, slot.standing)?;
+        let component = self.component_of(alloc, slot, word, written)?;
         if self.work.made.faults.len() == mark.faults {
-            made.push(Component {
-                name: identifier(alloc, &word.name)?,
-                body: draft.expr,
-                presence,
-            })?;
+            made.push(component)?;
         } else {
-            drop((draft, presence));
+            drop(component);
             self.leave_component_out(alloc, slot, written, mark)?;
         }
         self.work.path.pop();
         Ok(())
+    }
+
+    // What becomes of a component. What is wrong with it is noted.
+    #[cycle(drafting)]
+    fn component_of(
+        &mut self,
+        alloc: Global,
+        slot: Slot,
+        word: &'a Word,
+        written: &'a Written,
+    ) -> Result<Component, AllocError> {
+        let name = identifier(alloc, &word.name)?;
+        let draft = self.part(alloc, slot.number, &written.body)?;
+        match self.presence(alloc, slot, written, draft.is_cut) {
+            Ok(presence) => Ok(Component {
+                name,
+                body: draft.expr,
+                presence,
+            }),
+            Err(error) => {
+                drop(draft);
+                Err(error)
+            }
+        }
     }
 
     // Leaves a component out, where it may be.
@@ -198,21 +214,25 @@ impl<'a> Trimmer<'a> {
         Ok(!is_open || slot.is_apart)
     }
 
-    // What stands behind the component.
+    // What stands behind the component. A SET takes no CHOICE that is without some of its alternatives.
     fn presence(
         &mut self,
         alloc: Global,
+        slot: Slot,
         written: &'a Written,
-        standing: Standing,
+        is_cut: bool,
     ) -> Result<Presence, AllocError> {
+        if is_cut && slot.group == Group::Set {
+            self.note(alloc, written.body.place, Cause::CutChoice)?;
+        }
         let literal = match &written.presence {
             WrittenPresence::Default(value) => self.literal(alloc, &written.body, value)?,
             WrittenPresence::Required | WrittenPresence::Optional => None,
         };
-        match presence_of(standing, literal) {
+        match presence_of(slot.standing, literal) {
             Some(presence) => Ok(presence),
             None => {
-                self.refuse(alloc, place_of(written), Cause::Default)?;
+                self.note(alloc, place_of(written), Cause::Default)?;
                 Ok(Presence::Required)
             }
         }

@@ -1,14 +1,16 @@
 //! A type that is reached from the one that is asked for.
 
+use crate::trimmer::{Draft, Work};
 use names::Name;
 use published::{Type, Word};
 use std::alloc::Global;
+use std::mem::{self, drop};
 use syntax::Expr;
 use trim_rules::{Additions, Root};
 use trim_sources::{Fault, Message, Spot};
 
 /// How far a type is.
-#[derive(Clone, Copy, Debug, PartialEq, Eq)]
+#[derive(Clone, Copy, PartialEq, Eq)]
 pub enum State {
     /// Not looked at.
     New,
@@ -41,6 +43,19 @@ pub struct Node<'a> {
     pub is_finite: bool,
     /// What came of it.
     pub made: Made<'a>,
+}
+
+impl<'a> Node<'a> {
+    /// Takes what was made of it, which is this at its root, and what was noted of it.
+    pub fn finish(&mut self, root: Root, draft: Draft, work: &mut Work<'a>) {
+        let Draft { expr, is_cut } = draft;
+        self.state = State::Done;
+        self.root = root;
+        self.is_cut = is_cut;
+        self.is_finite = work.is_finite;
+        mem::swap(&mut self.made, &mut work.made);
+        drop(mem::replace(&mut self.made.expr, Some(expr)));
+    }
 }
 
 /// What came of a type.

@@ -16,8 +16,7 @@ impl<'a> Trimmer<'a> {
         place: Place,
         cause: Cause<'a>,
     ) -> Result<Draft, AllocError> {
-        let path = self.path(alloc)?;
-        let Some(given) = self.take_given(path.as_str()) else {
+        let Some(given) = self.take_given(alloc)? else {
             return self.refuse(alloc, place, cause);
         };
         if let Some(simple) = self.simple_given(&given.ty) {
@@ -58,8 +57,7 @@ impl<'a> Trimmer<'a> {
 
     // What the type is at its root that the request gives to this place.
     fn root_of_given(&mut self, alloc: Global) -> Result<Root, AllocError> {
-        let path = self.path(alloc)?;
-        let Some(place) = self.given_at(path.as_str()) else {
+        let Some(place) = self.given_here(alloc)? else {
             return Ok(Root::Field);
         };
         let Some(given) = self.request.given.get(place) else {
@@ -90,16 +88,24 @@ impl<'a> Trimmer<'a> {
         }
     }
 
-    // What the request gives to the place, which is taken then.
-    fn take_given(&mut self, path: &str) -> Option<&'a Given> {
-        let place = self.given_at(path)?;
+    // What the request gives to the place that is being made, which is taken then.
+    fn take_given(&mut self, alloc: Global) -> Result<Option<&'a Given>, AllocError> {
+        let Some(place) = self.given_here(alloc)? else {
+            return Ok(None);
+        };
         if let Some(is_taken) = self.taken.get_mut(place) {
             *is_taken = true;
         }
-        self.request.given.get(place)
+        Ok(self.request.given.get(place))
     }
 
-    // What the request gives to the place: how many stand before it.
+    // What the request gives to the place that is being made: how many stand before it.
+    fn given_here(&self, alloc: Global) -> Result<Option<usize>, AllocError> {
+        let path = self.path(alloc)?;
+        Ok(self.given_at(path.as_str()))
+    }
+
+    // What the request gives to the place of this path: how many stand before it.
     fn given_at(&self, path: &str) -> Option<usize> {
         let module = self.sources.module_at(self.work.module)?;
         let module = module.name.name.as_str();

@@ -11,7 +11,7 @@ use trim_sources::Cause;
 const MAX_TAG_NUMBER: u32 = 268_435_455;
 
 /// A tag as it is written, or as automatic tagging gives it.
-#[derive(Clone, Copy, Debug)]
+#[derive(Clone, Copy)]
 pub struct Label {
     /// Where it stands.
     pub place: Place,
@@ -39,7 +39,7 @@ impl<'a> Trimmer<'a> {
         match self.label_of(place, tag) {
             Ok(label) => self.labelled(alloc, label, inner),
             Err(cause) => {
-                self.refuse(alloc, place, cause)?;
+                self.note(alloc, place, cause)?;
                 self.draft(alloc, inner)
             }
         }
@@ -101,7 +101,7 @@ impl<'a> Trimmer<'a> {
     ) -> Result<(), AllocError> {
         let is_by_field = matches!(cause, Cause::UnmarkedField | Cause::AutomaticField);
         if !is_by_field || !self.sources.is_fixed_field(self.work.module, inner) {
-            self.refuse(alloc, label.place, cause)?;
+            self.note(alloc, label.place, cause)?;
         }
         Ok(())
     }

@@ -153,13 +153,24 @@ impl<'a> Trimmer<'a> {
         self.told <= MAX_TOLD
     }
 
-    /// Notes what is wrong with the type that is being made, at this place.
+    /// Notes what is wrong with the type that is being made, at this place. What stands there then.
     pub fn refuse(
         &mut self,
         alloc: Global,
         place: Place,
         cause: Cause<'a>,
     ) -> Result<Draft, AllocError> {
+        self.note(alloc, place, cause)?;
+        Ok(Draft::nothing())
+    }
+
+    /// Notes what is wrong with the type that is being made, at this place.
+    pub fn note(
+        &mut self,
+        alloc: Global,
+        place: Place,
+        cause: Cause<'a>,
+    ) -> Result<(), AllocError> {
         let can_be_left_out = self.can_be_left_out(cause);
         let path = if self.tell() {
             self.path(alloc)?
@@ -172,7 +183,7 @@ impl<'a> Trimmer<'a> {
             cause: cause.shortened(),
             can_be_left_out,
         })?;
-        Ok(Draft::nothing())
+        Ok(())
     }
 
     // Whether a component or an alternative with this may be left out.

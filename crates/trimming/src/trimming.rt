@@ -1,12 +1,14 @@
 //! From modules as they are published to a module of the profile.
 
+use crate::node::Node;
 use crate::trimmer::Trimmer;
 use published::{Module, Place};
 use std::alloc::{AllocError, AllocFailed, Global};
+use std::mem::drop;
 use trim_sources::{Cause, Kind, Message, Request, Sources, Spot, put_expr, spelled};
 
 /// A module that is trimmed to the profile.
-#[derive(Debug, Drop)]
+#[derive(Drop)]
 pub struct Trimmed {
     /// Its text.
     pub text: String,
@@ -17,7 +19,7 @@ pub struct Trimmed {
 }
 
 /// A module that is trimmed, whose text is not read again yet.
-#[derive(Debug, Drop)]
+#[derive(Drop)]
 pub struct Drafted {
     /// The module.
     pub trimmed: Trimmed,
@@ -62,18 +64,19 @@ pub fn draft_module<'a>(
     request: &'a Request,
 ) -> Result<Drafted, Stop> {
     let sources = Sources::new(alloc, modules)?;
-    let spot = asked(alloc, &sources, request)?;
     let mut trimmer = Trimmer::new(alloc, sources, request);
-    drafted_at(alloc, &mut trimmer, request, spot)
+    let drafted = drafted_by(alloc, &mut trimmer, request);
+    drop(trimmer);
+    drafted
 }
 
-// The module that has the type that stands there, and what it reaches.
-fn drafted_at<'a>(
+// The module that has the type that is asked for, and what it reaches.
+fn drafted_by<'a>(
     alloc: Global,
     trimmer: &mut Trimmer<'a>,
     request: &'a Request,
-    spot: Spot,
 ) -> Result<Drafted, Stop> {
+    let spot = asked(alloc, &trimmer.sources, request)?;
     let root = made(alloc, trimmer, request, spot)?;
     trimmer.note_name(alloc, root)?;
     let kept = trimmer.kept(alloc, root)?;
@@ -203,22 +206,28 @@ fn text_of(
 ) -> Result<String, AllocError> {
     let mut text = String::new(alloc);
     if let Some(module) = trimmer.sources.module_at(spot.module) {
-        text.push_str(spelled(alloc, module.name.name.as_str())?.as_str())?;
+        text = spelled(alloc, module.name.name.as_str())?;
     }
     text.push_str(" DEFINITIONS EXPLICIT TAGS ::= BEGIN\n")?;
     for place in kept {
         if let Some(node) = trimmer.nodes.get(*place) {
-            if let Some(expr) = &node.made.expr {
-                text.push('\n')?;
-                text.push_str(node.name.as_str())?;
-                text.push_str(" ::= ")?;
-                put_expr(&mut text, expr, 0)?;
-                text.push('\n')?;
-            }
+            put_assignment(&mut text, node)?;
         }
     }
     text.push_str("\nEND\n")?;
     Ok(text)
+}
+
+// Appends the assignment of a type.
+fn put_assignment(text: &mut String, node: &Node<'_>) -> Result<(), AllocError> {
+    let Some(expr) = &node.made.expr else {
+        return Ok(());
+    };
+    text.push('\n')?;
+    text.push_str(node.name.as_str())?;
+    text.push_str(" ::= ")?;
+    put_expr(text, expr, 0)?;
+    text.push('\n')
 }
 
 // Where the type stands that was asked for.

@@ -1,9 +1,9 @@
 //! Makes the type that is asked for, after all that it refers to.
 
-use crate::node::{Made, State};
+use crate::node::State;
 use crate::trimmer::{Trimmer, Work};
 use std::alloc::{AllocError, Global};
-use std::mem;
+use std::mem::{self, drop};
 
 /// The most turns: types that are made or found made.
 const MAX_TURNS: usize = 1 << 22;
@@ -43,23 +43,16 @@ impl<'a> Trimmer<'a> {
         };
         node.state = State::Open;
         let body = node.body;
-        self.work = Work::new(alloc);
+        drop(mem::replace(&mut self.work, Work::new(alloc)));
         self.begin(place)?;
         let root = self.root_of(alloc, body)?;
         let draft = self.draft(alloc, body)?;
-        if !self.work.pending.is_empty() {
-            return Ok(false);
+        let is_made = self.work.pending.is_empty();
+        match self.nodes.get_mut(place) {
+            Some(node) if is_made => node.finish(root, draft, &mut self.work),
+            _ => drop(draft),
         }
-        let Some(node) = self.nodes.get_mut(place) else {
-            return Ok(true);
-        };
-        node.state = State::Done;
-        node.root = root;
-        node.is_cut = draft.is_cut;
-        node.is_finite = self.work.is_finite;
-        node.made = mem::replace(&mut self.work.made, Made::new(alloc));
-        node.made.expr = Some(draft.expr);
-        Ok(true)
+        Ok(is_made)
     }
 
     // Notes which type is being made.
