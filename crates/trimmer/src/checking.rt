@@ -6,6 +6,7 @@ ghost use Rattle.trimmer.specs.Trimmed.{IsTrimmed};
 use notation::{Fault, parse, resolve};
 use published::{Module, Place};
 use std::alloc::{AllocError, Global};
+use std::mem::drop;
 use trimming::{Drafted, Request, Stop, Trimmed, draft_module, refused};
 
 /// The module of the profile that has the type that is asked for, and what it reaches.
@@ -32,7 +33,7 @@ fn check(alloc: Global, text: &str, name: &str) -> Result<(), Fault>
     ensures { OnOk result (IsTrimmed text.now name.now) }
 {
     let parsed = parse(alloc, text)?;
-    let _meant = resolve(alloc, &parsed, name)?;
+    drop(resolve(alloc, &parsed, name)?);
     Ok(())
 }
 

@@ -3,7 +3,7 @@
 use trimming::Request;
 
 /// A command line.
-#[derive(Debug, Drop)]
+#[derive(Drop)]
 pub struct Line {
     /// The files, in the order in which they are named.
     pub files: Vec<String>,

@@ -39,7 +39,7 @@ pub fn run<F: Files, W: Write, E: Write>(
 }
 
 /// How a run ends that memory sufficed for.
-#[derive(Clone, Copy, Debug, PartialEq, Eq)]
+#[derive(Clone, Copy)]
 enum End {
     /// The module is written.
     Written,

@@ -22,18 +22,7 @@ impl CommandLine for Line {
     // `clap` judges the words: `--help` and `--version` are its faults too.
     fn from_words(alloc: Global, words: &[&str]) -> Result<Line, LineFault> {
         let matches = command(alloc)?.try_get_matches_from(words)?;
-        let Some(words) = matches.get_strs("WORDS") else {
-            return Err(wrong(alloc, "no files"));
-        };
-        let Some((ty, paths)) = words.split_last() else {
-            return Err(wrong(alloc, "no type"));
-        };
-        let mut files = Vec::new(alloc);
-        for path in paths {
-            files.push(String::from_str(alloc, path)?)?;
-        }
-        let request = request_of(alloc, &matches, ty)?;
-        Ok(Line { files, request })
+        line_of(alloc, &matches)
     }
 
     // Out of memory, or a word is not UTF-8.
@@ -43,6 +32,22 @@ impl CommandLine for Line {
             _ => fault_of_kind(command(alloc), WordsFault::Io, "a word is not UTF-8"),
         }
     }
+}
+
+// The command line that `clap` has judged.
+fn line_of(alloc: Global, matches: &ArgMatches<'_>) -> Result<Line, LineFault> {
+    let Some(words) = matches.get_strs("WORDS") else {
+        return Err(wrong(alloc, "no files"));
+    };
+    let Some((ty, paths)) = words.split_last() else {
+        return Err(wrong(alloc, "no type"));
+    };
+    let mut files = Vec::new(alloc);
+    for path in paths {
+        files.push(String::from_str(alloc, path)?)?;
+    }
+    let request = request_of(alloc, matches, ty)?;
+    Ok(Line { files, request })
 }
 
 // What is asked for, the type being named by this word.
