@@ -1,77 +1,91 @@
 //! Long and deep texts.
 
-use published::{Reason, read};
+use published::read;
 use std::alloc::{AllocError, Global};
 use std::test::Fail;
 
-// The modules, assignments and faults of the text, and the reason of the first fault.
-fn counts(alloc: Global, text: &str) -> Result<(usize, usize, usize, Option<Reason>), AllocError> {
+// How many modules, assignments of the first of them and faults the text has, and the reason of the first fault.
+fn told(alloc: Global, text: &str) -> Result<String, AllocError> {
     let found = read(alloc, 0, text.as_bytes())?;
+    let modules = found.modules.len();
     let assignments = match found.modules.first() {
         Some(module) => module.assignments.len(),
         None => 0,
     };
-    let reason = match found.faults.first() {
-        Some(fault) => Some(fault.reason),
-        None => None,
+    let faults = found.faults.len();
+    let why = match found.faults.first() {
+        Some(fault) => fault.reason.as_str(),
+        None => "none",
     };
-    Ok((found.modules.len(), assignments, found.faults.len(), reason))
+    format!(in alloc; "{modules} {assignments} {faults} {why}")
 }
 
-// A module with this text so many times between two others.
+// A text that stands so many times behind one, and before another.
 fn repeated(
     alloc: Global,
     front: &str,
     middle: &str,
-    count: usize,
+    count: &str,
     behind: &str,
 ) -> Result<String, AllocError> {
-    let mut text = String::from_str(alloc, "M DEFINITIONS ::= BEGIN ")?;
-    text.push_str(front)?;
-    for _turn in 0..count {
+    let mut text = String::from_str(alloc, front)?;
+    for _turn in 0..count.parse::<u32>().unwrap_or(0) {
         text.push_str(middle)?;
     }
     text.push_str(behind)?;
-    text.push_str(" END")?;
     Ok(text)
 }
 
+// Whether what is told of the row's text is what the row says.
+fn is_as_wanted(alloc: Global, row: &str) -> Result<bool, AllocError> {
+    let mut columns = row.split(';');
+    let front = columns.next().unwrap_or("");
+    let middle = columns.next().unwrap_or("");
+    let count = columns.next().unwrap_or("");
+    let behind = columns.next().unwrap_or("");
+    let wanted = columns.next().unwrap_or("");
+    let text = repeated(alloc, front, middle, count, behind)?;
+    Ok(told(alloc, text.as_str())?.as_str() == wanted)
+}
+
+// What stands in front; what is repeated, and how often; what stands behind. Then what is told.
+const NESTED: &str = "\
+M DEFINITIONS ::= BEGIN T ::= ;SET OF ;63;NULL END;1 1 0 none
+M DEFINITIONS ::= BEGIN T ::= ;SET OF ;64;NULL END;1 0 1 types or brackets nest deeper than 64 levels
+M DEFINITIONS ::= BEGIN T ::= NULL ;(;65; END;1 0 1 types or brackets nest deeper than 64 levels
+";
+
+const MANY: &str = "\
+M DEFINITIONS ::= BEGIN ;T ::= NULL ;65535; END;1 65535 0 none
+M DEFINITIONS ::= BEGIN ;T ::= NULL ;65536; END;1 65535 1 the file has more than 131,072 types, names and values
+M DEFINITIONS ::= BEGIN T ::= NULL ;-;1000000; U ::= NULL END;1 2 0 none
+";
+
+const LONG: &str = "\
+; ;16777216;;0 0 0 none
+; ;16777217;;0 0 1 the file is longer than 16,777,216 octets
+";
+
 #[test]
 fn nested_types(rt: HostRuntime) -> Result<(), Fail> {
-    let deepest = repeated(rt.alloc(), "T ::= ", "SET OF ", 63, "NULL")?;
-    assert_eq!(rt; counts(rt.alloc(), deepest.as_str())?, (1, 1, 0, None));
-    let deeper = repeated(rt.alloc(), "T ::= ", "SET OF ", 64, "NULL")?;
-    let told = counts(rt.alloc(), deeper.as_str())?;
-    assert_eq!(rt; told, (1, 0, 1, Some(Reason::TooDeep)));
-    let brackets = repeated(rt.alloc(), "T ::= NULL ", "(", 65, "")?;
-    let told = counts(rt.alloc(), brackets.as_str())?;
-    assert_eq!(rt; told, (1, 0, 1, Some(Reason::TooDeep)));
+    for row in NESTED.lines() {
+        assert!(rt; is_as_wanted(rt.alloc(), row)?, "at {row}");
+    }
     Ok(())
 }
 
 #[test]
-fn many_parts(rt: HostRuntime) -> Result<(), Fail> {
-    let most = repeated(rt.alloc(), "", "T ::= NULL ", 65_535, "")?;
-    assert_eq!(rt; counts(rt.alloc(), most.as_str())?, (1, 65_535, 0, None));
-    let more = repeated(rt.alloc(), "", "T ::= NULL ", 65_536, "")?;
-    let told = counts(rt.alloc(), more.as_str())?;
-    assert_eq!(rt; told, (1, 65_535, 1, Some(Reason::TooManyParts)));
-    Ok(())
-}
-
-#[test]
-fn many_hyphens(rt: HostRuntime) -> Result<(), Fail> {
-    let comments = repeated(rt.alloc(), "T ::= NULL ", "-", 1_000_000, " U ::= NULL")?;
-    assert_eq!(rt; counts(rt.alloc(), comments.as_str())?, (1, 2, 0, None));
+fn many_parts_and_hyphens(rt: HostRuntime) -> Result<(), Fail> {
+    for row in MANY.lines() {
+        assert!(rt; is_as_wanted(rt.alloc(), row)?, "at {row}");
+    }
     Ok(())
 }
 
 #[test]
 fn long_files(rt: HostRuntime) -> Result<(), Fail> {
-    let longest = " ".repeat(rt.alloc(), 16_777_216)?;
-    assert_eq!(rt; counts(rt.alloc(), longest.as_str())?, (0, 0, 0, None));
-    let longer = " ".repeat(rt.alloc(), 16_777_217)?;
-    let told = counts(rt.alloc(), longer.as_str())?;
-    assert_eq!(rt; told, (0, 0, 1, Some(Reason::FileTooLong)));
+    for row in LONG.lines() {
+        assert!(rt; is_as_wanted(rt.alloc(), row)?, "at {row}");
+    }
     Ok(())
 }
