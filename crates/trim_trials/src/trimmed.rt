@@ -27,7 +27,7 @@ impl Files for OneFile<'_> {
 }
 
 /// What a run prints, and its exit status.
-#[derive(Debug, PartialEq, Eq, Drop)]
+#[derive(Drop)]
 struct Outcome {
     out: String,
     err: String,
@@ -43,15 +43,34 @@ fn ran(alloc: Global, text: &str, words: &str) -> Result<Outcome, LineFault> {
         list.push(word)?;
     }
     let line = Line::from_words(alloc, list.as_slice())?;
+    Ok(ran_line(alloc, text, &line)?)
+}
+
+// Runs the command line over this text of the file.
+fn ran_line(alloc: Global, text: &str, line: &Line) -> Result<Outcome, AllocError> {
     let mut out = Vec::new(alloc);
     let mut err = Vec::new(alloc);
     let mut files = OneFile(text.as_bytes());
-    let status = run(alloc, &line, &mut files, &mut out, &mut err);
+    let status = run(alloc, line, &mut files, &mut out, &mut err);
     Ok(Outcome {
         out: String::from_utf8_lossy(alloc, out.as_slice())?,
         err: String::from_utf8_lossy(alloc, err.as_slice())?,
         status,
     })
+}
+
+/// Whether this is written of the text for these words, and this told, spaces apart.
+fn is_written(
+    alloc: Global,
+    text: &str,
+    words: &str,
+    wanted: &str,
+    told: &str,
+) -> Result<bool, LineFault> {
+    let ran = ran(alloc, text, words)?;
+    let out = squeezed(alloc, ran.out.as_str())?;
+    let err = squeezed(alloc, ran.err.as_str())?;
+    Ok(out.as_str() == wanted && err.as_str() == told && ran.status == 0)
 }
 
 /// The rows of a table: its lines but for those that are empty or begin with `#`. Fails where there are none.

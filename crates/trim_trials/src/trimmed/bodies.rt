@@ -1,9 +1,7 @@
 //! Small modules with the constructs of three standards bodies, as each of them writes.
 
-use super::{ran, squeezed};
-use std::alloc::Global;
+use super::is_written;
 use std::test::Fail;
-use trimmer::LineFault;
 
 // A text with two modules in the notation of 1988, and a page that ends within one.
 const IETF: &str = "
@@ -250,20 +248,6 @@ SelectionBits ::= BIT STRING { attributes(0), values(1) } \
 Priority ::= INTEGER \
 END";
 
-// Whether this is written of the text for these words, and what is told begins so.
-fn is_as_wanted(
-    alloc: Global,
-    text: &str,
-    words: &str,
-    wanted: &str,
-    told: &str,
-) -> Result<bool, LineFault> {
-    let ran = ran(alloc, text, words)?;
-    let out = squeezed(alloc, ran.out.as_str())?;
-    let err = squeezed(alloc, ran.err.as_str())?;
-    Ok(out.as_str() == wanted && err.as_str() == told && ran.status == 0)
-}
-
 #[test]
 fn modules_of_three_bodies(rt: HostRuntime) -> Result<(), Fail> {
     // (text, words, what is written, what is told)
@@ -284,7 +268,7 @@ fn modules_of_three_bodies(rt: HostRuntime) -> Result<(), Fail> {
     ];
     for (text, words, wanted, told) in cases {
         assert!(rt;
-            is_as_wanted(rt.alloc(), text, words, wanted, told)?,
+            is_written(rt.alloc(), text, words, wanted, told)?,
             "for {words}"
         );
     }

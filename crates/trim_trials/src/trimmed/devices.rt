@@ -1,8 +1,10 @@
 //! Files and writers that fail, and words that are wrong.
 
-use super::{OneFile, ran};
+use super::{OneFile, ran, rows_of};
+use std::alloc::{AllocError, Global};
 use std::io;
 use std::io::{ErrorKind, Write};
+use std::mem::drop;
 use std::test::Fail;
 use trimmer::{CommandLine, Line, run};
 
@@ -51,32 +53,52 @@ fn a_path_with_a_line_feed(rt: HostRuntime) -> Result<(), Fail> {
     Ok(())
 }
 
+// Words; the exit status, or none where they are right.
+const WORDS: &str = "
+; 64
+m.asn; 64
+m.asn T --as T; 64
+m.asn T --as T.a=; 64
+m.asn T --unroll 60; none
+m.asn T --unroll 61; 64
+m.asn T --unroll x; 64
+m.asn T --wide; 64
+--help; 0
+--version; 0
+";
+
+// The exit status of words that are no command line.
+fn status_of(alloc: Global, words: &str) -> Result<Option<u8>, AllocError> {
+    let mut list = Vec::new(alloc);
+    list.push("asn1x-trim")?;
+    for word in words.split_whitespace() {
+        list.push(word)?;
+    }
+    match Line::from_words(alloc, list.as_slice()) {
+        Ok(line) => {
+            drop(line);
+            Ok(None)
+        }
+        Err(fault) => Ok(Some(fault.status())),
+    }
+}
+
+// Whether the row's words have the status that the row says.
+fn is_as_wanted(alloc: Global, row: &str) -> Result<bool, AllocError> {
+    let Some((words, wanted)) = row.split_once("; ") else {
+        return Ok(false);
+    };
+    let found = match status_of(alloc, words)? {
+        Some(status) => format!(in alloc; "{status}")?,
+        None => String::from_str(alloc, "none")?,
+    };
+    Ok(found.as_str() == wanted)
+}
+
 #[test]
 fn wrong_words(rt: HostRuntime) -> Result<(), Fail> {
-    // (words, status, or 1 where they are right)
-    let cases = [
-        ("", 64),
-        ("m.asn", 64),
-        ("m.asn T --as T", 64),
-        ("m.asn T --as T.a=", 64),
-        ("m.asn T --unroll 60", 1),
-        ("m.asn T --unroll 61", 64),
-        ("m.asn T --unroll x", 64),
-        ("m.asn T --wide", 64),
-        ("--help", 0),
-        ("--version", 0),
-    ];
-    for (words, wanted) in cases {
-        let mut list = Vec::new(rt.alloc());
-        list.push("asn1x-trim")?;
-        for word in words.split_whitespace() {
-            list.push(word)?;
-        }
-        let status = match Line::from_words(rt.alloc(), list.as_slice()) {
-            Ok(_) => 1,
-            Err(fault) => fault.status(),
-        };
-        assert_eq!(rt; status, wanted, "for {words}");
+    for row in rows_of(rt.alloc(), WORDS)? {
+        assert!(rt; is_as_wanted(rt.alloc(), row)?, "at {row}");
     }
     Ok(())
 }

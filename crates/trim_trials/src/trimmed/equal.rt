@@ -2,7 +2,8 @@
 
 use super::{ran, rows_of};
 use notation::{Fault, parse, resolve};
-use std::alloc::{AllocError, Global};
+use std::alloc::Global;
+use std::mem::drop;
 use std::test::Fail;
 use trimmer::LineFault;
 use types::WellTyped;
@@ -23,8 +24,8 @@ T; M DEFINITIONS IMPLICIT TAGS ::= BEGIN T ::= SEQUENCE { a [0] U DEFAULT '0100'
 T; M DEFINITIONS ::= BEGIN T ::= SEQUENCE { a UTF8String DEFAULT \"a\"\"-- b\", b NumericString DEFAULT \"1 2\", c PrintableString DEFAULT \"\" } END
 ";
 
-/// The type that the module of this text means by the name.
-pub fn meant(alloc: Global, text: &str, name: &str) -> Result<WellTyped, Fault> {
+// The type that the module of this text means by the name.
+fn meant(alloc: Global, text: &str, name: &str) -> Result<WellTyped, Fault> {
     resolve(alloc, &parse(alloc, text)?, name)
 }
 
@@ -33,19 +34,46 @@ fn written(alloc: Global, text: &str, name: &str) -> Result<String, LineFault> {
     Ok(ran(alloc, text, name)?.out)
 }
 
-// Whether the types of the module as it is, and as it is trimmed, are equal; or both are refused.
-fn are_equal(alloc: Global, before: &str, after: &str, name: &str) -> Result<bool, AllocError> {
-    match (meant(alloc, before, name), meant(alloc, after, name)) {
-        (Ok(before), Ok(after)) => Ok(before.as_type() == after.as_type()),
-        (Err(_), Err(_)) => Ok(after.is_empty()),
-        _ => Ok(false),
+// Whether the types of the module as it is, and as it is trimmed, are equal; or it is refused, and nothing is
+// written.
+fn are_equal(alloc: Global, before: &str, after: &str, name: &str) -> bool {
+    match meant(alloc, before, name) {
+        Ok(ty) => {
+            let is_equal = is_meant(alloc, after, name, &ty);
+            drop(ty);
+            is_equal
+        }
+        Err(_) => after.is_empty(),
+    }
+}
+
+// Whether the module means a type by the name that is equal to this one.
+fn is_meant(alloc: Global, text: &str, name: &str, ty: &WellTyped) -> bool {
+    match meant(alloc, text, name) {
+        Ok(found) => {
+            let is_equal = found.as_type() == ty.as_type();
+            drop(found);
+            is_equal
+        }
+        Err(_) => false,
+    }
+}
+
+/// Whether the module means a type by the name.
+pub fn has_meaning(alloc: Global, text: &str, name: &str) -> bool {
+    match meant(alloc, text, name) {
+        Ok(found) => {
+            drop(found);
+            true
+        }
+        Err(_) => false,
     }
 }
 
 /// Whether the module trims to one in which the name means an equal type, or is refused by both.
 pub fn is_kept(alloc: Global, text: &str, name: &str) -> Result<bool, LineFault> {
     let after = written(alloc, text, name)?;
-    Ok(are_equal(alloc, text, after.as_str(), name)?)
+    Ok(are_equal(alloc, text, after.as_str(), name))
 }
 
 // Whether the row's module is kept.

@@ -1,6 +1,6 @@
 //! Modules of the profile that numbers give, with odd gaps between their tokens.
 
-use super::equal::{is_kept, meant};
+use super::equal::{has_meaning, is_kept};
 use std::alloc::{AllocError, Global};
 use std::test::Fail;
 
@@ -223,7 +223,7 @@ fn modules_that_numbers_give(rt: HostRuntime) -> Result<(), Fail> {
             is_kept(rt.alloc(), text.as_str(), "T0")?,
             "at {number}: {text}"
         );
-        if meant(rt.alloc(), text.as_str(), "T0").is_ok() {
+        if has_meaning(rt.alloc(), text.as_str(), "T0") {
             taken = taken.saturating_add(1);
         }
     }

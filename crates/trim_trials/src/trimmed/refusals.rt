@@ -22,6 +22,8 @@ T; T ::= SEQUENCE { a NULL, COMPONENTS OF T }; m.asn:2:40: refused: T refers to 
 T; T ::= SEQUENCE { COMPONENTS OF U } U ::= SEQUENCE { a V }; m.asn:2:55: refused: V is neither assigned nor imported at U.a
 T --narrow; T ::= SEQUENCE { COMPONENTS OF U, c NULL OPTIONAL } U ::= SEQUENCE { a NULL, b ANY OPTIONAL }; m.asn:2:32: refused: COMPONENTS OF a list without the open type at its end at T; write the components out
 T --narrow; T ::= SEQUENCE { COMPONENTS OF U, b ANY OPTIONAL } U ::= SEQUENCE { a NULL OPTIONAL }; m.asn:2:37: refused: an open type at T.b; give --as T.b=TYPE
+M.T; T ::= SEQUENCE { a NULL, COMPONENTS OF N.T } END N DEFINITIONS AUTOMATIC TAGS ::= BEGIN T ::= SEQUENCE { c NULL }; m.asn:2:40: refused: COMPONENTS OF a list, where tags are automatic in one of the two at T; write the components out
+N.U; U ::= SEQUENCE { b NULL } END N DEFINITIONS AUTOMATIC TAGS ::= BEGIN U ::= SEQUENCE { d NULL, COMPONENTS OF M.U }; m.asn:2:109: refused: COMPONENTS OF a list, where tags are automatic in one of the two at U; write the components out
 T; T ::= [0] IMPLICIT CHOICE { a NULL }; m.asn:2:7: refused: IMPLICIT in front of a CHOICE or an open type at T
 T --as T=NULL; T ::= [0] IMPLICIT ANY; m.asn:2:7: refused: IMPLICIT in front of a CHOICE or an open type at T
 T --as T=NULL; T ::= [0] X.&id; m.asn:2:7: refused: a tag without a keyword in front of a field of a class at T; write EXPLICIT or IMPLICIT behind the tag
@@ -57,6 +59,7 @@ N.T; T ::= NULL; asn1x-trim: refused: T is of the module N, which is in none of 
 T; T ::= NULL END M DEFINITIONS ::= BEGIN T ::= BOOLEAN; asn1x-trim: refused: the module M stands in the files more than once; give one of its files
 M.T; T ::= NULL U ::= $ END M DEFINITIONS ::= BEGIN T ::= BOOLEAN; asn1x-trim: refused: the module M stands in the files more than once; give one of its files
 T; T ::= NULL U ::= $ END N DEFINITIONS ::= BEGIN T ::= NULL END N DEFINITIONS ::= BEGIN T ::= NULL; asn1x-trim: refused: T stands in several modules; give one of M.T, N.T, N.T
+T; T ::= NULL END N DEFINITIONS ::= BEGIN T ::= BOOLEAN; asn1x-trim: refused: T stands in several modules; give one of M.T, N.T
 T; T ::= NULL T ::= NULL; asn1x-trim: refused: T is assigned more than once
 M.T; T ::= NULL T ::= NULL; asn1x-trim: refused: T is assigned more than once
 T; T ::= NULL T ::= NULL END N DEFINITIONS ::= BEGIN T ::= NULL; asn1x-trim: refused: T stands in several modules; give one of M.T, N.T
@@ -93,44 +96,5 @@ fn refusals(rt: HostRuntime) -> Result<(), Fail> {
     for row in rows_of(rt.alloc(), REFUSALS)? {
         assert!(rt; is_as_wanted(rt.alloc(), row)?, "at {row}");
     }
-    Ok(())
-}
-
-// Lists of which one names the other by COMPONENTS OF, and one of the two is tagged automatically.
-const AUTOMATIC: &str = "
-A DEFINITIONS IMPLICIT TAGS ::= BEGIN
-T ::= SEQUENCE { a NULL, COMPONENTS OF B.T }
-U ::= SEQUENCE { b NULL }
-END
-B DEFINITIONS AUTOMATIC TAGS ::= BEGIN
-T ::= SEQUENCE { c NULL }
-U ::= SEQUENCE { d NULL, COMPONENTS OF A.U }
-END";
-
-#[test]
-fn components_of_automatic_lists(rt: HostRuntime) -> Result<(), Fail> {
-    let ran_in = ran(rt.alloc(), AUTOMATIC, "A.T")?;
-    let wanted =
-        "m.asn:3:40: refused: COMPONENTS OF a list, where tags are automatic in one of the two at T; \
-write the components out\n";
-    assert_eq!(rt; ran_in.err.as_str(), wanted);
-    let ran_of = ran(rt.alloc(), AUTOMATIC, "B.U")?;
-    let wanted =
-        "m.asn:8:40: refused: COMPONENTS OF a list, where tags are automatic in one of the two at U; \
-write the components out\n";
-    assert_eq!(rt; ran_of.err.as_str(), wanted);
-    assert!(rt; ran_in.status == 1 && ran_of.status == 1);
-    Ok(())
-}
-
-#[test]
-fn names_of_several_modules(rt: HostRuntime) -> Result<(), Fail> {
-    let text = "A DEFINITIONS ::= BEGIN T ::= NULL END B DEFINITIONS ::= BEGIN T ::= BOOLEAN END";
-    let wanted = "asn1x-trim: refused: T stands in several modules; give one of A.T, B.T\n";
-    let refused = ran(rt.alloc(), text, "T")?;
-    assert_eq!(rt; refused.err.as_str(), wanted);
-    assert_eq!(rt; refused.status, 1);
-    let written = ran(rt.alloc(), text, "B.T")?;
-    assert_eq!(rt; written.status, 0);
     Ok(())
 }

@@ -1,6 +1,6 @@
 //! Each step of trimming, before and after.
 
-use super::{ran, rows_of, squeezed};
+use super::{is_written, rows_of};
 use std::alloc::Global;
 use std::test::Fail;
 use trimmer::LineFault;
@@ -98,11 +98,8 @@ fn is_as_wanted(alloc: Global, row: &str) -> Result<bool, LineFault> {
     let wanted = columns.next().unwrap_or("").trim();
     let told = columns.next().unwrap_or("").trim();
     let text = format!(in alloc; "M DEFINITIONS {tags} ::= BEGIN\n{assignments}\nEND")?;
-    let ran = ran(alloc, text.as_str(), words)?;
     let wanted = format!(in alloc; "M DEFINITIONS EXPLICIT TAGS ::= BEGIN {wanted} END")?;
-    let out = squeezed(alloc, ran.out.as_str())?;
-    let err = squeezed(alloc, ran.err.as_str())?;
-    Ok(out.as_str() == wanted.as_str() && err.as_str() == told && ran.status == 0)
+    is_written(alloc, text.as_str(), words, wanted.as_str(), told)
 }
 
 #[test]
@@ -127,16 +124,25 @@ Time-2 ::= NULL
 DATE ::= [3] NULL
 END";
 
-#[test]
-fn modules_that_import(rt: HostRuntime) -> Result<(), Fail> {
-    let ran = ran(rt.alloc(), TWO, "T")?;
-    let wanted =
-        "A DEFINITIONS EXPLICIT TAGS ::= BEGIN T ::= SEQUENCE { a U, b Time, c [9] IMPLICIT Time-2, d DATE-2 } \
+const OF_TWO: &str =
+    "A DEFINITIONS EXPLICIT TAGS ::= BEGIN T ::= SEQUENCE { a U, b Time, c [9] IMPLICIT Time-2, d DATE-2 } \
 U ::= [1] EXPLICIT Time-2 Time ::= NULL Time-2 ::= [2] EXPLICIT INTEGER \
 DATE-2 ::= [3] EXPLICIT NULL END";
-    let out = squeezed(rt.alloc(), ran.out.as_str())?;
-    assert_eq!(rt; out.as_str(), wanted);
-    assert_eq!(rt; ran.err.as_str(), "");
-    assert_eq!(rt; ran.status, 0);
+
+#[test]
+fn modules_that_import(rt: HostRuntime) -> Result<(), Fail> {
+    assert!(rt; is_written(rt.alloc(), TWO, "T", OF_TWO, "")?);
+    Ok(())
+}
+
+// Two modules that assign types to one name.
+const SEVERAL: &str =
+    "A DEFINITIONS ::= BEGIN T ::= NULL END B DEFINITIONS ::= BEGIN T ::= BOOLEAN END";
+
+const OF_SECOND: &str = "B DEFINITIONS EXPLICIT TAGS ::= BEGIN T ::= BOOLEAN END";
+
+#[test]
+fn a_name_of_several_modules(rt: HostRuntime) -> Result<(), Fail> {
+    assert!(rt; is_written(rt.alloc(), SEVERAL, "B.T", OF_SECOND, "")?);
     Ok(())
 }
