@@ -26,19 +26,24 @@ pub(crate) fn assignment_at(reader: &mut Reader) -> Result<Assignment, Stop> {
 fn type_assignment_at(reader: &mut Reader) -> Result<Assignment, Stop> {
     let name = reader.any_name()?;
     let has_parameters = skip_parameters(reader)?;
-    let body = if reader.passes_symbol(Symbol::Assignment) {
-        right_side_at(reader)?
-    } else if reader.is_spelled(b"MACRO") {
-        reader.take();
-        reader.symbol(Symbol::Assignment)?;
-        macro_at(reader)?
-    } else {
-        set_at(reader)?
-    };
+    let body = behind_upper_at(reader)?;
     Ok(Assignment {
         name,
         body: unless_parameterised(has_parameters, body),
     })
+}
+
+// What stands behind a name with a capital letter and its parameters.
+fn behind_upper_at(reader: &mut Reader) -> Result<Body, Stop> {
+    if reader.passes_symbol(Symbol::Assignment) {
+        return right_side_at(reader);
+    }
+    if reader.is_spelled(b"MACRO") {
+        reader.take();
+        reader.symbol(Symbol::Assignment)?;
+        return macro_at(reader);
+    }
+    set_at(reader)
 }
 
 // What is kept of an assignment: nothing of one with parameters.
@@ -135,20 +140,24 @@ fn value_assignment_at(reader: &mut Reader) -> Result<Assignment, Stop> {
     let name = reader.name(Kind::Lower)?;
     let has_parameters = skip_parameters(reader)?;
     let governor = whole_type_at(reader)?;
-    let body = if reader.passes_symbol(Symbol::Assignment) {
-        value_body_at(reader, governor)?
-    } else {
-        drop(governor);
-        object_at(reader)?
-    };
+    let body = behind_governor_at(reader, governor)?;
     Ok(Assignment {
         name,
         body: unless_parameterised(has_parameters, body),
     })
 }
 
-// The value that stands in front, of this type.
-fn value_body_at(reader: &mut Reader, governor: Type) -> Result<Body, Stop> {
+// What stands behind the name of a value or an object, and a type or the name of a macro.
+fn behind_governor_at(reader: &mut Reader, governor: Type) -> Result<Body, Stop> {
+    if reader.passes_symbol(Symbol::Assignment) {
+        return value_of_at(reader, governor);
+    }
+    drop(governor);
+    object_at(reader)
+}
+
+// The value of this type that stands in front.
+fn value_of_at(reader: &mut Reader, governor: Type) -> Result<Body, Stop> {
     match value_at(reader) {
         Ok(value) => Ok(Body::Value(governor, value)),
         Err(stop) => {

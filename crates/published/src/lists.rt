@@ -17,11 +17,12 @@ impl Components {
 
     /// Adds a component to this part of the list.
     pub(crate) fn put(&mut self, section: Section, component: Component) -> Result<(), AllocError> {
-        match section {
-            Section::Root => self.root.push(component)?,
-            Section::Additions => self.additions.push(component)?,
-            Section::Tail => self.tail.push(component)?,
-        }
+        let components = match section {
+            Section::Root => &mut self.root,
+            Section::Additions => &mut self.additions,
+            Section::Tail => &mut self.tail,
+        };
+        components.push(component)?;
         Ok(())
     }
 }

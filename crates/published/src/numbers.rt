@@ -38,14 +38,19 @@ pub(crate) fn named_numbers_at(reader: &mut Reader) -> Result<Vec<NamedNumber>, 
         return Ok(found);
     }
     for _turn in 0..=MAX_PARTS {
-        let name = reader.name(Kind::Lower)?;
-        let number = number_in_parentheses(reader)?;
-        found.push(NamedNumber { name, number })?;
+        found.push(named_number_at(reader)?)?;
         if ends_list(reader)? {
             return Ok(found);
         }
     }
     Err(reader.stop(Reason::TooManyParts))
+}
+
+// A name, and its number in parentheses.
+fn named_number_at(reader: &mut Reader) -> Result<NamedNumber, Stop> {
+    let name = reader.name(Kind::Lower)?;
+    let number = number_in_parentheses(reader)?;
+    Ok(NamedNumber { name, number })
 }
 
 /// Passes the `}` (true) or the `,` (false) of a list.

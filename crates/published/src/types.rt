@@ -42,17 +42,31 @@ fn type_at(reader: &mut Reader, levels: u32) -> Result<Type, Stop> {
 // What a type is, whose parts have at most so many levels, and the constraint before `OF`.
 #[cycle(types)]
 fn form_at(reader: &mut Reader, levels: u32) -> Result<(Form, Option<Place>), Stop> {
-    let form = match reader.kind() {
-        Kind::Reserved(Reserved::Sequence) => return group_at(reader, levels, Group::Sequence),
-        Kind::Reserved(Reserved::Set) => return group_at(reader, levels, Group::Set),
-        Kind::Reserved(Reserved::Choice) => choice_at(reader, levels)?,
-        Kind::Reserved(word) => word_type_at(reader, word)?,
-        Kind::Symbol(Symbol::OpenBracket) => tagged_at(reader, levels)?,
-        Kind::Upper => named_type_at(reader)?,
-        Kind::Lower => selection_at(reader, levels)?,
-        _ => return Err(reader.refuse()),
-    };
-    Ok((form, None))
+    match reader.kind() {
+        Kind::Reserved(Reserved::Sequence) => group_at(reader, levels, Group::Sequence),
+        Kind::Reserved(Reserved::Set) => group_at(reader, levels, Group::Set),
+        _ => Ok((single_at(reader, levels)?, None)),
+    }
+}
+
+// A type that is neither of SEQUENCE nor of SET.
+#[cycle(types)]
+fn single_at(reader: &mut Reader, levels: u32) -> Result<Form, Stop> {
+    match reader.kind() {
+        Kind::Reserved(Reserved::Choice) => choice_at(reader, levels),
+        Kind::Reserved(word) => word_type_at(reader, word),
+        Kind::Symbol(Symbol::OpenBracket) => tagged_at(reader, levels),
+        Kind::Upper => named_type_at(reader),
+        Kind::Lower => selection_at(reader, levels),
+        _ => Err(reader.refuse()),
+    }
+}
+
+// A type behind a tag, `OF` or `<`.
+#[cycle(types)]
+fn inner_at(reader: &mut Reader, levels: u32) -> Result<Box<Type>, Stop> {
+    let inner = type_at(reader, levels)?;
+    Ok(Box::new(reader.alloc, inner)?)
 }
 
 // SEQUENCE or SET, whose word stands in front.
@@ -68,7 +82,7 @@ fn group_at(reader: &mut Reader, levels: u32, group: Group) -> Result<(Form, Opt
         Kind::Lower => Some(reader.name(Kind::Lower)?),
         _ => None,
     };
-    let inner = Box::new(reader.alloc, type_at(reader, levels)?)?;
+    let inner = inner_at(reader, levels)?;
     Ok((Form::Of(group, name, inner), before))
 }
 
@@ -189,7 +203,7 @@ fn alternative_at(reader: &mut Reader, levels: u32, before: u32) -> Result<Alter
 #[cycle(types)]
 fn tagged_at(reader: &mut Reader, levels: u32) -> Result<Form, Stop> {
     let tag = tag_at(reader)?;
-    let inner = Box::new(reader.alloc, type_at(reader, levels)?)?;
+    let inner = inner_at(reader, levels)?;
     Ok(Form::Tagged(tag, inner))
 }
 
@@ -198,6 +212,6 @@ fn tagged_at(reader: &mut Reader, levels: u32) -> Result<Form, Stop> {
 fn selection_at(reader: &mut Reader, levels: u32) -> Result<Form, Stop> {
     let name = reader.name(Kind::Lower)?;
     reader.symbol(Symbol::Less)?;
-    let inner = Box::new(reader.alloc, type_at(reader, levels)?)?;
+    let inner = inner_at(reader, levels)?;
     Ok(Form::Selection(name, inner))
 }

@@ -27,15 +27,18 @@ fn form_at(reader: &mut Reader) -> Result<ValueForm, Stop> {
         Kind::Symbol(Symbol::OpenBrace) => braces_at(reader),
         Kind::Binary => Ok(ValueForm::Binary(digits_at(reader)?)),
         Kind::Hex => Ok(ValueForm::Hex(digits_at(reader)?)),
-        Kind::Chars => {
-            let text = String::from_str(reader.alloc, reader.text()?)?;
-            reader.take();
-            Ok(ValueForm::Chars(text))
-        }
+        Kind::Chars => chars_at(reader),
         Kind::Lower => named_value_at(reader),
         Kind::Upper => qualified_value_at(reader),
         _ => Err(reader.refuse()),
     }
+}
+
+// A character string.
+fn chars_at(reader: &mut Reader) -> Result<ValueForm, Stop> {
+    let text = String::from_str(reader.alloc, reader.text()?)?;
+    reader.take();
+    Ok(ValueForm::Chars(text))
 }
 
 // A value that begins with a reserved word.
