@@ -158,13 +158,7 @@ fn behind_governor_at(reader: &mut Reader, governor: Type) -> Result<Body, Stop>
 
 // The value of this type that stands in front.
 fn value_of_at(reader: &mut Reader, governor: Type) -> Result<Body, Stop> {
-    match value_at(reader) {
-        Ok(value) => Ok(Body::Value(governor, value)),
-        Err(stop) => {
-            drop(governor);
-            Err(stop)
-        }
-    }
+    value_at(reader).map(|value| Body::Value(governor, value))
 }
 
 // Passes an object in the notation of a macro, up to the end of its value.

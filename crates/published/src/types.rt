@@ -9,7 +9,6 @@ use lexis::Word as Reserved;
 use published_tokens::{
     Extension, Kind, MAX_LEVELS, MAX_PARTS, Place, Reader, Reason, Section, Stop, Symbol,
 };
-use std::mem::drop;
 use syntax::Group;
 
 /// The type that stands in front.
@@ -26,17 +25,11 @@ fn type_at(reader: &mut Reader, levels: u32) -> Result<Type, Stop> {
     }
     let place = reader.place();
     let (form, before) = form_at(reader, levels - 1)?;
-    match skip_constraints(reader) {
-        Ok(behind) => Ok(Type {
-            place,
-            form,
-            constraint: before.or(behind),
-        }),
-        Err(stop) => {
-            drop(form);
-            Err(stop)
-        }
-    }
+    skip_constraints(reader).map(|behind| Type {
+        place,
+        form,
+        constraint: before.or(behind),
+    })
 }
 
 // What a type is, whose parts have at most so many levels, and the constraint before `OF`.
@@ -130,18 +123,12 @@ fn component_at(
         Some(part_name_at(reader, before)?)
     };
     let body = type_at(reader, levels)?;
-    match presence_at(reader) {
-        Ok(presence) => Ok(Component {
-            name,
-            body,
-            presence,
-            group,
-        }),
-        Err(stop) => {
-            drop(body);
-            Err(stop)
-        }
-    }
+    presence_at(reader).map(|presence| Component {
+        name,
+        body,
+        presence,
+        group,
+    })
 }
 
 // What stands behind the type of a component.

@@ -1,7 +1,6 @@
 //! Copies of types of the profile.
 
 use std::alloc::{AllocError, Global};
-use std::mem::drop;
 use syntax::{Alternative, Component, DefaultValue, Expr, Item, NamedBit, Presence, Simple};
 
 /// Makes copies of types, with so many parts at most.
@@ -23,17 +22,12 @@ impl Copier {
     pub fn component(&mut self, component: &Component) -> Result<Component, AllocError> {
         let name = component.name.clone()?;
         let body = self.expr(&component.body)?;
-        match self.presence(&component.presence) {
-            Ok(presence) => Ok(Component {
+        self.presence(&component.presence)
+            .map(|presence| Component {
                 name,
                 body,
                 presence,
-            }),
-            Err(error) => {
-                drop(body);
-                Err(error)
-            }
-        }
+            })
     }
 
     // A copy of the type.

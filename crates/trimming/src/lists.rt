@@ -144,17 +144,12 @@ impl<'a> Trimmer<'a> {
     ) -> Result<Component, AllocError> {
         let name = identifier(alloc, &word.name)?;
         let draft = self.part(alloc, slot.number, &written.body)?;
-        match self.presence(alloc, slot, written, draft.is_cut) {
-            Ok(presence) => Ok(Component {
+        self.presence(alloc, slot, written, draft.is_cut)
+            .map(|presence| Component {
                 name,
                 body: draft.expr,
                 presence,
-            }),
-            Err(error) => {
-                drop(draft);
-                Err(error)
-            }
-        }
+            })
     }
 
     // Leaves a component out, where it may be.
