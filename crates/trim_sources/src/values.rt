@@ -2,7 +2,7 @@
 
 use crate::cause::Cause;
 use crate::sources::{MAX_STEPS, Sources, Spot};
-use published::{Form, NamedNumber, Number, Reference, SignedNumber, Type, Value, ValueForm};
+use published::{Form, Number, Reference, SignedNumber, Type, Value, ValueForm};
 
 /// A type, and the module that it stands in.
 #[derive(Clone, Copy)]
@@ -118,43 +118,63 @@ impl<'a> Sources<'a> {
         number: &'a Number,
         budget: &mut Budget,
     ) -> Option<SignedNumber> {
-        let reference = match number {
-            Number::Literal(number) => return Some(*number),
-            Number::Name(reference) => reference,
-        };
-        let spot = self.find(module, reference).ok()?;
-        let found = self.value_there(spot)?;
-        let found = self.value_of(found.base, spot.module, found.value, budget)?;
-        self.integer_of(found, budget)
+        match number {
+            Number::Literal(number) => Some(*number),
+            Number::Name(reference) => {
+                let found = self.value_named(module, reference, budget)?;
+                self.integer_of(found, budget)
+            }
+        }
     }
 
-    /// The number of a value of an INTEGER.
+    // The value that a name stands for which is used in this module.
+    fn value_named(
+        &self,
+        module: usize,
+        reference: &'a Reference,
+        budget: &mut Budget,
+    ) -> Option<ValueOf<'a>> {
+        let spot = self.find(module, reference).ok()?;
+        let found = self.value_there(spot)?;
+        self.value_of(found.base, spot.module, found.value, budget)
+    }
+
+    /// The number of a value of an INTEGER. That of a named number may be a name in turn.
     pub fn integer_of(&self, found: ValueOf<'a>, budget: &mut Budget) -> Option<SignedNumber> {
-        match &found.value.form {
-            ValueForm::Number(number) => Some(*number),
-            ValueForm::Name(reference) => {
-                let Form::NamedNumbers(numbers) = &found.base.ty.form else {
-                    return None;
-                };
-                if !budget.spend(numbers.len()) {
-                    return None;
+        let mut found = found;
+        for _step in 0..MAX_STEPS {
+            let reference = match &found.value.form {
+                ValueForm::Number(number) => return Some(*number),
+                ValueForm::Name(reference) => reference,
+                _ => return None,
+            };
+            match named_number(found.base.ty, reference, budget)? {
+                Number::Literal(number) => return Some(*number),
+                Number::Name(other) => {
+                    found = self.value_named(found.base.module, other, budget)?
                 }
-                let named = numbers
-                    .iter()
-                    .find(|named| named.name.name == reference.name)?;
-                literal_of(named)
             }
-            _ => None,
         }
+        None
     }
 }
 
-// The number of a named number, where it is no name of another.
-fn literal_of(named: &NamedNumber) -> Option<SignedNumber> {
-    match &named.number {
-        Number::Literal(number) => Some(*number),
-        Number::Name(_) => None,
+// The number that an INTEGER gives to this name.
+fn named_number<'a>(
+    ty: &'a Type,
+    reference: &Reference,
+    budget: &mut Budget,
+) -> Option<&'a Number> {
+    let Form::NamedNumbers(numbers) = &ty.form else {
+        return None;
+    };
+    if !budget.spend(numbers.len()) {
+        return None;
     }
+    let named = numbers
+        .iter()
+        .find(|named| named.name.name == reference.name)?;
+    Some(&named.number)
 }
 
 // How many names the type gives to numbers or items.
