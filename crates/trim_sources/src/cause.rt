@@ -59,6 +59,9 @@ pub enum Cause<'a> {
     /// A name that is imported from more than one module.
     #[error("{0} is imported from more than one module")]
     ImportedTwice(&'a str),
+    /// A name that is imported through more modules than are followed.
+    #[error("{0} is imported through 64 modules or more")]
+    ImportedFar(&'a str),
     /// A module that stands in the files more than once.
     #[error("the module {0} stands in the files more than once")]
     RepeatedModule(&'a str),
@@ -119,6 +122,7 @@ impl<'a> Cause<'a> {
             Cause::NoSubstitute(name) => Cause::NoSubstitute(front_of(name)),
             Cause::Repeated(name) => Cause::Repeated(front_of(name)),
             Cause::ImportedTwice(name) => Cause::ImportedTwice(front_of(name)),
+            Cause::ImportedFar(name) => Cause::ImportedFar(front_of(name)),
             Cause::RepeatedModule(name) => Cause::RepeatedModule(front_of(name)),
             Cause::NoType(name) => Cause::NoType(front_of(name)),
             Cause::ValueSet(name) => Cause::ValueSet(front_of(name)),

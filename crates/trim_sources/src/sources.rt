@@ -81,7 +81,7 @@ impl<'a> Sources<'a> {
         let mut module = module;
         for _step in 0..MAX_STEPS {
             let Some(scope) = self.scopes.get(module) else {
-                break;
+                return Err(Cause::NotAssigned(name));
             };
             match scope.assigned.get(&name) {
                 Some(Found::One(assignment)) => {
@@ -94,10 +94,10 @@ impl<'a> Sources<'a> {
             match scope.imported.get(&name) {
                 Some(Some(from)) => module = self.module_of(from.name.as_str(), name)?,
                 Some(None) => return Err(Cause::ImportedTwice(name)),
-                None => break,
+                None => return Err(Cause::NotAssigned(name)),
             }
         }
-        Err(Cause::NotAssigned(name))
+        Err(Cause::ImportedFar(name))
     }
 
     /// Whether the module assigns or imports the name.
