@@ -65,6 +65,8 @@ pub struct Made<'a> {
     pub expr: Option<Expr>,
     /// What is wrong with it.
     pub faults: Vec<Fault<'a>>,
+    /// Whether all that is wrong with it allows that what refers to it is left out.
+    pub can_be_left_out: bool,
     /// What is left out of it.
     pub messages: Vec<Message>,
     /// The types that it refers to.
@@ -85,6 +87,7 @@ impl Made<'_> {
         Made {
             expr: None,
             faults: Vec::new(alloc),
+            can_be_left_out: true,
             messages: Vec::new(alloc),
             uses: Vec::new(alloc),
             included: Vec::new(alloc),

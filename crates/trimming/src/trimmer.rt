@@ -172,6 +172,7 @@ impl<'a> Trimmer<'a> {
         cause: Cause<'a>,
     ) -> Result<(), AllocError> {
         let can_be_left_out = self.can_be_left_out(cause);
+        self.work.made.can_be_left_out &= can_be_left_out;
         let path = if self.tell() {
             self.path(alloc)?
         } else {
@@ -191,7 +192,7 @@ impl<'a> Trimmer<'a> {
         match cause {
             Cause::Recursion(_) => self.request.narrow || self.request.unroll > 0,
             Cause::Within(_, node) => match self.nodes.get(node) {
-                Some(node) => node.made.faults.iter().all(|fault| fault.can_be_left_out),
+                Some(node) => node.made.can_be_left_out,
                 None => false,
             },
             Cause::NoSubstitute(_) => false,
