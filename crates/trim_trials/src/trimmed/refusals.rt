@@ -1,7 +1,8 @@
 //! What is refused, each with its place.
 
 use super::{ran, rows_of, squeezed};
-use std::alloc::Global;
+use std::alloc::{AllocError, Global};
+use std::fmt::Write;
 use std::test::Fail;
 use trimmer::LineFault;
 
@@ -38,6 +39,7 @@ T; T ::= SEQUENCE { a VisibleString } ISO646String ::= NULL; m.asn:2:20: refused
 T; T ::= SEQUENCE { a TIME } TIME ::= NULL TIME ::= NULL; m.asn:2:20: refused: TIME is assigned more than once at T.a
 T; IMPORTS TIME FROM N;T ::= SEQUENCE { a TIME }; m.asn:2:40: refused: TIME is of the module N, which is in none of the files at T.a; give its file
 T; T ::= SEQUENCE { a S DEFAULT {} } S ::= SEQUENCE OF NULL; m.asn:2:30: refused: a DEFAULT of a kind that asn1x does not take at T.a
+T; T ::= SEQUENCE { a V DEFAULT a } V ::= INTEGER { a(v) } v V ::= a; m.asn:2:30: refused: a DEFAULT of a kind that asn1x does not take at T.a
 T --narrow; T ::= SEQUENCE { a REAL, b P {NULL}, c x < C } C ::= CHOICE { x NULL }; m.asn:2:20: refused: REAL at T.a m.asn:2:28: refused: a type with parameters at T.b m.asn:2:40: refused: a selection type at T.c
 T; T ::= SEQUENCE { a EXTERNAL, b TeletexString, c [0] EXPLICIT T61String }; m.asn:2:20: refused: EXTERNAL at T.a; --narrow leaves it out where values may do without it m.asn:2:32: refused: TeletexString at T.b; --narrow leaves it out where values may do without it m.asn:2:62: refused: TeletexString at T.c; --narrow leaves it out where values may do without it
 T; T ::= SEQUENCE { a INSTANCE OF X, b BIT STRING { } }; m.asn:2:20: refused: INSTANCE OF at T.a m.asn:2:37: refused: no part or more than 256 parts at T.b
@@ -96,5 +98,33 @@ fn refusals(rt: HostRuntime) -> Result<(), Fail> {
     for row in rows_of(rt.alloc(), REFUSALS)? {
         assert!(rt; is_as_wanted(rt.alloc(), row)?, "at {row}");
     }
+    Ok(())
+}
+
+// Modules, of which each imports a type from the next one but the last, which assigns it.
+fn importing(alloc: Global, count: usize) -> Result<String, AllocError> {
+    let mut text = String::new(alloc);
+    for number in 1..count {
+        let next = number.saturating_add(1);
+        write!(
+            &mut text,
+            "M{number} DEFINITIONS ::= BEGIN IMPORTS T FROM M{next}; END "
+        )?;
+    }
+    write!(&mut text, "M{count} DEFINITIONS ::= BEGIN T ::= NULL END")?;
+    Ok(text)
+}
+
+// What is told of the type that the first of so many modules imports.
+fn told_of(alloc: Global, count: usize) -> Result<String, LineFault> {
+    let text = importing(alloc, count)?;
+    Ok(ran(alloc, text.as_str(), "M1.T")?.err)
+}
+
+#[test]
+fn imports_through_modules(rt: HostRuntime) -> Result<(), Fail> {
+    let wanted = "asn1x-trim: refused: T is imported through 64 modules or more\n";
+    assert_eq!(rt; told_of(rt.alloc(), 64)?.as_str(), "");
+    assert_eq!(rt; told_of(rt.alloc(), 65)?.as_str(), wanted);
     Ok(())
 }

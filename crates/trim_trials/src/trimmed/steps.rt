@@ -38,6 +38,7 @@ AUTOMATIC TAGS; T --narrow; T ::= SEQUENCE { a REAL OPTIONAL, b NULL }; T ::= SE
 ; T; T ::= ENUMERATED { a(v), b, c(-1), d } v INTEGER ::= 1; T ::= ENUMERATED { a(1), b(0), c(-1), d(2) };
 # values behind DEFAULT as literals (X.680 16; X.690 11.5 leaves out the same ones)
 ; T; T ::= SEQUENCE { a V DEFAULT two, b INTEGER DEFAULT -7, c [5] W DEFAULT w } V ::= [1] INTEGER { two(2) } W ::= V w V ::= two; T ::= SEQUENCE { a V DEFAULT 2, b INTEGER DEFAULT -7, c [5] EXPLICIT W DEFAULT 2 } V ::= [1] EXPLICIT INTEGER W ::= V;
+; T; T ::= SEQUENCE { a V DEFAULT a, b W DEFAULT c } V ::= INTEGER { a(v) } v INTEGER ::= 7 W ::= [0] INTEGER { c(w) } w V ::= a; T ::= SEQUENCE { a V DEFAULT 7, b W DEFAULT 7 } V ::= INTEGER W ::= [0] EXPLICIT INTEGER;
 ; T; T ::= SEQUENCE { a E DEFAULT y, b BOOLEAN DEFAULT t } E ::= ENUMERATED { x, y } y E ::= x t BOOLEAN ::= TRUE; T ::= SEQUENCE { a E DEFAULT y, b BOOLEAN DEFAULT TRUE } E ::= ENUMERATED { x(0), y(1) };
 ; T; T ::= SEQUENCE { a B DEFAULT { y, x }, b [0] B DEFAULT {}, c [1] B DEFAULT '0101'B } B ::= BIT STRING { x(1), y(4) }; T ::= SEQUENCE { a B DEFAULT '01001'B, b [0] EXPLICIT B DEFAULT ''B, c [1] EXPLICIT B DEFAULT '0101'B } B ::= BIT STRING { x(1), y(4) };
 ; T; T ::= SEQUENCE { a OCTET STRING DEFAULT '0F'H, b IA5String DEFAULT s } s IA5String ::= \"a\"\"b\"; T ::= SEQUENCE { a OCTET STRING DEFAULT '0F'H, b IA5String DEFAULT \"a\"\"b\" };
