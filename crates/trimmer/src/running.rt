@@ -125,10 +125,8 @@ fn read_all<F: Files, E: Write>(
 impl Library {
     // Adds what a file has.
     fn add(&mut self, alloc: Global, file: u32, octets: &[u8]) -> Result<(), AllocError> {
-        let published = read(alloc, file, octets)?;
-        for module in published.modules {
-            self.modules.push(module)?;
-        }
+        let mut published = read(alloc, file, octets)?;
+        self.modules.append(&mut published.modules)?;
         self.faults.extend_from_slice(published.faults.as_slice())
     }
 }

@@ -131,11 +131,13 @@ impl<'a> Trimmer<'a> {
 
     // The CHOICE of what is made. Where none is, what is wrong with all is wrong with it.
     fn chosen(&mut self, alloc: Global, chosen: Chosen<'a>) -> Result<Draft, AllocError> {
-        let Chosen { made, lost, is_cut } = chosen;
+        let Chosen {
+            made,
+            mut lost,
+            is_cut,
+        } = chosen;
         if made.is_empty() {
-            for fault in lost {
-                self.work.made.faults.push(fault)?;
-            }
+            self.work.made.faults.append(&mut lost)?;
             return Ok(Draft::nothing());
         }
         Ok(Draft {

@@ -4,7 +4,6 @@ use crate::node::Made;
 use crate::trimmer::Trimmer;
 use crate::trimming::Refusal;
 use std::alloc::{AllocError, Global};
-use std::mem;
 use trim_sources::{Cause, Kind, Message};
 
 /// Types in the order in which they are found.
@@ -31,6 +30,13 @@ impl Found {
                 *mark = true;
                 self.places.push(place)?;
             }
+        }
+        Ok(())
+    }
+
+    fn add_all(&mut self, places: &[usize]) -> Result<(), AllocError> {
+        for place in places {
+            self.add(*place)?;
         }
         Ok(())
     }
@@ -115,18 +121,13 @@ impl<'a> Trimmer<'a> {
         link: Link,
     ) -> Result<Vec<usize>, AllocError> {
         let mut found = Found::new(alloc, self.nodes.len())?;
-        for place in first {
-            found.add(*place)?;
-        }
+        found.add_all(first)?;
         for turn in 0..self.nodes.len() {
             let Some(place) = found.places.get(turn) else {
                 break;
             };
-            let place = *place;
-            if let Some(node) = self.nodes.get(place) {
-                for other in link.of(&node.made) {
-                    found.add(*other)?;
-                }
+            if let Some(node) = self.nodes.get(*place) {
+                found.add_all(link.of(&node.made))?;
             }
         }
         Ok(found.places)
@@ -173,16 +174,24 @@ impl<'a> Trimmer<'a> {
     /// What is told of these types, in order of place.
     pub fn left_out(&mut self, alloc: Global, kept: &[usize]) -> Result<Vec<Message>, AllocError> {
         let mut messages = Vec::new(alloc);
-        for place in self.found_from(alloc, kept, Link::Inclusion)? {
-            if let Some(node) = self.nodes.get_mut(place) {
-                let told = mem::replace(&mut node.made.messages, Vec::new(alloc));
-                for message in told {
-                    messages.push(message)?;
-                }
-            }
+        let found = self.found_from(alloc, kept, Link::Inclusion)?;
+        for place in &found {
+            self.take_messages(*place, &mut messages)?;
         }
         messages.sort_by_key(|message: &Message| place_of(message))?;
         Ok(messages)
+    }
+
+    // Moves what is told of a type behind these messages.
+    fn take_messages(
+        &mut self,
+        place: usize,
+        messages: &mut Vec<Message>,
+    ) -> Result<(), AllocError> {
+        match self.nodes.get_mut(place) {
+            Some(node) => messages.append(&mut node.made.messages),
+            None => Ok(()),
+        }
     }
 }
 
