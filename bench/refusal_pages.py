@@ -13,8 +13,8 @@ import textwrap
 
 TOP = pathlib.Path(__file__).resolve().parent.parent
 TABLE = TOP / "crates/view/src/refusal_pages.rt"
-# The most columns of a text behind what indents it, so that a line has at most 120.
-WIDTH = 106
+# The most columns of a text before the sign that its line goes on.
+WIDTH = 114
 
 
 def sections(text):
@@ -32,27 +32,27 @@ def sections(text):
         yield int(found[1]), found[2], *plain
 
 
-def member(name, text):
+def line(text):
     """The line of a text, or the lines of one that is longer than a line may be."""
     text = text.replace("\\", "\\\\").replace('"', '\\"')
-    lines = textwrap.wrap(f'{name}: "{text}",', width=WIDTH, break_long_words=False, break_on_hyphens=False)
-    return " " * 8 + (" \\\n" + " " * 12).join(lines) + "\n"
+    lines = textwrap.wrap(text, width=WIDTH, break_long_words=False, break_on_hyphens=False)
+    return " \\\n    ".join(lines)
+
+
+def page(number, name, says, example):
+    """The lines of a page."""
+    lines = [f"{number} {name}", f"  {says}"]
+    if example:
+        lines.append(f"  for example: {example}")
+    return "\n".join(map(line, lines))
 
 
 def main():
     rows = list(sections((TOP / "docs/REFUSALS.md").read_text(encoding="utf-8")))
-    lines = [f"pub const PAGES: [Page; {len(rows)}] = [\n"]
-    for number, name, says, example in rows:
-        lines.append(
-            f"    Page {{\n        number: {number},\n"
-            + member("name", name)
-            + member("says", says)
-            + member("example", example)
-            + "    },\n"
-        )
-    lines.append("];\n")
+    pages = "\n\n".join(page(*row) for row in rows)
+    table = f'const PAGES: &str = "\\\n{pages}";\n'
     was = TABLE.read_text(encoding="utf-8")
-    now = re.sub(r"pub const PAGES: .*?^\];\n", lambda _: "".join(lines), was, flags=re.M | re.S)
+    now = re.sub(r'^const PAGES: .*?";\n', lambda _: table, was, flags=re.M | re.S)
     if "--check" not in sys.argv[1:]:
         TABLE.write_text(now, encoding="utf-8")
     elif now != was:
