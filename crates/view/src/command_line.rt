@@ -3,7 +3,7 @@
 use engine::Rule;
 
 /// How values are read.
-#[derive(Debug, Drop)]
+#[derive(Drop)]
 pub struct Reading {
     /// The module's file, or `@builtin`.
     pub module: String,
@@ -18,7 +18,7 @@ pub struct Reading {
 }
 
 /// Which lines `octets` prints.
-#[derive(Clone, Copy, Debug, PartialEq, Eq)]
+#[derive(Clone, Copy)]
 pub struct Wanted {
     /// The number of the one value that is shown, counted from 1.
     pub value: Option<u64>,
@@ -29,7 +29,7 @@ pub struct Wanted {
 }
 
 /// How values are printed.
-#[derive(Clone, Copy, Debug, PartialEq, Eq)]
+#[derive(Clone, Copy)]
 pub enum Form {
     /// A line for each identifier.
     Octets(Wanted),
@@ -41,7 +41,7 @@ pub enum Form {
 }
 
 /// What is asked.
-#[derive(Debug, Drop)]
+#[derive(Drop)]
 pub enum Task {
     /// The values of files.
     Show(Reading, Form),
@@ -68,7 +68,7 @@ pub enum Task {
 }
 
 /// A command line.
-#[derive(Debug, Drop)]
+#[derive(Drop)]
 pub struct Line {
     /// What is asked.
     pub task: Task,

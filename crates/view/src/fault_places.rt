@@ -21,7 +21,7 @@ pub struct FaultPlaces<'a, 'b> {
 }
 
 // Tokens, from the first to before the end.
-#[derive(Clone, Copy, Debug)]
+#[derive(Clone, Copy)]
 struct Span {
     first: usize,
     end: usize,

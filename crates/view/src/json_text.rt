@@ -11,7 +11,7 @@ use strings::TextKind;
 use types::{Field, Ty, Value};
 
 /// How JSON is laid out.
-#[derive(Clone, Copy, Debug)]
+#[derive(Clone, Copy)]
 pub struct Layout {
     /// Whether each member and each item stands on a line of its own.
     pub indented: bool,

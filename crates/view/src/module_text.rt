@@ -18,7 +18,7 @@ pub struct ModuleText<'a> {
 }
 
 /// A part of a text.
-#[derive(Clone, Copy, Debug)]
+#[derive(Clone, Copy)]
 pub struct Part {
     /// Whether it is the header, which has its own BEGIN.
     pub is_header: bool,

@@ -8,7 +8,7 @@ use types::{Alternative, Field, Item, NamedBit, Presence, Ty};
 use walking::{PrintedTag, name_of};
 
 /// How many levels and nodes a type has.
-#[derive(Clone, Copy, Debug, PartialEq, Eq)]
+#[derive(Clone, Copy)]
 pub struct Size {
     /// The types in it, itself counted.
     pub nodes: usize,

@@ -14,7 +14,7 @@ pub trait Visit {
 }
 
 /// Why values end before the input does.
-#[derive(Clone, Copy, Debug, PartialEq, Eq)]
+#[derive(Clone, Copy)]
 pub enum Ended {
     /// Octets are refused: those of `begun`.
     Refused(Refusal),

@@ -4,7 +4,7 @@ use crate::walk::behind;
 use crate::{Notes, Part};
 
 /// What is told of an encoding at its identifier.
-#[derive(Clone, Copy, Debug)]
+#[derive(Clone, Copy)]
 pub struct Line<'a> {
     /// How many octets of the value stand before it.
     pub at: usize,
@@ -25,7 +25,7 @@ pub struct Line<'a> {
 }
 
 /// What contents octets are.
-#[derive(Clone, Copy, Debug)]
+#[derive(Clone, Copy)]
 pub enum What {
     /// Encodings of parts, or segments.
     Parts,

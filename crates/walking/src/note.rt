@@ -1,7 +1,7 @@
 //! What is not canonical in an encoding that BER takes (X.690 clauses 9 to 11).
 
 /// What is not canonical at an identifier.
-#[derive(Clone, Copy, Debug, PartialEq, Eq)]
+#[derive(Clone, Copy)]
 pub enum Note {
     /// Length octets that could be fewer (9.1, 10.1).
     LongLength,
@@ -46,7 +46,7 @@ pub const NOTES: [Note; 12] = [
 ];
 
 /// What is not canonical at an identifier: any of the notes.
-#[derive(Clone, Copy, Debug, PartialEq, Eq)]
+#[derive(Clone, Copy)]
 pub struct Notes {
     // a bit for each note, the least for the first of NOTES
     bits: u16,

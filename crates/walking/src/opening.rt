@@ -8,7 +8,7 @@ use octets::{Length, read_length};
 use types::Refusal;
 
 /// Identifier octets and length octets that have been read.
-#[derive(Clone, Copy, Debug)]
+#[derive(Clone, Copy)]
 pub struct Opening {
     /// Whether the encoding is constructed.
     pub constructed: bool,

@@ -7,7 +7,7 @@ use std::string::String;
 use types::Ty;
 
 /// How a part is named in what holds it.
-#[derive(Clone, Copy, Debug)]
+#[derive(Clone, Copy)]
 pub enum Step<'a> {
     /// The value itself, what an explicit tag stands around, or a segment.
     Whole,
@@ -18,7 +18,7 @@ pub enum Step<'a> {
 }
 
 /// A part that has come.
-#[derive(Clone, Copy, Debug)]
+#[derive(Clone, Copy)]
 pub struct Part<'a> {
     /// How it is named in what holds it.
     pub step: Step<'a>,

@@ -5,7 +5,7 @@ use encoding_parts::refusal_inside;
 use types::Refusal;
 
 /// Why a walk stops.
-#[derive(Clone, Copy, Debug)]
+#[derive(Clone, Copy)]
 pub struct Stop<'a> {
     /// The refusal that a reader of BER names there.
     pub refusal: Refusal,
@@ -18,7 +18,7 @@ pub struct Stop<'a> {
 }
 
 /// A walk goes no further: `Walk::stop` says why. A mark without contents, so that a line costs no copy of a `Stop`.
-#[derive(Clone, Copy, Debug)]
+#[derive(Clone, Copy)]
 pub struct Stopped;
 
 impl<'a> Stop<'a> {
