@@ -9,7 +9,7 @@ use types::{Refusal, WellTyped};
 use walking::Walk;
 
 /// Where and why octets are refused.
-#[derive(Debug, Drop)]
+#[derive(Drop)]
 pub struct Found {
     /// How many octets of the value stand before the fault.
     pub at: usize,
@@ -48,16 +48,31 @@ pub fn find(
     refusal: Refusal,
     style: &Style<'_>,
 ) -> Result<Option<Found>, NoMemory> {
-    let mut walk = Walk::new(alloc, style.rule, ty);
+    find_by(
+        alloc,
+        &mut Walk::new(alloc, style.rule, ty),
+        octets,
+        refusal,
+        style,
+    )
+}
+
+fn find_by(
+    alloc: Global,
+    walk: &mut Walk<'_>,
+    octets: &[u8],
+    refusal: Refusal,
+    style: &Style<'_>,
+) -> Result<Option<Found>, NoMemory> {
     for _ in 0..=octets.len() {
         match walk.next_line(octets) {
             Ok(true) => {
                 if refusal == Refusal::NotCanonical && !walk.line().notes.is_empty() {
-                    return of_note(alloc, &walk, style);
+                    return of_note(alloc, walk, style);
                 }
             }
             Ok(false) => return Ok(None),
-            Err(_) => return of_stop(alloc, &walk),
+            Err(_) => return of_stop(alloc, walk),
         }
     }
     Ok(None)

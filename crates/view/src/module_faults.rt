@@ -5,7 +5,7 @@
 use crate::fault_places::FaultPlaces;
 use crate::module_text::{ModuleText, Part};
 use lexis::{Fault, MAX_TEXT, tokens};
-use notation::{parse, resolve};
+use notation::{Module, parse, resolve};
 use octets::NoMemory;
 use simdutf8::basic::from_utf8;
 use std::alloc::Global;
@@ -76,10 +76,10 @@ fn put_parts(
 ) -> Result<(), NoMemory> {
     for part in module.parts.iter() {
         let text = module.text_of(alloc, part)?;
-        match parse(alloc, text.as_str()) {
-            Ok(_) => {}
-            Err(Fault { number: 33, .. }) => return Err(NoMemory),
-            Err(fault) => module.put_fault(alloc, part, fault, lines)?,
+        match parse(alloc, text.as_str()).err() {
+            None => {}
+            Some(Fault { number: 33, .. }) => return Err(NoMemory),
+            Some(fault) => module.put_fault(alloc, part, fault, lines)?,
         }
     }
     Ok(())
@@ -92,10 +92,18 @@ fn put_unresolved(
     whole: &ModuleText<'_>,
     lines: &mut FaultLine<'_, '_>,
 ) -> Result<(), NoMemory> {
-    let module = match parse(alloc, text) {
-        Ok(module) => module,
-        Err(fault) => return lines.put_number(alloc, fault, "", ""),
-    };
+    match parse(alloc, text) {
+        Ok(module) => put_unresolved_names(alloc, &module, whole, lines),
+        Err(fault) => lines.put_number(alloc, fault, "", ""),
+    }
+}
+
+fn put_unresolved_names(
+    alloc: Global,
+    module: &Module,
+    whole: &ModuleText<'_>,
+    lines: &mut FaultLine<'_, '_>,
+) -> Result<(), NoMemory> {
     let mut places = FaultPlaces {
         alloc,
         module: whole,
@@ -110,10 +118,10 @@ fn put_unresolved(
         if place > MOST_RESOLVED {
             return lines.put_note(part.line, part.column, name, UNRESOLVED);
         }
-        match resolve(alloc, &module, name) {
-            Ok(_) => {}
-            Err(Fault { number: 33, .. }) => return Err(NoMemory),
-            Err(fault) => put_unresolved_name(&mut places, part, fault.number, lines)?,
+        match resolve(alloc, module, name).err() {
+            None => {}
+            Some(Fault { number: 33, .. }) => return Err(NoMemory),
+            Some(fault) => put_unresolved_name(&mut places, part, fault.number, lines)?,
         }
     }
     Ok(())

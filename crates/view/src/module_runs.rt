@@ -13,6 +13,7 @@ use octets::NoMemory;
 use std::alloc::Global;
 use std::io::Write;
 use std::string::String;
+use types::Ty;
 use view_faults::{NoType, print_no_memory, print_no_type};
 
 /// Prints the names of a module, or the type that one of them means, and returns the exit status.
@@ -30,13 +31,25 @@ pub fn show_types<D: FileSystem, W: Write, E: Write>(
         Ok(octets) => octets,
         Err(fault) => return print_no_type(path, "", &fault, err),
     };
-    let module = match module_of(alloc, octets.as_slice()) {
-        Ok(module) => module,
-        Err(fault) => return print_no_type(path, "", &NoType::Module(fault), err),
-    };
+    match module_of(alloc, octets.as_slice()) {
+        Ok(module) => show_types_of(alloc, &module, path, name, out, err),
+        Err(fault) => print_no_type(path, "", &NoType::Module(fault), err),
+    }
+}
+
+fn show_types_of<W: Write, E: Write>(
+    alloc: Global,
+    module: &Module,
+    path: &str,
+    name: Option<&str>,
+    out: &mut W,
+    err: &mut E,
+) -> u8
+    ensures { IsStatus result }
+{
     let mut text = String::new(alloc);
     let status = match name {
-        Some(name) => match put_resolved(alloc, &module, path, name, &mut text, err) {
+        Some(name) => match put_resolved(alloc, module, path, name, &mut text, err) {
             Ok(status) => status,
             Err(_) => return print_no_memory(path, err),
         },
@@ -61,14 +74,19 @@ fn put_resolved<E: Write>(
     ensures { IfOk result IsStatus }
 {
     match resolved(alloc, module, name) {
-        Ok(ty) => {
-            let size = put_type(alloc, ty.as_type(), name, "", 0, text)?;
-            let (nodes, levels) = (size.nodes, size.levels);
-            write!(text, "nodes: {nodes}, levels: {levels}\n")?;
-            Ok(0)
-        }
+        Ok(ty) => put_sized(alloc, ty.as_type(), name, text),
         Err(fault) => Ok(print_no_type(path, name, &fault, err)),
     }
+}
+
+// Appends the lines of a type, and how large it is. The exit status is that of success.
+fn put_sized(alloc: Global, ty: &Ty, name: &str, text: &mut String) -> Result<u8, NoMemory>
+    ensures { IfOk result IsStatus }
+{
+    let size = put_type(alloc, ty, name, "", 0, text)?;
+    let (nodes, levels) = (size.nodes, size.levels);
+    write!(text, "nodes: {nodes}, levels: {levels}\n")?;
+    Ok(0)
 }
 
 /// Prints the faults of a module, and returns the exit status.

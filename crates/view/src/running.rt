@@ -13,6 +13,7 @@ use crate::{FileSystem, Form, Line, Reading, Task};
 use octets::NoMemory;
 use std::alloc::Global;
 use std::io::{BufWriter, Write};
+use types::WellTyped;
 use view_faults::{Fault, print_no_memory, print_no_type};
 
 /// Does what a command line asks, and returns the exit status. Results go to `out`, one line for each fault to `err`.
@@ -84,17 +85,30 @@ fn show<D: FileSystem, W: Write, E: Write>(
     ensures { IsStatus result }
 {
     let (module, name) = (reading.module.as_str(), reading.name.as_str());
-    let ty = match type_of(alloc, file_system, module, name) {
-        Ok(ty) => ty,
-        Err(fault) => return print_no_type(module, name, &fault, err),
-    };
+    match type_of(alloc, file_system, module, name) {
+        Ok(ty) => show_values(alloc, file_system, &ty, reading, form, out, err),
+        Err(fault) => print_no_type(module, name, &fault, err),
+    }
+}
+
+fn show_values<D: FileSystem, W: Write, E: Write>(
+    alloc: Global,
+    file_system: &D,
+    ty: &WellTyped,
+    reading: &Reading,
+    form: Form,
+    out: &mut W,
+    err: &mut E,
+) -> u8
+    ensures { IsStatus result }
+{
     let Ok(columns) = columns_of(alloc, form) else {
         return print_no_memory("asn1x-view", err);
     };
     Showing {
         alloc,
         file_system,
-        ty: &ty,
+        ty,
         reading,
         form,
         columns,

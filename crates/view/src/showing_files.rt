@@ -97,8 +97,16 @@ impl<D: FileSystem> Showing<'_, D> {
         values: &mut Values<'_>,
         out: &mut W,
     ) -> Result<(), Fault> {
-        let mut lines = self.lines(out);
-        let read = read_values(self.alloc, input, self.reading.hex, values, &mut lines);
+        self.print_by(&mut self.lines(out), input, values)
+    }
+
+    fn print_by<R: Read, W: Write>(
+        &self,
+        lines: &mut ValueLines<'_, W>,
+        input: &mut R,
+        values: &mut Values<'_>,
+    ) -> Result<(), Fault> {
+        let read = read_values(self.alloc, input, self.reading.hex, values, lines);
         if let Form::Octets(wanted) = self.form {
             if matches!(read, Err(Fault::Refused(_))) {
                 lines.print_octets(wanted, values.begun(), values.at(), false)?;

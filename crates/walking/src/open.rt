@@ -4,10 +4,11 @@ use crate::{Part, Step};
 use encoding_parts::{Frame, SegmentKind, SetComponents, empty_slots, kind_of, next_due, only_due};
 use octets::{NoMemory, Tag};
 use std::alloc::Global;
+use std::mem::drop;
 use types::{Field, Presence, Refusal, Ty, Value, may_be_absent};
 
 /// An open encoding.
-#[derive(Debug, Drop)]
+#[derive(Drop)]
 pub struct Open<'a> {
     /// Which part it is.
     pub part: Part<'a>,
@@ -28,7 +29,7 @@ pub struct Open<'a> {
 }
 
 /// What may come in an open encoding.
-#[derive(Debug, Drop)]
+#[derive(Drop)]
 pub enum Held<'a> {
     /// What an explicit tag stands around; None once it has come.
     Explicit(Option<&'a Ty>),
@@ -43,7 +44,7 @@ pub enum Held<'a> {
 }
 
 /// The part that comes next, its default and its type.
-#[derive(Clone, Copy, Debug)]
+#[derive(Clone, Copy)]
 pub struct Due<'a> {
     /// How many stand before it.
     pub index: usize,
@@ -158,7 +159,7 @@ fn take_set_component<'a>(
     let Some(slot) = set_components.slots.get_mut(which) else {
         return Err(Refusal::Identifier);
     };
-    *slot = Some(Value::Null);
+    drop(slot.replace(Value::Null));
     Ok(due_field(which, set_components.fields.get(which), ty))
 }
 

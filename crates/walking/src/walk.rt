@@ -196,10 +196,14 @@ impl<'a> Walk<'a> {
 
     // Closes the innermost open encoding.
     fn close(&mut self) -> Result<(), Stopped> {
-        let at = self.taken;
-        let Some(open) = self.open.pop() else {
-            return Ok(());
-        };
+        match self.open.pop() {
+            Some(open) => self.judge_closed(&open),
+            None => Ok(()),
+        }
+    }
+
+    // Judges what was the innermost open encoding.
+    fn judge_closed(&mut self, open: &Open<'a>) -> Result<(), Stopped> {
         if self.open.is_empty() {
             self.is_over = true;
         }
@@ -209,8 +213,10 @@ impl<'a> Walk<'a> {
         if let Held::Segments(_) = open.held {
             return self.close_string(open.part);
         }
-        match why_not_closed(&open) {
-            Some((refusal, reason)) => Err(self.halt(Stop::of(open.part, refusal, at, reason))),
+        match why_not_closed(open) {
+            Some((refusal, reason)) => {
+                Err(self.halt(Stop::of(open.part, refusal, self.taken, reason)))
+            }
             None => Ok(()),
         }
     }
