@@ -5,6 +5,7 @@ use convert::{
 };
 use std::alloc::{AllocError, Global};
 use std::test::Fail;
+use test_tables::{Table, check};
 
 fn context(number: u32) -> Tag {
     let class = Class::Context;
@@ -48,7 +49,6 @@ fn of_notation(alloc: Global, notation: &str) -> Result<Ty, Fail> {
         "SET { }" => Ty::set(Vec::new(alloc)),
         "SEQUENCE OF NULL" => Ty::sequence_of(alloc, Ty::null())?,
         "SET OF NULL" => Ty::set_of(alloc, Ty::null())?,
-        "EXPLICIT NULL" => Ty::null().explicit(alloc, context(99))?,
         _ => of_words(notation).ok_or("no type has this notation")?,
     })
 }
@@ -63,22 +63,47 @@ fn one_bit(alloc: Global) -> Result<Ty, AllocError> {
     Ok(Ty::named_bits(vec![in alloc; y]?))
 }
 
-const WITHOUT_PARTS: &str = "\
-a BOOLEAN, b INTEGER, c NULL, d OBJECT IDENTIFIER, e RELATIVE-OID, f BIT STRING, g OCTET STRING, h UTF8String, \
-i NumericString, j PrintableString, k IA5String, l VisibleString, m BMPString, n UTCTime, o GeneralizedTime";
+// The notation of a type.
+const TYPES: &str = "\
+BOOLEAN
+INTEGER
+NULL
+OBJECT IDENTIFIER
+RELATIVE-OID
+BIT STRING
+OCTET STRING
+UTF8String
+NumericString
+PrintableString
+IA5String
+VisibleString
+BMPString
+UTCTime
+GeneralizedTime
+ENUMERATED { x(1) }
+BIT STRING { y(1) }
+SEQUENCE { }
+SET { }
+SEQUENCE OF NULL
+SET OF NULL
+";
 
-fn without_parts(alloc: Global) -> Result<Ty, Fail> {
-    let mut fields = Vec::new(alloc);
-    for component in WITHOUT_PARTS.split(", ") {
-        fields.push(component_of(alloc, component)?)?;
+struct Types;
+
+impl Table for Types {
+    fn holds(&self, alloc: Global, row: &str) -> Result<bool, Fail> {
+        check_meant(alloc, of_notation(alloc, row)?, "EXPLICIT", row)?;
+        // under IMPLICIT TAGS, where each tag is in place of the type's own
+        let notation = format!(in alloc; "[30] {row}")?;
+        let tagged = of_notation(alloc, row)?.implicit(alloc, context(30))?;
+        check_meant(alloc, tagged, "IMPLICIT", notation.as_str())?;
+        Ok(true)
     }
-    Ok(Ty::sequence(fields))
 }
 
-fn component_of(alloc: Global, component: &str) -> Result<Field, Fail> {
-    let (name, notation) = component.split_once(' ').ok_or("no type")?;
-    let ty = of_words(notation).ok_or("no type has these words")?;
-    Ok(Field::required(alloc, name, ty)?)
+#[test]
+fn as_in_the_notation(rt: HostRuntime) -> Result<(), Fail> {
+    check(rt.alloc(), &Types, TYPES)
 }
 
 const WITH_PARTS: &str = "
@@ -88,12 +113,13 @@ const WITH_PARTS: &str = "
         count [0] IMPLICIT INTEGER DEFAULT 5,
         names [1] EXPLICIT SEQUENCE OF UTF8String,
         marks [2] IMPLICIT SET OF NULL,
-        either [3] CHOICE { yes BOOLEAN, no [APPLICATION 7] IMPLICIT SEQUENCE { } }
+        either [3] CHOICE { yes BOOLEAN, no [APPLICATION 7] IMPLICIT SEQUENCE { } },
+        tagged [4] EXPLICIT NULL
     }";
 
 fn with_parts(alloc: Global) -> Result<Ty, Fail> {
     let mut fields = Vec::new(alloc);
-    for name in "colour flags count names marks either".split(' ') {
+    for name in "colour flags count names marks either tagged".split(' ') {
         fields.push(part_named(alloc, name)?)?;
     }
     Ok(Ty::set(fields))
@@ -116,6 +142,9 @@ fn type_of_part(alloc: Global, name: &str) -> Result<Ty, Fail> {
         "names" => names(alloc)?,
         "marks" => marks(alloc)?,
         "either" => either(alloc)?,
+        "tagged" => Ty::null()
+            .explicit(alloc, context(99))?
+            .implicit(alloc, context(4))?,
         _ => return Err("no such component".into()),
     })
 }
@@ -151,30 +180,12 @@ fn no(alloc: Global) -> Result<Ty, AllocError> {
     Ty::sequence(Vec::new(alloc)).implicit(alloc, Tag { class, number: 7 })
 }
 
-// Under IMPLICIT TAGS, where each tag is in place of the type's own.
-const TAGGED: &str = "\
-a [0] BOOLEAN, b [1] INTEGER, c [2] NULL, d [3] OBJECT IDENTIFIER, e [4] RELATIVE-OID, f [5] BIT STRING, \
-g [6] OCTET STRING, h [7] UTF8String, i [8] UTCTime, j [9] ENUMERATED { x(1) }, k [10] BIT STRING { y(1) }, \
-l [11] SEQUENCE { }, m [12] SET { }, n [13] SEQUENCE OF NULL, o [14] SET OF NULL, p [15] EXPLICIT NULL";
-
-fn tagged(alloc: Global) -> Result<Ty, Fail> {
-    let mut alternatives = Vec::new(alloc);
-    for alternative in TAGGED.split(", ") {
-        alternatives.push(alternative_of(alloc, alternative)?)?;
-    }
-    Ok(Ty::choice(alternatives))
-}
-
-fn alternative_of(alloc: Global, alternative: &str) -> Result<Alternative, Fail> {
-    let (name, others) = alternative.split_once(" [").ok_or("no tag")?;
-    let (number, notation) = others.split_once("] ").ok_or("no type")?;
-    let tag = context(number.parse::<u32>()?);
-    let ty = of_notation(alloc, notation)?.implicit(alloc, tag)?;
-    Ok(Alternative::new(alloc, name, ty)?)
-}
-
 // Checks that a type is what a notation means, and what is meant by the one that it is printed in.
-fn check_meant(alloc: Global, ty: &Ty, tags: &str, notation: &str) -> Result<(), Fail> {
+fn check_meant(alloc: Global, ty: Ty, tags: &str, notation: &str) -> Result<(), Fail> {
+    check_printed(alloc, &ty, tags, notation)
+}
+
+fn check_printed(alloc: Global, ty: &Ty, tags: &str, notation: &str) -> Result<(), Fail> {
     let printed = format!(in alloc; "{ty}")?;
     if means(alloc, "EXPLICIT", printed.as_str(), ty)? && means(alloc, tags, notation, ty)? {
         return Ok(());
@@ -190,21 +201,6 @@ fn means(alloc: Global, tags: &str, notation: &str, ty: &Ty) -> Result<bool, Fai
 }
 
 #[test]
-fn without_parts_as_in_the_notation(rt: HostRuntime) -> Result<(), Fail> {
-    let notation = format!(in rt.alloc(); "SEQUENCE {{ {WITHOUT_PARTS} }}")?;
-    let ty = without_parts(rt.alloc())?;
-    check_meant(rt.alloc(), &ty, "EXPLICIT", notation.as_str())
-}
-
-#[test]
 fn with_parts_as_in_the_notation(rt: HostRuntime) -> Result<(), Fail> {
-    let ty = with_parts(rt.alloc())?;
-    check_meant(rt.alloc(), &ty, "EXPLICIT", WITH_PARTS)
-}
-
-#[test]
-fn tagged_as_in_the_notation(rt: HostRuntime) -> Result<(), Fail> {
-    let notation = format!(in rt.alloc(); "CHOICE {{ {TAGGED} }}")?;
-    let ty = tagged(rt.alloc())?;
-    check_meant(rt.alloc(), &ty, "IMPLICIT", notation.as_str())
+    check_meant(rt.alloc(), with_parts(rt.alloc())?, "EXPLICIT", WITH_PARTS)
 }
