@@ -16,7 +16,7 @@ import tempfile
 
 ASN1X = os.environ.get("ASN1X", "crates/asn1x/out/asn1x")
 VIEW = os.environ.get("VIEW", "crates/asn1x_view/out/asn1x_view")
-NOT_OCTETS = {"runs.rt", "shown_use.rt", "steps.rt", "same_values.rt"}
+NOT_OCTETS = {"steps.rt", "same_values.rt"}
 
 
 def main():

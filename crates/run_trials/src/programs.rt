@@ -13,6 +13,7 @@ mod letters;
 mod modules;
 mod printed;
 mod runs;
+mod shown_use;
 mod streams;
 mod values;
 

@@ -8,7 +8,7 @@ use convert::{
     Canonical, FromReader, FromSlice, Refusal, Rule, Stopped, ToVec, Value, WellTyped, check,
     conforms, convert, list, show, transcode,
 };
-use program::{Line, LineFault, line, run};
+use program::{Line, LineFault, line};
 use std::alloc::Global;
 use std::io;
 use std::io::Read;
@@ -127,25 +127,6 @@ impl Read for Parted<'_> {
 pub fn line_of(alloc: Global, words: &str) -> Result<Line, LineFault> {
     let words: Vec<&str> = words.split(',').collect(alloc)?;
     line(alloc, words.as_slice())
-}
-
-/// What a command line prints, on the standard output and on the standard error, and its status.
-pub type Printed = (Vec<u8>, Vec<u8>, u8);
-
-/// What becomes of a command line.
-pub fn run_over(alloc: Global, line: &Line, module: &str, input: &[u8]) -> Printed {
-    let mut out = Vec::new(alloc);
-    let mut err = Vec::new(alloc);
-    let mut input = input;
-    let status = run(
-        alloc,
-        line,
-        module.as_bytes(),
-        &mut input,
-        &mut out,
-        &mut err,
-    );
-    (out, err, status)
 }
 
 /// The number of a refusal.

@@ -9,8 +9,6 @@ mod accepted;
 #[cfg(test)]
 mod answers;
 #[cfg(test)]
-mod arcs;
-#[cfg(test)]
 mod cer;
 #[cfg(test)]
 mod changed;
@@ -39,8 +37,6 @@ mod printed_types;
 #[cfg(test)]
 mod rows;
 #[cfg(test)]
-mod runs;
-#[cfg(test)]
 mod same_values;
 #[cfg(test)]
 mod segments;
@@ -48,8 +44,6 @@ mod segments;
 mod sequences;
 #[cfg(test)]
 mod sets;
-#[cfg(test)]
-mod shown_use;
 #[cfg(test)]
 mod spellings;
 #[cfg(test)]

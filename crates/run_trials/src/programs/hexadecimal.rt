@@ -1,6 +1,6 @@
 //! Hexadecimal text.
 
-use convert::{HexFault, unhex};
+use convert::unhex;
 use std::alloc::Global;
 use std::test::Fail;
 use test_tables::{Table, check, octets_of, prints, two};
@@ -21,7 +21,11 @@ const TEXTS: &str = "\
 '01', 0B, '01'              | NotHex
 '01', 0C, '01'              | NotHex
 '0x01'                      | NotHex
-'01', 00                    | NotHex";
+'01', 00                    | NotHex
+// long texts
+' '*4194304      | ''
+' '*4194305      | TooLong
+' '*4194305, 'x' | TooLong";
 
 struct Texts;
 
@@ -39,30 +43,4 @@ impl Table for Texts {
 #[test]
 fn hexadecimal_text(rt: HostRuntime) -> Result<(), Fail> {
     check(rt.alloc(), &Texts, TEXTS)
-}
-
-// a long text | how many octets it spells, or the fault
-const LONG_TEXTS: &str = "\
-' '*4194304      | Ok(0)
-' '*4194305      | Err(TooLong)
-' '*4194305, 'x' | Err(TooLong)";
-
-struct LongTexts;
-
-impl Table for LongTexts {
-    fn holds(&self, alloc: Global, row: &str) -> Result<bool, Fail> {
-        let (text, want) = two(row)?;
-        let text = octets_of(alloc, text)?;
-        prints(alloc, &count_of(alloc, text.as_slice()), want)
-    }
-}
-
-// How many octets a text spells, or its fault.
-fn count_of(alloc: Global, text: &[u8]) -> Result<usize, HexFault> {
-    Ok(unhex(alloc, text)?.len())
-}
-
-#[test]
-fn longest_hexadecimal_text(rt: HostRuntime) -> Result<(), Fail> {
-    check(rt.alloc(), &LongTexts, LONG_TEXTS)
 }

@@ -75,14 +75,17 @@ pub fn is_so(alloc: Global, line: &Line, module: &str, columns: &str) -> Result<
     Ok(run_over(alloc, line, module.as_bytes(), input.as_slice()) == want)
 }
 
-/// Runs over built-in types.
-pub struct Runs;
+/// Runs over the types of a module, or over built-in types.
+#[derive(Clone, Copy)]
+pub struct Runs<'a> {
+    pub module: &'a str,
+}
 
-impl Table for Runs {
+impl<'a> Table for Runs<'a> {
     fn holds(&self, alloc: Global, row: &str) -> Result<bool, Fail> {
         let (words, columns) = two(row)?;
         let line = line_of(alloc, words)?;
-        is_so(alloc, &line, "", columns)
+        is_so(alloc, &line, self.module, columns)
     }
 }
 

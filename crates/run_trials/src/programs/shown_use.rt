@@ -2,9 +2,10 @@
 //! values of its first example stand here too, word for word as in `examples/`. What `convert` writes of them is
 //! put together by X.690, clauses 8.1 and 10.
 
-use crate::runs::{check_run, check_runs};
+use super::printed::{Runs, is_so, line_of};
 use std::alloc::Global;
 use std::test::Fail;
+use test_tables::{Table, check, two};
 
 // `examples/calls.asn`.
 const CALLS: &str = "-- The records of a telephone exchange: one for each call.
@@ -48,23 +49,39 @@ const VALUES: &str = "61 80
   84 01 01
 ";
 
-// Over these values: words, and what is printed.
-const RUNS_OVER_CALLS: &str = "
+// Over these values: words | what is printed.
+struct Calls;
+
+impl Table for Calls {
+    fn holds(&self, alloc: Global, row: &str) -> Result<bool, Fail> {
+        let (words, printed) = two(row)?;
+        let line = line_of(alloc, words)?;
+        let columns = format!(in alloc; "{VALUES}|{printed}|| 0")?;
+        is_so(alloc, &line, CALLS, columns.as_str())
+    }
+}
+
+const OVER_CALLS: &str = "\
 check,calls.asn,Call,calls.hex,--hex | ok 2;
 show,calls.asn,Call,calls.hex,--hex  | { caller \"5550123\", called number : \"5550199\", started \"20260301093015Z\", seconds 42, services { 1.2.3.4, 1.2.3.4.5 }, note \"call box 12\" };{ caller \"5550123\", called emergency : NULL, started \"20260301104500.5Z\", outcome busy };
-convert,calls.asn,Call,calls.hex,--hex,--to,der | 6142800735353530313233a109420735353530313939820f32303236303330313039333031355a83012aa50b06032a030406042a030405860b63616c6c20626f782031326123800735353530313233a1028200821132303236303330313130343530302e355a840101;
-";
+convert,calls.asn,Call,calls.hex,--hex,--to,der | 6142800735353530313233a109420735353530313939820f32303236303330313039333031355a83012aa50b06032a030406042a030405860b63616c6c20626f782031326123800735353530313233a1028200821132303236303330313130343530302e355a840101;";
 
-// The other runs, as in the tables of `runs`.
-const OTHERS: &str = "
-M DEFINITIONS ::= BEGIN Ids ::= SET OF OBJECT IDENTIFIER END:
-convert,ids.asn,Ids,in.hex,--hex,--to,der | 31 80 06 03 2a 03 04 06 02 2a 03 00 00 | 310906022a0306032a0304; || 0
+#[test]
+fn calls(rt: HostRuntime) -> Result<(), Fail> {
+    check(rt.alloc(), &Calls, OVER_CALLS)
+}
+
+const OVER_BUILT_IN_TYPES: &str = "\
 convert,@builtin,OCTET STRING,in.hex,--hex,--to,der | 24 80 04 02 01 02 24 80 04 01 03 00 00 00 00 | 0403010203; || 0
 convert,@builtin,OCTET STRING,in.hex,--hex,--to,der | 04 82 00 01 41 | 040141; || 0
 convert,@builtin,INTEGER,in.hex,--hex,--to,der | 02 02 00 7f || asn1x: refused 6 Contents after 0 values; | 1
 show,@builtin,BOOLEAN,- | 01 01 01 01 01 00 | TRUE;FALSE; || 0
-convert,@builtin,BOOLEAN,in.hex,--hex,--from,der,--to,der | 01 01 2a || asn1x: refused 12 NotCanonical after 0 values; | 1
-";
+convert,@builtin,BOOLEAN,in.hex,--hex,--from,der,--to,der | 01 01 2a || asn1x: refused 12 NotCanonical after 0 values; | 1";
+
+const IDS: &str = "M DEFINITIONS ::= BEGIN Ids ::= SET OF OBJECT IDENTIFIER END";
+
+const OVER_IDS: &str = "\
+convert,ids.asn,Ids,in.hex,--hex,--to,der | 31 80 06 03 2a 03 04 06 02 2a 03 00 00 | 310906022a0306032a0304; || 0";
 
 // A module on three lines, which means no type.
 const CYCLE: &str = "M DEFINITIONS ::= BEGIN
@@ -72,26 +89,12 @@ const CYCLE: &str = "M DEFINITIONS ::= BEGIN
 END
 ";
 
-// Checks a line of the table of runs over calls, where it is one.
-fn check_call(alloc: Global, line: &str) -> Result<(), Fail> {
-    let Some((words, printed)) = line.split_once('|') else {
-        return Ok(());
-    };
-    let row = format!(in alloc; "{words}|{VALUES}|{printed}|| 0")?;
-    check_run(alloc, CALLS, row.as_str())
-}
-
-#[test]
-fn calls(rt: HostRuntime) -> Result<(), Fail> {
-    for line in RUNS_OVER_CALLS.lines() {
-        check_call(rt.alloc(), line)?;
-    }
-    Ok(())
-}
+const OVER_CYCLE: &str = "\
+check,list.asn,List,in.hex | 02 || asn1x: module refused 25 Cycle at 2:3; | 2";
 
 #[test]
 fn other_runs(rt: HostRuntime) -> Result<(), Fail> {
-    check_runs(rt.alloc(), OTHERS)?;
-    let run = "check,list.asn,List,in.hex | 02 || asn1x: module refused 25 Cycle at 2:3; | 2";
-    check_run(rt.alloc(), CYCLE, run)
+    check(rt.alloc(), &Runs { module: "" }, OVER_BUILT_IN_TYPES)?;
+    check(rt.alloc(), &Runs { module: IDS }, OVER_IDS)?;
+    check(rt.alloc(), &Runs { module: CYCLE }, OVER_CYCLE)
 }
