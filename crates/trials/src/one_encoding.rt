@@ -35,8 +35,9 @@ impl Table for Read {
 }
 
 // what is read | the end of what holds it, and how many octets stand before it | octets |
-// the tag, whether the encoding is constructed and how many octets the tag has, or the refusal's number
-const TAGS: &str = "\
+// of a tag, the tag, whether the encoding is constructed and how many octets the tag has; of an opening, how many length
+// octets there are, and the form and end of the contents; of an end, how many octets it has; or the refusal's number
+const PARTS: &str = "\
 tag            | 10 5 | A1 03          | Ok((Tag { class: Context, number: 1 }, true, 1))
 tag            | 10 5 | 00             | Ok((Tag { class: Universal, number: 0 }, false, 1))
 tag            | 8 5  | 1F 81 00       | Ok((Tag { class: Universal, number: 128 }, false, 3))
@@ -45,16 +46,7 @@ tag            | 5 5  | 02             | Err(11)
 tag            | 6 5  | ''             | Err(1)
 tag            | 10 5 | 1F 80          | Err(2)
 tag            | 10 5 | 3F FF FF FF 7F | Ok((Tag { class: Universal, number: 268435455 }, true, 5))
-tag            | 10 5 | 1F 81 80 80 80 | Err(2)";
-
-#[test]
-fn any_tags(rt: HostRuntime) -> Result<(), Fail> {
-    check(rt.alloc(), &Read, TAGS)
-}
-
-// what is read | the end of what holds it, and how many octets stand before it | octets |
-// how many length octets there are, and the form and end of the contents
-const OPENINGS: &str = "\
+tag            | 10 5 | 1F 81 80 80 80 | Err(2)
 opening        | 10 5 | 03             | Ok((1, Frame { definite: true, end: 9 }))
 opening        | 10 5 | 04             | Ok((1, Frame { definite: true, end: 10 }))
 opening        | 10 5 | 05             | Err(11)
@@ -63,15 +55,7 @@ opening        | 10 5 | 80             | Ok((1, Frame { definite: false, end: 8 
 opening        | 8 5  | 80             | Ok((1, Frame { definite: false, end: 6 }))
 opening        | 7 5  | 80             | Err(11)
 opening        | 10 5 | ''             | Err(1)
-opening        | 10 5 | FF             | Err(4)";
-
-#[test]
-fn openings(rt: HostRuntime) -> Result<(), Fail> {
-    check(rt.alloc(), &Read, OPENINGS)
-}
-
-// what is read | the end of what holds it, and how many octets stand before it | octets | how many octets the end has
-const ENDS: &str = "\
+opening        | 10 5 | FF             | Err(4)
 definite end   | 9 9  | 04             | Ok(Some(0))
 definite end   | 9 5  | 00 00          | Ok(None)
 indefinite end | 9 5  | 00 00 04       | Ok(Some(2))
@@ -83,8 +67,8 @@ indefinite end | 9 5  | ''             | Err(1)
 indefinite end | 9 5  | 04 00          | Ok(None)";
 
 #[test]
-fn ends(rt: HostRuntime) -> Result<(), Fail> {
-    check(rt.alloc(), &Read, ENDS)
+fn parts(rt: HostRuntime) -> Result<(), Fail> {
+    check(rt.alloc(), &Read, PARTS)
 }
 
 #[test]

@@ -110,22 +110,14 @@ impl Table for Contents {
 }
 
 // type | contents octets | the value, or `none` | the contents octets that are written of it
-const BOOLEANS_AND_NULL: &str = "\
+const CONTENTS: &str = "\
 BOOLEAN | '' | none | -
 BOOLEAN | 00 | FALSE | 00
 BOOLEAN | 2A | TRUE | FF
 BOOLEAN | FF | TRUE | FF
 BOOLEAN | FF 00 | none | -
 NULL | '' | NULL | ''
-NULL | 00 | none | -";
-
-#[test]
-fn boolean_and_null_contents(rt: HostRuntime) -> Result<(), Fail> {
-    check(rt.alloc(), &Contents, BOOLEANS_AND_NULL)
-}
-
-// type | contents octets | the value, or `none` | the contents octets that are written of it
-const INTEGERS: &str = "\
+NULL | 00 | none | -
 INTEGER | '' | none | -
 INTEGER | 00 | 0 | 00
 INTEGER | FF | -1 | FF
@@ -141,15 +133,7 @@ INTEGER | FF FF | none | -
 INTEGER | 80, 00*15 | -170141183460469231731687303715884105728 | 80, 00*15
 INTEGER | 7F, FF*15 | 170141183460469231731687303715884105727 | 7F, FF*15
 INTEGER | 00 80, 00*15 | none | -
-INTEGER | FF 7F, FF*15 | none | -";
-
-#[test]
-fn integer_contents(rt: HostRuntime) -> Result<(), Fail> {
-    check(rt.alloc(), &Contents, INTEGERS)
-}
-
-// type | contents octets | the value, or `none` | the contents octets that are written of it
-const OIDS: &str = "\
+INTEGER | FF 7F, FF*15 | none | -
 OID | 2A | oid:1.2 | 2A
 OID | 81 34 03 | oid:2.100.3 | 81 34 03
 OID | 88 37 03 | oid:2.999.3 | 88 37 03
@@ -169,15 +153,7 @@ OID | 80 01 | none | -
 OID | 2A 81 | none | -
 OID | 80 81 34 03 | none | -
 OID | 84, 80*17, 00 | none | -
-OID | 01*129 | none | -";
-
-#[test]
-fn oid_contents(rt: HostRuntime) -> Result<(), Fail> {
-    check(rt.alloc(), &Contents, OIDS)
-}
-
-// type | contents octets | the value, or `none` | the contents octets that are written of it
-const RELATIVE_OIDS: &str = "\
+OID | 01*129 | none | -
 RELATIVE-OID | 2A | relative:42 | 2A
 RELATIVE-OID | 81 34 03 | relative:180.3 | 81 34 03
 RELATIVE-OID | 88 37 03 | relative:1079.3 | 88 37 03
@@ -197,15 +173,7 @@ RELATIVE-OID | 80 01 | none | -
 RELATIVE-OID | 2A 81 | none | -
 RELATIVE-OID | 80 81 34 03 | none | -
 RELATIVE-OID | 84, 80*17, 00 | none | -
-RELATIVE-OID | 01*129 | none | -";
-
-#[test]
-fn relative_oid_contents(rt: HostRuntime) -> Result<(), Fail> {
-    check(rt.alloc(), &Contents, RELATIVE_OIDS)
-}
-
-// type | contents octets | the value, or `none` | the contents octets that are written of it
-const BIT_STRINGS: &str = "\
+RELATIVE-OID | 01*129 | none | -
 BITS | 00 | bits:''/0 | 00
 BITS | 00 00 | bits:00/0 | 00 00
 BITS | 04 F0 | bits:F0/4 | 04 F0
@@ -223,8 +191,8 @@ BITS | 80 | none | -
 BITS | FF 00 | none | -";
 
 #[test]
-fn bit_string_contents(rt: HostRuntime) -> Result<(), Fail> {
-    check(rt.alloc(), &Contents, BIT_STRINGS)?;
+fn contents(rt: HostRuntime) -> Result<(), Fail> {
+    check(rt.alloc(), &Contents, CONTENTS)?;
     assert!(rt; Bits::new(Vec::new(rt.alloc()), 1).is_none());
     Ok(())
 }

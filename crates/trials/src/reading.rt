@@ -107,22 +107,15 @@ impl OctetsTable for Cut {
     }
 }
 
-// type | octets | how many of them are read, and the value
+// type | octets | how many of them are read, and the value, or the refusal of the last one
 const VALUES: &str = "\
 SEQUENCE-OF{ [1]{ OCTETS } } | 3080 A103040141 A1802480 04024243 0400 0000 0000 0000 3002 | 23 items( octets:41 octets:4243 )
 OCTETS | 24 80 24 06 04 01 41 04 01 42 24 80 04 02 43 44 00 00 04 00 00 00 | 22 octets:'ABCD'
 OCTETS | 24 0F 24 80 24 03 04 01 41 00 00 24 04 04 02 42 43 | 17 octets:'ABC'
 BITS | 23 80 03 03 00 AA BB 23 80 03 02 00 CC 00 00 23 04 03 02 04 FF 00 00 | 23 bits:AABBCCF0/4
 BITS | 23 08 03 02 00 AA 03 02 07 80 | 10 bits:AA80/7
-VisibleString | 3A 80 04 01 4A 24 80 04 01 6F 00 00 00 00 | 14 text:'Jo'";
-
-#[test]
-fn values_in_pieces_of_each_size(rt: HostRuntime) -> Result<(), Fail> {
-    check(rt.alloc(), &OfOctets(Cut), VALUES)
-}
-
-// type | octets | the refusal of the last one
-const REFUSED_AT_LAST: &str = "\
+VisibleString | 3A 80 04 01 4A 24 80 04 01 6F 00 00 00 00 | 14 text:'Jo'
+// refusals, of the last octet, in strings that pieces cut
 OCTETS | 24 80 04 01 41 1A | refused 2
 OCTETS | 24 80 04 01 41 04 80 | refused 3
 OCTETS | 24 05 04 01 41 04 01 | refused 4
@@ -134,8 +127,8 @@ UTCTime | 37 06 04 01 32 04 01 34 | refused 7
 OCTETS | 24 80 04 01 41 04 83 0F FF F5 | refused 11";
 
 #[test]
-fn refusals_in_strings_that_pieces_cut(rt: HostRuntime) -> Result<(), Fail> {
-    check(rt.alloc(), &OfOctets(Cut), REFUSED_AT_LAST)
+fn values_in_pieces_of_each_size(rt: HostRuntime) -> Result<(), Fail> {
+    check(rt.alloc(), &OfOctets(Cut), VALUES)
 }
 
 // Whether a row of a table of pieces holds.
@@ -160,46 +153,39 @@ fn check_script(alloc: Global, ty: &str, rows: &str) -> Result<(), Fail> {
     all_told(alloc, &mut Reader::new(alloc, &ty), rows)
 }
 
-// a piece, of the numbers 1, 2 and 300 | what it comes to | what the end of the input would come to behind it
-const NUMBERS: &str = "\
+// Checks the pieces of each type, behind which an empty line stands.
+fn check_scripts(alloc: Global, scripts: &str) -> Result<(), Fail> {
+    for script in scripts.split("\n\n") {
+        let (ty, rows) = script.split_once(":\n").ok_or("no type")?;
+        check_script(alloc, ty, rows)?;
+    }
+    Ok(())
+}
+
+// a type, and below it a row for each piece, of INTEGER of the numbers 1, 2 and 300: the piece | what it comes to | what
+// the end of the input would come to behind it
+const SCRIPTS: &str = "\
+INTEGER:
 02 01 01 02 81 01 02 02 02 01 | Ok(Done { value: Integer(1), used: 3 }) | Ok(())
 02 81 01 02 02 02 01 | Ok(Done { value: Integer(2), used: 4 }) | Ok(())
 02 02 01 | Ok(More) | Err(1)
 ''       | Ok(More) | Err(1)
-2C 02    | Ok(Done { value: Integer(300), used: 1 }) | Ok(())";
+2C 02    | Ok(Done { value: Integer(300), used: 1 }) | Ok(())
 
-#[test]
-fn values_one_behind_another(rt: HostRuntime) -> Result<(), Fail> {
-    check_script(rt.alloc(), "INTEGER", NUMBERS)
-}
-
-// a piece | what it comes to | what the end of the input would come to behind it
-const EMPTY_PIECES: &str = "\
+NULL:
 '' | Ok(More) | Ok(())
 05 | Ok(More) | Err(1)
 '' | Ok(More) | Err(1)
 00 | Ok(Done { value: Null, used: 1 }) | Ok(())
-'' | Ok(More) | Ok(())";
+'' | Ok(More) | Ok(())
 
-#[test]
-fn empty_pieces(rt: HostRuntime) -> Result<(), Fail> {
-    check_script(rt.alloc(), "NULL", EMPTY_PIECES)
-}
-
-// a piece | what it comes to | what the end of the input would come to behind it
-const REFUSED: &str = "\
+SEQUENCE-OF{ [1]{ OCTETS } }:
 30 80 A1 | Ok(More) | Err(1)
 00 00 00 | Err(4) | Err(4)
 ''       | Err(4) | Err(4)
-30 80 A1 03 04 01 41 A1 80 24 80 04 02 42 43 04 00 00 00 00 00 00 00 30 02 | Err(4) | Err(4)";
+30 80 A1 03 04 01 41 A1 80 24 80 04 02 42 43 04 00 00 00 00 00 00 00 30 02 | Err(4) | Err(4)
 
-#[test]
-fn refusals_are_repeated(rt: HostRuntime) -> Result<(), Fail> {
-    check_script(rt.alloc(), "SEQUENCE-OF{ [1]{ OCTETS } }", REFUSED)
-}
-
-// a piece | what it comes to | what the end of the input would come to behind it
-const WITHIN: &str = "\
+OCTETS:
 24 80    | Ok(More) | Err(1)
 04 01 41 | Ok(More) | Err(1)
 24 80    | Ok(More) | Err(1)
@@ -207,6 +193,6 @@ const WITHIN: &str = "\
 00 00    | Ok(Done { value: Octets([65]), used: 2 }) | Ok(())";
 
 #[test]
-fn no_value_ends_within_a_string(rt: HostRuntime) -> Result<(), Fail> {
-    check_script(rt.alloc(), "OCTETS", WITHIN)
+fn pieces_one_behind_another(rt: HostRuntime) -> Result<(), Fail> {
+    check_scripts(rt.alloc(), SCRIPTS)
 }

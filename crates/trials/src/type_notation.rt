@@ -1,7 +1,8 @@
 //! Types from their notation: words with one space between them.
 //!
 //! A type without parts is a word: `BOOLEAN`, `INTEGER`, `NULL`, `OID`, `RELATIVE-OID`, `BITS`, `OCTETS`,
-//! `ENUMERATED(1,3)` for one of these numbers, or the name of a character string or a time; before it may stand the
+//! `ENUMERATED(1,3)` for one of these numbers, `NAMED-BITS(1,3)` for bits of which these have names, or the name of a
+//! character string or a time; before it may stand the
 //! tag that it has in place of its universal one, as `[3]NULL` or `[UNIVERSAL.0]NULL`. One with parts stands between a
 //! word that ends with `{` and the word `}`: `SEQUENCE{`, `SET{`, `CHOICE{`, `SEQUENCE-OF{`, `SET-OF{` or, for an
 //! explicit tag, `[3]{`. The last word of a component ends with `?` where it may be absent, and with `=` and a value
@@ -15,7 +16,7 @@ use std::alloc::Global;
 use std::test::Fail;
 use strings::TimeKind;
 use test_tables::{Table, octets_of, three, times_of};
-use types::{Alternative, Field, Item, Presence, Ty, WellTyped};
+use types::{Alternative, Field, Item, NamedBit, Presence, Ty, WellTyped};
 
 /// The type of a notation, which keeps the rules.
 pub fn typed(alloc: Global, text: &str) -> Result<WellTyped, Fail> {
@@ -175,21 +176,37 @@ fn untagged(alloc: Global, word: &str) -> Result<Ty, Fail> {
         "OCTETS" => Ty::octets(),
         "GeneralizedTime" => Ty::time(TimeKind::Generalized),
         "UTCTime" => Ty::time(TimeKind::Utc),
-        _ => match word.strip_prefix("ENUMERATED(") {
-            Some(numbers) => Ty::enumerated(items_of(alloc, numbers)?),
+        _ => match word.split_once('(') {
+            Some((word, numbers)) => with_numbers(alloc, word, numbers)?,
             None => Ty::text(kind_of(word)?),
         },
     })
 }
 
-// The items of an ENUMERATED, whose numbers stand before `)`.
+// The type of a word behind which numbers stand, and behind them `)`.
+fn with_numbers(alloc: Global, word: &str, numbers: &str) -> Result<Ty, Fail> {
+    let numbers = numbers.strip_suffix(')').ok_or("numbers without an end")?;
+    Ok(match word {
+        "ENUMERATED" => Ty::enumerated(items_of(alloc, numbers)?),
+        "NAMED-BITS" => Ty::named_bits(named_bits_of(alloc, numbers)?),
+        _ => return Err("no type with numbers".into()),
+    })
+}
+
 fn items_of(alloc: Global, numbers: &str) -> Result<Vec<Item>, Fail> {
-    let numbers = numbers.strip_suffix(')').ok_or("items without an end")?;
     let mut items = Vec::new(alloc);
     for number in numbers.split(',') {
         items.push(Item::new(alloc, "a", number.parse::<i128>()?)?)?;
     }
     Ok(items)
+}
+
+fn named_bits_of(alloc: Global, numbers: &str) -> Result<Vec<NamedBit>, Fail> {
+    let mut bits = Vec::new(alloc);
+    for number in numbers.split(',') {
+        bits.push(NamedBit::new(alloc, "a", number.parse::<u32>()?)?)?;
+    }
+    Ok(bits)
 }
 
 /// The tag that a column spells: class and number with a point between them, or the number of one that is

@@ -1,8 +1,8 @@
 //! Values from their notation: words with one space between them.
 //!
 //! A value without parts is a word: `TRUE`, `FALSE`, `NULL`, the number of an INTEGER, or one of these kinds and
-//! behind a colon what it holds: `enum:3`, `octets:4142`, `text:'Jo'`, `bits:AAF0/4` with the number of unused bits,
-//! `oid:2.999.3`, `relative:8.1`; `none` stands for no arcs. One with parts stands between a word that ends with `(`
+//! behind a colon what it holds: `wide:0080` with the contents octets of an INTEGER, `enum:3`, `octets:4142`,
+//! `text:'Jo'`, `bits:AAF0/4` with the number of unused bits, `oid:2.999.3`, `relative:8.1`; `none` stands for no arcs. One with parts stands between a word that ends with `(`
 //! and the word `)`: `fields(`, in which `-` is a component that has no value, `items(` or, for an alternative, its
 //! number, as `0(`.
 
@@ -143,6 +143,7 @@ fn leaf_of(alloc: Global, word: &str) -> Result<Value, Fail> {
     let (kind, held) = word.split_once(':').unwrap_or(("", word));
     Ok(match kind {
         "" => plain(held)?,
+        "wide" => Value::WideInteger(octets_of(alloc, held)?),
         "enum" => Value::Enumerated(held.parse::<i128>()?),
         "octets" => Value::Octets(octets_of(alloc, held)?),
         "text" => Value::Text(octets_of(alloc, held)?),

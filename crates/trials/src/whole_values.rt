@@ -47,8 +47,9 @@ impl OctetsTable for AtOnce {
     }
 }
 
-// type | an encoding, and two octets behind it | how many octets are read at once, where no fewer are, and the value
-const WITHOUT_PARTS: &str = "\
+// type | an encoding, and two octets behind it | how many octets are read at once, where no fewer are, and the value; or
+// none, and why
+const VALUES: &str = "\
 BOOLEAN | 01 01 2A 00 00 | 3 TRUE
 BOOLEAN | 01 81 01 00 00 00 | 4 FALSE
 INTEGER | 02 02 01 00 00 00 | 4 256
@@ -71,15 +72,7 @@ PrintableString | 33 80 04 01 41 04 01 62 00 00 00 00 | 10 text:'Ab'
 UTCTime | 37 11 04 06 32 36 30 31 30 31 04 07 30 30 30 30 30 30 5A 00 00 | 19 text:'260101000000Z'
 PrintableString | 13 02 41 62 00 00 | 4 text:'Ab'
 PrintableString | 13 00 00 00 | 2 text:''
-UTCTime | 17 0D 32 36 30 31 30 31 30 30 30 30 30 30 5A 00 00 | 15 text:'260101000000Z'";
-
-#[test]
-fn values_without_parts(rt: HostRuntime) -> Result<(), Fail> {
-    check(rt.alloc(), &OfOctets(AtOnce), WITHOUT_PARTS)
-}
-
-// type | an encoding, and two octets behind it | how many octets are read at once, where no fewer are, and the value
-const WITH_PARTS: &str = "\
+UTCTime | 17 0D 32 36 30 31 30 31 30 30 30 30 30 30 5A 00 00 | 15 text:'260101000000Z'
 [1]{ INTEGER } | A1 03 02 01 05 00 00 | 5 5
 [1]{ INTEGER } | A1 80 02 01 05 00 00 00 00 | 7 5
 [1]{ INTEGER } | A1 81 03 02 01 05 00 00 | 6 5
@@ -105,15 +98,8 @@ SEQUENCE-OF{ CHOICE{ [31]INTEGER OCTETS } } | 30 80 9F 1F 01 05 04 01 41 24 03 0
 CHOICE{ INTEGER CHOICE{ BOOLEAN SEQUENCE-OF{ INTEGER } } } | 02 01 03 00 00 | 3 0( 3 )
 CHOICE{ INTEGER CHOICE{ BOOLEAN SEQUENCE-OF{ INTEGER } } } | 01 01 FF 00 00 | 3 1( 0( TRUE ) )
 CHOICE{ INTEGER CHOICE{ BOOLEAN SEQUENCE-OF{ INTEGER } } } | 30 03 02 01 09 00 00 | 5 1( 1( items( 9 ) ) )
-CHOICE{ INTEGER CHOICE{ BOOLEAN SEQUENCE-OF{ INTEGER } } } | 30 80 02 01 09 00 00 00 00 | 7 1( 1( items( 9 ) ) )";
-
-#[test]
-fn values_with_parts(rt: HostRuntime) -> Result<(), Fail> {
-    check(rt.alloc(), &OfOctets(AtOnce), WITH_PARTS)
-}
-
-// type | octets | none: why they are not read at once
-const NOT_READ: &str = "\
+CHOICE{ INTEGER CHOICE{ BOOLEAN SEQUENCE-OF{ INTEGER } } } | 30 80 02 01 09 00 00 00 00 | 7 1( 1( items( 9 ) ) )
+// what is not read at once
 BOOLEAN | 02 01 2A | none: another tag
 BOOLEAN | 21 01 2A | none: another form
 [1]{ INTEGER } | 81 01 05 | none: another form
@@ -144,19 +130,12 @@ SET{ INTEGER BOOLEAN? [0]INTEGER=5 } | 31 03 01 01 FF | none: a component is mis
 SET{ INTEGER BOOLEAN? [0]INTEGER=5 } | 31 06 02 01 07 02 01 07 | none: a component stands where none may
 SET{ INTEGER BOOLEAN? [0]INTEGER=5 } | 31 06 02 01 07 04 01 41 | none: a component stands where none may
 SEQUENCE-OF{ INTEGER } | 30 80 02 01 07 01 00 | none: octets that are no end
-SEQUENCE-OF{ INTEGER } | 30 05 02 01 07 00 00 | none: octets that are no end";
-
-#[test]
-fn what_is_not_read(rt: HostRuntime) -> Result<(), Fail> {
-    check(rt.alloc(), &OfOctets(AtOnce), NOT_READ)
-}
-
-// type | octets | how many of them are read at once, and the value, or none and why
-const LONGEST: &str = "\
+SEQUENCE-OF{ INTEGER } | 30 05 02 01 07 00 00 | none: octets that are no end
+// the limit
 OCTETS | 04 83 0F FF FB, 41*1048571, 00 00 | 1048576 octets:41*1048571
 OCTETS | 04 83 0F FF FC, 41*1048572 | none: longer than any that is read at once";
 
 #[test]
-fn the_limit(rt: HostRuntime) -> Result<(), Fail> {
-    check(rt.alloc(), &OfOctets(AtOnce), LONGEST)
+fn values(rt: HostRuntime) -> Result<(), Fail> {
+    check(rt.alloc(), &OfOctets(AtOnce), VALUES)
 }

@@ -10,7 +10,7 @@ use std::test::Fail;
 use test_tables::is_row;
 
 // octets | under DER | under CER | text; the rows below a type are one stream, and an empty line ends it
-const RECORDS: &str = "
+const ROWS: &str = "
 AUTOMATIC TAGS SEQUENCE { a INTEGER OPTIONAL, b OCTET STRING, c OCTET STRING DEFAULT '4142'H, d CHOICE { e BOOLEAN, f UTF8String, g SEQUENCE { h INTEGER, i IA5String OPTIONAL } }, j SEQUENCE OF OCTET STRING OPTIONAL }:
 30 18 80 01 05 81 03 41 42 43 A3 05 81 03 78 79 7A A4 07 04 01 01 04 02 02 03 | kept | 30 80 80 01 05 81 03 41 42 43 A3 80 81 03 78 79 7A 00 00 A4 80 04 01 01 04 02 02 03 00 00 00 00 | { a 5, b '414243'H, d f : \"xyz\", j { '01'H, '0203'H } }
 30 0B 81 01 44 82 01 FF A3 03 80 01 01 | 30 0B 81 01 44 82 01 FF A3 03 80 01 FF | 30 80 81 01 44 82 01 FF A3 80 80 01 FF 00 00 00 00 | { b '44'H, c 'FF'H, d e : TRUE }
@@ -31,10 +31,7 @@ SEQUENCE OF SEQUENCE { a BOOLEAN OPTIONAL, b OCTET STRING OPTIONAL }:
 30 05 30 03 04 01 44           | kept | 30 80 30 80 04 01 44 00 00 00 00 | { { b '44'H } }
 30 00                          | kept | 30 80 00 00             | { }
 30 04 30 00 30 00              | kept | 30 80 30 80 00 00 30 80 00 00 00 00 | { { }, { } }
-";
 
-// Rows of values without components, of which one follows another.
-const OTHERS: &str = "
 CHOICE { a UTF8String, b OCTET STRING, c SEQUENCE { d NULL OPTIONAL, e IA5String OPTIONAL } }:
 0C 03 61 62 63                 | kept | kept                    | a : \"abc\"
 04 01 41                       | kept | kept                    | b : '41'H
@@ -161,11 +158,6 @@ fn stream_of(alloc: Global, ty: &WellTyped, rows: &str) -> Result<Stream, Fail> 
 }
 
 #[test]
-fn records(rt: HostRuntime) -> Result<(), Fail> {
-    check_in_turn(rt.alloc(), RECORDS)
-}
-
-#[test]
-fn others(rt: HostRuntime) -> Result<(), Fail> {
-    check_in_turn(rt.alloc(), OTHERS)
+fn streams(rt: HostRuntime) -> Result<(), Fail> {
+    check_in_turn(rt.alloc(), ROWS)
 }

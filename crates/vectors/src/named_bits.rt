@@ -1,11 +1,7 @@
 //! BIT STRING with named bits (X.680 clause 22), whose bits 0 at the end mean nothing (X.690 11.2.2).
 
 use crate::checks::check_table;
-use crate::tables::has_fault;
-use convert::{Bits, Field, NamedBit, Ty, Value, conforms};
-use std::alloc::Global;
 use std::test::Fail;
-use test_tables::{Table, check, is_yes, numbers_of, octets_of, two};
 
 // octets | under DER | under CER | text
 const ROWS: &str = "
@@ -57,10 +53,7 @@ A5 04 03 02 00 80        | A5 04 03 02 07 80 | A5 80 03 02 07 80 00 00 | '1'B
 // a set is ordered by the encodings of its trimmed elements
 SET OF BIT STRING { a(0) }:
 31 09 03 02 07 80 03 03 00 40 00 | 31 08 03 02 06 40 03 02 07 80 | 31 80 03 02 06 40 03 02 07 80 00 00 | { '01'B, '1'B }
-";
-
-// octets | under DER | under CER | text
-const DEFAULTS: &str = "
+// defaults
 AUTOMATIC TAGS SEQUENCE { f BIT STRING { a(0) } DEFAULT '100'B }:
 30 00                    | kept                 | 30 80 00 00                | { }
 30 04 80 02 07 80        | 30 00                | 30 80 00 00                | { }
@@ -83,10 +76,7 @@ AUTOMATIC TAGS SEQUENCE { f BIT STRING { a(0) } DEFAULT '00'B }:
 AUTOMATIC TAGS SEQUENCE { f BIT STRING DEFAULT '100'B }:
 30 04 80 02 05 80        | 30 00                | 30 80 00 00                | { }
 30 04 80 02 07 80        | kept                 | 30 80 80 02 07 80 00 00    | { f '1'B }
-";
-
-// octets | under DER | under CER | text
-const CUT: &str = "
+// cut by CER
 BIT STRING { a(0) }:
 03 82 03 E8 00, 41*999          | kept                    | kept
 03 82 03 E9 00, 41*999, 00      | 03 82 03 E8 00, 41*999  | 03 82 03 E8 00, 41*999
@@ -99,104 +89,4 @@ BIT STRING { a(0) }:
 #[test]
 fn encodings(rt: HostRuntime) -> Result<(), Fail> {
     check_table(rt.alloc(), ROWS)
-}
-
-#[test]
-fn defaults(rt: HostRuntime) -> Result<(), Fail> {
-    check_table(rt.alloc(), DEFAULTS)
-}
-
-#[test]
-fn cut_by_cer(rt: HostRuntime) -> Result<(), Fail> {
-    check_table(rt.alloc(), CUT)
-}
-
-// A BIT STRING whose bits of these numbers, which a column has, are named `i`.
-fn named_bits(alloc: Global, numbers: &str) -> Result<Ty, Fail> {
-    let mut bits = Vec::new(alloc);
-    for number in numbers_of(alloc, numbers)? {
-        bits.push(NamedBit::new(alloc, "i", u32::try_from(number)?)?)?;
-    }
-    Ok(Ty::named_bits(bits))
-}
-
-// The bits of octets, but the unused ones.
-fn bits(alloc: Global, octets: &str, unused: &str) -> Result<Value, Fail> {
-    let bits = Bits::new(octets_of(alloc, octets)?, unused.parse::<u8>()?);
-    Ok(Value::Bits(bits.ok_or("no bits")?))
-}
-
-// octets | unused bits | fault of a component that has these bits as its default
-const UNTRIMMED: &str = "\
-80 | 7 | none
-80 | 5 | BadDefault
-00 | 7 | BadDefault
-";
-
-struct Untrimmed;
-
-impl Table for Untrimmed {
-    fn holds(&self, alloc: Global, row: &str) -> Result<bool, Fail> {
-        let (octets, others) = two(row)?;
-        let (unused, fault) = two(others)?;
-        let default = bits(alloc, octets, unused)?;
-        let field = Field::default(alloc, "f", named_bits(alloc, "0")?, default)?;
-        has_fault(alloc, Ty::sequence(vec![in alloc; field]?), fault)
-    }
-}
-
-// numbers of the bits | fault
-const NUMBERS: &str = "\
-65535 0   | none
-65536     | TooLarge
-7 0 7     | RepeatedNumber
-65536 0 0 | TooLarge
-          | TooLarge
-0..256    | none
-0..257    | TooLarge
-";
-
-struct NumberFaults;
-
-impl Table for NumberFaults {
-    fn holds(&self, alloc: Global, row: &str) -> Result<bool, Fail> {
-        let (numbers, fault) = two(row)?;
-        has_fault(alloc, named_bits(alloc, numbers)?, fault)
-    }
-}
-
-// octets | unused bits | whether the bits are a value of a BIT STRING with named bits
-const VALUES: &str = "\
-// no octets
-''    | 0 | yes
-A0    | 5 | yes
-A0    | 4 | no
-01    | 0 | yes
-80 00 | 0 | no
-";
-
-struct Conforming;
-
-impl Table for Conforming {
-    fn holds(&self, alloc: Global, row: &str) -> Result<bool, Fail> {
-        let (octets, others) = two(row)?;
-        let (unused, want) = two(others)?;
-        let bits = bits(alloc, octets, unused)?;
-        Ok(conforms(&named_bits(alloc, "0")?, &bits) == is_yes(want)?)
-    }
-}
-
-#[test]
-fn no_untrimmed_default(rt: HostRuntime) -> Result<(), Fail> {
-    check(rt.alloc(), &Untrimmed, UNTRIMMED)
-}
-
-#[test]
-fn numbers(rt: HostRuntime) -> Result<(), Fail> {
-    check(rt.alloc(), &NumberFaults, NUMBERS)
-}
-
-#[test]
-fn values(rt: HostRuntime) -> Result<(), Fail> {
-    check(rt.alloc(), &Conforming, VALUES)
 }

@@ -2,16 +2,15 @@
 //! most 1,048,576 octets, which are this project's own limits (`docs/PROFILE.md`, "Own: limits").
 
 use crate::answers::convert_by;
-use crate::checks::{check_line, check_table};
+use crate::checks::check_table;
 use crate::tables::{TypedTable, check_typed};
-use crate::types_by_name::type_of;
 use convert::{Canonical, Refusal, Rule, WellTyped};
 use std::alloc::Global;
 use std::test::Fail;
 use test_tables::{is_refused, octets_of, two};
 
 // octets | under DER | under CER | text
-const LEVELS: &str = "
+const ROWS: &str = "
 OCTET STRING:
 24 80, 04 01 AA, 00 00                    | 04 01 AA | 04 01 AA | 'AA'H
 24 80*63, 04 01 AA, 00 00*63              | 04 01 AA | 04 01 AA | 'AA'H
@@ -23,19 +22,16 @@ OCTET STRING:
 24 80*64, 24 00, 00 00*64                 | refused 10
 // 65 encodings beside each other in one
 24 80, 24 80 00 00*65, 00 00              | 04 00 | 04 00 | ''H
-";
-
-// octets | under DER | under CER | text; 63 levels, of 127 contents octets down to 3, by themselves and in others
-const DEFINITE_LEVELS: &str = "
+// 63 levels, of 127 contents octets down to 3, by themselves and in others
 OCTET STRING:
 24 7F 24 7D 24 7B 24 79 24 77 24 75 24 73 24 71 24 6F 24 6D 24 6B 24 69 24 67 24 65 24 63 24 61 24 5F 24 5D 24 5B 24 59 24 57 24 55 24 53 24 51 24 4F 24 4D 24 4B 24 49 24 47 24 45 24 43 24 41 24 3F 24 3D 24 3B 24 39 24 37 24 35 24 33 24 31 24 2F 24 2D 24 2B 24 29 24 27 24 25 24 23 24 21 24 1F 24 1D 24 1B 24 19 24 17 24 15 24 13 24 11 24 0F 24 0D 24 0B 24 09 24 07 24 05 24 03 04 01 AA | 04 01 AA | 04 01 AA | 'AA'H
 24 81 81 24 7F 24 7D 24 7B 24 79 24 77 24 75 24 73 24 71 24 6F 24 6D 24 6B 24 69 24 67 24 65 24 63 24 61 24 5F 24 5D 24 5B 24 59 24 57 24 55 24 53 24 51 24 4F 24 4D 24 4B 24 49 24 47 24 45 24 43 24 41 24 3F 24 3D 24 3B 24 39 24 37 24 35 24 33 24 31 24 2F 24 2D 24 2B 24 29 24 27 24 25 24 23 24 21 24 1F 24 1D 24 1B 24 19 24 17 24 15 24 13 24 11 24 0F 24 0D 24 0B 24 09 24 07 24 05 24 03 04 01 AA | 04 01 AA | 04 01 AA | 'AA'H
 24 80 24 81 81 24 7F 24 7D 24 7B 24 79 24 77 24 75 24 73 24 71 24 6F 24 6D 24 6B 24 69 24 67 24 65 24 63 24 61 24 5F 24 5D 24 5B 24 59 24 57 24 55 24 53 24 51 24 4F 24 4D 24 4B 24 49 24 47 24 45 24 43 24 41 24 3F 24 3D 24 3B 24 39 24 37 24 35 24 33 24 31 24 2F 24 2D 24 2B 24 29 24 27 24 25 24 23 24 21 24 1F 24 1D 24 1B 24 19 24 17 24 15 24 13 24 11 24 0F 24 0D 24 0B 24 09 24 07 24 05 24 03 04 01 AA | refused 10
 24 81 84 24 81 81 24 7F 24 7D 24 7B 24 79 24 77 24 75 24 73 24 71 24 6F 24 6D 24 6B 24 69 24 67 24 65 24 63 24 61 24 5F 24 5D 24 5B 24 59 24 57 24 55 24 53 24 51 24 4F 24 4D 24 4B 24 49 24 47 24 45 24 43 24 41 24 3F 24 3D 24 3B 24 39 24 37 24 35 24 33 24 31 24 2F 24 2D 24 2B 24 29 24 27 24 25 24 23 24 21 24 1F 24 1D 24 1B 24 19 24 17 24 15 24 13 24 11 24 0F 24 0D 24 0B 24 09 24 07 24 05 24 03 04 01 AA | refused 10
-";
-
-// octets | under DER | under CER | text
-const LENGTHS: &str = "
+// 64 types around one another, of which the value has one encoding alone
+[0] IMPLICIT [0] IMPLICIT [0] IMPLICIT [0] IMPLICIT [0] IMPLICIT [0] IMPLICIT [0] IMPLICIT [0] IMPLICIT [0] IMPLICIT [0] IMPLICIT [0] IMPLICIT [0] IMPLICIT [0] IMPLICIT [0] IMPLICIT [0] IMPLICIT [0] IMPLICIT [0] IMPLICIT [0] IMPLICIT [0] IMPLICIT [0] IMPLICIT [0] IMPLICIT [0] IMPLICIT [0] IMPLICIT [0] IMPLICIT [0] IMPLICIT [0] IMPLICIT [0] IMPLICIT [0] IMPLICIT [0] IMPLICIT [0] IMPLICIT [0] IMPLICIT [0] IMPLICIT [0] IMPLICIT [0] IMPLICIT [0] IMPLICIT [0] IMPLICIT [0] IMPLICIT [0] IMPLICIT [0] IMPLICIT [0] IMPLICIT [0] IMPLICIT [0] IMPLICIT [0] IMPLICIT [0] IMPLICIT [0] IMPLICIT [0] IMPLICIT [0] IMPLICIT [0] IMPLICIT [0] IMPLICIT [0] IMPLICIT [0] IMPLICIT [0] IMPLICIT [0] IMPLICIT [0] IMPLICIT [0] IMPLICIT [0] IMPLICIT [0] IMPLICIT [0] IMPLICIT [0] IMPLICIT [0] IMPLICIT [0] IMPLICIT [0] IMPLICIT [0] IMPLICIT [0] IMPLICIT NULL:
+80 00 | 80 00 | 80 00 | NULL
+// lengths
 OCTET STRING:
 // 126 digits, of which the first 125 are 00: outside, inside, and both
 04 FE, 00*125, 01 AA                      | 04 01 AA | 04 01 AA | 'AA'H
@@ -60,26 +56,8 @@ OCTET STRING:
 ";
 
 #[test]
-fn levels(rt: HostRuntime) -> Result<(), Fail> {
-    check_table(rt.alloc(), LEVELS)
-}
-
-#[test]
-fn levels_of_definite_lengths(rt: HostRuntime) -> Result<(), Fail> {
-    check_table(rt.alloc(), DEFINITE_LEVELS)
-}
-
-#[test]
-fn levels_of_implicit_tags(rt: HostRuntime) -> Result<(), Fail> {
-    // 64 types around one another, of which the value has one encoding alone
-    let tags = "[0] IMPLICIT ".repeat(rt.alloc(), 64)?;
-    let ty = type_of(rt.alloc(), format!(in rt.alloc(); "{tags}NULL")?.as_str())?;
-    check_line(rt.alloc(), &ty, "80 00 | 80 00 | 80 00 | NULL")
-}
-
-#[test]
-fn lengths(rt: HostRuntime) -> Result<(), Fail> {
-    check_table(rt.alloc(), LENGTHS)
+fn encodings(rt: HostRuntime) -> Result<(), Fail> {
+    check_table(rt.alloc(), ROWS)
 }
 
 // the segment behind 255 of 4,096 octets 41 | what all of them become under DER

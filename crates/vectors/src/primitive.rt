@@ -4,7 +4,7 @@ use crate::checks::check_table;
 use std::test::Fail;
 
 // octets | under DER | under CER | text
-const SIMPLE_TYPES: &str = "
+const ROWS: &str = "
 BOOLEAN:
 01 01 2A                 | 01 01 FF | 01 01 FF | TRUE
 01 01 01                 | 01 01 FF | 01 01 FF | TRUE
@@ -84,10 +84,7 @@ RELATIVE-OID:
 // 128 subidentifiers, and 129
 0D 81 80, 01*128         | kept | kept | 1.1.1.1.1.1.1.1.1.1.1.1.1.1.1.1.1.1.1.1.1.1.1.1.1.1.1.1.1.1.1.1.1.1.1.1.1.1.1.1.1.1.1.1.1.1.1.1.1.1.1.1.1.1.1.1.1.1.1.1.1.1.1.1.1.1.1.1.1.1.1.1.1.1.1.1.1.1.1.1.1.1.1.1.1.1.1.1.1.1.1.1.1.1.1.1.1.1.1.1.1.1.1.1.1.1.1.1.1.1.1.1.1.1.1.1.1.1.1.1.1.1.1.1.1.1.1.1
 0D 81 81, 01*129         | refused 6
-";
-
-// octets | under DER | under CER | text
-const STRINGS: &str = "
+// strings
 BIT STRING:
 03 02 07 FF              | 03 02 07 80    | 03 02 07 80    | '1'B
 03 02 04 FF              | 03 02 04 F0    | 03 02 04 F0    | '1111'B
@@ -142,10 +139,7 @@ BMPString:
 1E 03 00 41 00           | refused 7
 1E 02                    | refused 1
 1E 03                    | refused 7
-";
-
-// octets | under DER | under CER | text
-const TIMES: &str = "
+// times
 GeneralizedTime:
 18 0F, '20240229120000Z'    | kept | kept | \"20240229120000Z\"
 18 0F, '20000229000000Z'    | kept | kept | \"20000229000000Z\"
@@ -160,10 +154,7 @@ UTCTime:
 17 0D, '230229120000Z'      | refused 7
 17 0B, '2402291200Z'        | refused 7
 17 05                       | refused 7
-";
-
-// octets | under DER | under CER | text
-const SIZES: &str = "
+// octet strings by size
 OCTET STRING:
 04 7F, 00*127                    | kept                  | kept                  | '00000000000000000000000000000000000000000000000000000000000000000000000000000000000000000000000000000000000000000000000000000000000000000000000000000000000000000000000000000000000000000000000000000000000000000000000000000000000000000000000000000000000000'H
 04 81 7F, 00*127                 | 04 7F, 00*127         | 04 7F, 00*127         | '00000000000000000000000000000000000000000000000000000000000000000000000000000000000000000000000000000000000000000000000000000000000000000000000000000000000000000000000000000000000000000000000000000000000000000000000000000000000000000000000000000000000000'H
@@ -180,21 +171,6 @@ OCTET STRING:
 ";
 
 #[test]
-fn simple_types(rt: HostRuntime) -> Result<(), Fail> {
-    check_table(rt.alloc(), SIMPLE_TYPES)
-}
-
-#[test]
-fn strings(rt: HostRuntime) -> Result<(), Fail> {
-    check_table(rt.alloc(), STRINGS)
-}
-
-#[test]
-fn times(rt: HostRuntime) -> Result<(), Fail> {
-    check_table(rt.alloc(), TIMES)
-}
-
-#[test]
-fn octet_strings_by_size(rt: HostRuntime) -> Result<(), Fail> {
-    check_table(rt.alloc(), SIZES)
+fn encodings(rt: HostRuntime) -> Result<(), Fail> {
+    check_table(rt.alloc(), ROWS)
 }

@@ -6,7 +6,7 @@ use crate::checks::check_table;
 use std::test::Fail;
 
 // octets | under DER | under CER | text
-const STRINGS: &str = "
+const ROWS: &str = "
 OCTET STRING:
 24 00                                         | 04 00          | 04 00          | ''H
 24 80 00 00                                   | 04 00          | 04 00          | ''H
@@ -76,10 +76,7 @@ BF 1F 04 04 02 4A 6F                          | 9F 1F 02 4A 6F | 9F 1F 02 4A 6F 
 BF 1F 03 04 02 4A 6F                          | refused 4
 [128] OCTET STRING:
 BF 81 00 80 04 01 41 00 00                    | 9F 81 00 01 41 | 9F 81 00 01 41 | '41'H
-";
-
-// octets | under DER | under CER | text
-const TEXTS: &str = "
+// character strings and times
 VisibleString:
 3A 80 00 00                                     | 1A 00          | 1A 00          | \"\"
 3A 09 04 03, 'Jon', 04 02, 'es'                 | 1A 05, 'Jones' | 1A 05, 'Jones' | \"Jones\"
@@ -130,10 +127,7 @@ A0 04 04 02, 'Jo'                               | 80 02, 'Jo' | 80 02, 'Jo' | \"
 A0 04 1A 02, 'Jo'                               | refused 2
 [0] UTCTime:
 A0 80 04 0D, '240229120000Z', 00 00             | 80 0D, '240229120000Z' | 80 0D, '240229120000Z' | \"240229120000Z\"
-";
-
-// octets | under DER | under CER | text
-const ENDS: &str = "
+// ends
 OCTET STRING:
 // in a definite encoding what passes its end is named before what it is, and so is what leaves no room for
 // the end-of-contents octets of an indefinite one in it
@@ -164,16 +158,6 @@ BIT STRING:
 ";
 
 #[test]
-fn strings(rt: HostRuntime) -> Result<(), Fail> {
-    check_table(rt.alloc(), STRINGS)
-}
-
-#[test]
-fn texts(rt: HostRuntime) -> Result<(), Fail> {
-    check_table(rt.alloc(), TEXTS)
-}
-
-#[test]
-fn ends(rt: HostRuntime) -> Result<(), Fail> {
-    check_table(rt.alloc(), ENDS)
+fn encodings(rt: HostRuntime) -> Result<(), Fail> {
+    check_table(rt.alloc(), ROWS)
 }

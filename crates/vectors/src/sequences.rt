@@ -5,7 +5,7 @@ use crate::checks::check_table;
 use std::test::Fail;
 
 // octets | under DER | under CER | text
-const COMPONENTS: &str = "
+const ROWS: &str = "
 SEQUENCE { }:
 30 00                          | kept                       | 30 80 00 00 | { }
 30 80 00 00                    | 30 00 | kept        | { }
@@ -33,10 +33,7 @@ SEQUENCE { a INTEGER OPTIONAL, b BOOLEAN OPTIONAL, c NULL OPTIONAL }:
 7F 28 02 A2 00                 | refused 8
 7F 28 02 A1 00                 | refused 8
 30 04 A1 02 05 00              | refused 2
-";
-
-// octets | under DER | under CER | text
-const DEFAULTS: &str = "
+// defaults
 AUTOMATIC TAGS SEQUENCE { a INTEGER DEFAULT 1, b BOOLEAN }:
 30 03 81 01 FF                 | kept | 30 80 81 01 FF 00 00 | { b TRUE }
 30 06 80 01 01 81 01 FF        | 30 03 81 01 FF             | 30 80 81 01 FF 00 00 | { b TRUE }
@@ -85,10 +82,7 @@ SEQUENCE { a INTEGER, b BOOLEAN OPTIONAL, c [0] INTEGER DEFAULT 5 }:
 30 80 00 00                    | refused 8
 30 03 01 01 FF                 | refused 8
 30 83 0F FF FC                 | refused 11
-";
-
-// octets | under DER | under CER | text
-const ITEMS: &str = "
+// items
 SEQUENCE OF NULL:
 30 04 05 00 05 00              | kept        | 30 80 05 00 05 00 00 00 | { NULL, NULL }
 30 80 05 81 00 00 00           | 30 02 05 00 | 30 80 05 00 00 00       | { NULL }
@@ -139,10 +133,7 @@ SEQUENCE OF SEQUENCE { a INTEGER OPTIONAL, b CHOICE { c NULL, d SEQUENCE OF BOOL
 30 80 30 80 30 80 01 01 01 00 00 00 00 00 00 | 30 07 30 05 30 03 01 01 FF | 30 80 30 80 30 80 01 01 FF 00 00 00 00 00 00 | { { b d : { TRUE } } }
 30 04 30 02 30 00              | kept                       | 30 80 30 80 30 80 00 00 00 00 00 00          | { { b d : { } } }
 30 05 30 03 02 01 07           | refused 8
-";
-
-// octets | under DER | under CER | text
-const CHOICES_AND_TAGS: &str = "
+// choices and explicit tags
 CHOICE { x [0] NULL, y [1] BOOLEAN }:
 80 00                          | kept     | 80 00    | x : NULL
 81 01 01                       | 81 01 FF | 81 01 FF | y : TRUE
@@ -184,21 +175,6 @@ A0 02 05 00                    | refused 2
 ";
 
 #[test]
-fn components(rt: HostRuntime) -> Result<(), Fail> {
-    check_table(rt.alloc(), COMPONENTS)
-}
-
-#[test]
-fn defaults(rt: HostRuntime) -> Result<(), Fail> {
-    check_table(rt.alloc(), DEFAULTS)
-}
-
-#[test]
-fn items(rt: HostRuntime) -> Result<(), Fail> {
-    check_table(rt.alloc(), ITEMS)
-}
-
-#[test]
-fn choices_and_tags(rt: HostRuntime) -> Result<(), Fail> {
-    check_table(rt.alloc(), CHOICES_AND_TAGS)
+fn encodings(rt: HostRuntime) -> Result<(), Fail> {
+    check_table(rt.alloc(), ROWS)
 }

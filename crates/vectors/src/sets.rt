@@ -4,7 +4,7 @@ use crate::checks::check_table;
 use std::test::Fail;
 
 // octets | under DER | under CER | text
-const COMPONENTS: &str = "
+const ROWS: &str = "
 SET { a INTEGER, b BOOLEAN }:
 31 06 01 01 FF 02 01 05        | kept                    | 31 80 01 01 FF 02 01 05 00 00 | { a 5, b TRUE }
 31 06 02 01 05 01 01 01        | 31 06 01 01 FF 02 01 05 | 31 80 01 01 FF 02 01 05 00 00 | { a 5, b TRUE }
@@ -52,10 +52,7 @@ SET { a INTEGER, b BOOLEAN OPTIONAL, c [0] INTEGER DEFAULT 5 }:
 31 00                          | refused 8
 31 03 01 01 FF                 | refused 8
 31 06 02 01 07 02 01 07        | refused 9
-";
-
-// octets | under DER | under CER | text
-const ITEMS: &str = "
+// items
 SET OF INTEGER:
 31 09 02 01 05 02 01 03 02 01 05 | 31 09 02 01 03 02 01 05 02 01 05 | 31 80 02 01 03 02 01 05 02 01 05 00 00 | { 3, 5, 5 }
 31 80 02 01 05 02 01 03 02 01 05 00 00 | 31 09 02 01 03 02 01 05 02 01 05 | 31 80 02 01 03 02 01 05 02 01 05 00 00 | { 3, 5, 5 }
@@ -90,11 +87,6 @@ SET OF SEQUENCE { a INTEGER DEFAULT 0, b NULL OPTIONAL }:
 ";
 
 #[test]
-fn components(rt: HostRuntime) -> Result<(), Fail> {
-    check_table(rt.alloc(), COMPONENTS)
-}
-
-#[test]
-fn items(rt: HostRuntime) -> Result<(), Fail> {
-    check_table(rt.alloc(), ITEMS)
+fn encodings(rt: HostRuntime) -> Result<(), Fail> {
+    check_table(rt.alloc(), ROWS)
 }

@@ -38,10 +38,7 @@ SET { a [0] INTEGER, b [1] BOOLEAN }:
 31 03 81 01; FF; 00 | More; 8; 8; 8
 OCTET STRING:
 24 80 04; 02 41; 42 24 80 00 00; 00 00 04 01 41 | More; More; More; Done 2 '4142'H; Ok
-";
-
-// Before a refusal More is returned for a piece of no octets, wherever in a value it comes.
-const EMPTY_PIECES: &str = "
+// before a refusal More is returned for a piece of no octets, wherever in a value it comes
 BOOLEAN:
 ; 01 01; ; FF | More; More; More; Done 1 TRUE; Ok
  | More; Ok
@@ -154,9 +151,4 @@ impl TypedTable for ToPieces {
 #[test]
 fn answers(rt: HostRuntime) -> Result<(), Fail> {
     check_typed(rt.alloc(), &ToPieces, ANSWERS)
-}
-
-#[test]
-fn answers_to_empty_pieces(rt: HostRuntime) -> Result<(), Fail> {
-    check_typed(rt.alloc(), &ToPieces, EMPTY_PIECES)
 }

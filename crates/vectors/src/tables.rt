@@ -1,9 +1,9 @@
-//! Tables whose rows stand below types, and the faults of types.
+//! Tables whose rows stand below types.
 //!
 //! A line that ends with a colon is the type of the rows below it.
 
 use crate::types_by_name::type_of;
-use convert::{Ty, WellTyped};
+use convert::WellTyped;
 use std::alloc::Global;
 use std::test::Fail;
 use test_tables::{is_row, not_so, rows_of};
@@ -36,12 +36,4 @@ fn check_line<T: TypedTable>(
         return Ok(());
     }
     Err(not_so(line))
-}
-
-/// Whether a type has the fault that a column names, or none where it says `none`.
-pub fn has_fault(alloc: Global, ty: Ty, column: &str) -> Result<bool, Fail> {
-    match WellTyped::new(ty) {
-        Ok(_) => Ok(column == "none"),
-        Err(fault) => Ok(format!(in alloc; "{fault:?}")?.as_str() == column),
-    }
 }

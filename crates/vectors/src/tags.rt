@@ -1,15 +1,10 @@
 //! Types under tags other than the universal ones (X.680 8, X.690 8.14).
 
 use crate::checks::check_table;
-use crate::tables::has_fault;
-use crate::types_by_name::type_of;
-use convert::{Class, Tag, Ty, Value, conforms};
-use std::alloc::Global;
 use std::test::Fail;
-use test_tables::{Table, check, two};
 
 // octets | under DER | under CER | text
-const OTHER_TAGS: &str = "
+const ROWS: &str = "
 [30] NULL:
 9E 00                    | kept | kept | NULL
 // another class, another number, more identifier octets than needed, constructed, and end of contents
@@ -43,10 +38,7 @@ EXPLICIT TAGS [APPLICATION 31] IMPLICIT NULL:
 9F 81 00 00              | kept | kept | NULL
 [PRIVATE 268435455] NULL:
 DF FF FF FF 7F 81 00     | DF FF FF FF 7F 00 | DF FF FF FF 7F 00 | NULL
-";
-
-// octets | under DER | under CER | text
-const WRITTEN_AND_AUTOMATIC: &str = "
+// written and automatic tags
 M DEFINITIONS ::= BEGIN T ::= [1] NULL END:
 A1 02 05 00              | kept | A1 80 05 00 00 00 | NULL
 81 00                    | refused 3
@@ -68,54 +60,6 @@ A1 02 05 00              | kept | A1 80 05 00 00 00 | a : NULL
 ";
 
 #[test]
-fn written_and_automatic_tags(rt: HostRuntime) -> Result<(), Fail> {
-    check_table(rt.alloc(), WRITTEN_AND_AUTOMATIC)
-}
-
-#[test]
-fn other_tags(rt: HostRuntime) -> Result<(), Fail> {
-    check_table(rt.alloc(), OTHER_TAGS)
-}
-
-// class and number of a tag | fault
-const TAGS: &str = "\
-UNIVERSAL 0       | TagsNotDistinct
-UNIVERSAL 1       | none
-CONTEXT 0         | none
-PRIVATE 268435455 | none
-PRIVATE 268435456 | TooLarge
-";
-
-struct Tags;
-
-impl Table for Tags {
-    fn holds(&self, alloc: Global, row: &str) -> Result<bool, Fail> {
-        let (tag, fault) = two(row)?;
-        has_fault(alloc, Ty::Boolean(tag_of(tag)?), fault)
-    }
-}
-
-fn tag_of(column: &str) -> Result<Tag, Fail> {
-    let (class, number) = column.split_once(' ').ok_or("no number")?;
-    let class = match class {
-        "UNIVERSAL" => Class::Universal,
-        "CONTEXT" => Class::Context,
-        "PRIVATE" => Class::Private,
-        _ => return Err("another class".into()),
-    };
-    let number = number.parse::<u32>()?;
-    Ok(Tag { class, number })
-}
-
-#[test]
-fn tags_of_no_type(rt: HostRuntime) -> Result<(), Fail> {
-    check(rt.alloc(), &Tags, TAGS)
-}
-
-#[test]
-fn value_under_another_tag(rt: HostRuntime) -> Result<(), Fail> {
-    let ty = type_of(rt.alloc(), "[PRIVATE 0] INTEGER")?;
-    assert!(rt; conforms(ty.as_type(), &Value::Integer(-1)));
-    assert!(rt; !conforms(ty.as_type(), &Value::Null));
-    Ok(())
+fn encodings(rt: HostRuntime) -> Result<(), Fail> {
+    check_table(rt.alloc(), ROWS)
 }

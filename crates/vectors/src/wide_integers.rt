@@ -1,11 +1,7 @@
 //! INTEGER past 128 bits (X.690 8.3), to 1,024 contents octets.
 
 use crate::checks::check_table;
-use crate::tables::has_fault;
-use convert::{Field, Ty, Value, conforms};
-use std::alloc::Global;
 use std::test::Fail;
-use test_tables::{Table, check, is_yes, octets_of, two};
 
 // octets | under DER | under CER | text
 const ROWS: &str = "
@@ -37,50 +33,4 @@ SET OF INTEGER:
 #[test]
 fn encodings(rt: HostRuntime) -> Result<(), Fail> {
     check_table(rt.alloc(), ROWS)
-}
-
-// contents octets | whether they are a value
-const VALUES: &str = "\
-00 80, 00*15    | yes
-FF 7F, FF*15    | yes
-80 00, 00*14    | no
-00 7F, FF*15    | no
-01 00, 00*1022  | yes
-01 00, 00*1023  | no
-";
-
-struct Conforming;
-
-impl Table for Conforming {
-    fn holds(&self, alloc: Global, row: &str) -> Result<bool, Fail> {
-        let (octets, want) = two(row)?;
-        let value = Value::WideInteger(octets_of(alloc, octets)?);
-        Ok(conforms(&Ty::integer(), &value) == is_yes(want)?)
-    }
-}
-
-#[test]
-fn values(rt: HostRuntime) -> Result<(), Fail> {
-    check(rt.alloc(), &Conforming, VALUES)
-}
-
-// contents octets of a default | fault
-const DEFAULTS: &str = "\
-00 80, 00*15   | BadDefault
-";
-
-struct Defaults;
-
-impl Table for Defaults {
-    fn holds(&self, alloc: Global, row: &str) -> Result<bool, Fail> {
-        let (octets, fault) = two(row)?;
-        let value = Value::WideInteger(octets_of(alloc, octets)?);
-        let field = Field::default(alloc, "a", Ty::integer(), value)?;
-        has_fault(alloc, Ty::sequence(vec![in alloc; field]?), fault)
-    }
-}
-
-#[test]
-fn no_default(rt: HostRuntime) -> Result<(), Fail> {
-    check(rt.alloc(), &Defaults, DEFAULTS)
 }

@@ -47,7 +47,7 @@ impl Table for Parts {
 }
 
 // type | the tags of the parts that come, each with its value | whether the form is definite | the value or the refusal
-const SEQUENCES: &str = "\
+const PARTS: &str = "\
 SEQUENCE{ } | none | yes | fields( )
 SEQUENCE{ } | 0=5 | yes | refused 2
 SEQUENCE{ } | UNIVERSAL.0=7 | yes | refused 2
@@ -64,15 +64,7 @@ SEQUENCE{ [0]INTEGER? [1]INTEGER? [2]INTEGER } | 1=5 0=5 | yes | refused 2
 SEQUENCE{ [0]INTEGER [1]INTEGER? } | 0=5 UNIVERSAL.0=7 | yes | refused 5
 SEQUENCE{ [0]INTEGER=5 [1]INTEGER=5 [2]INTEGER? } | 0=5 1=7 | yes | fields( - 7 - )
 SEQUENCE{ [0]INTEGER=5 [1]INTEGER=5 [2]INTEGER? } | none | yes | fields( - - - )
-SEQUENCE{ [0]INTEGER [1]INTEGER? [2]INTEGER=5 } | 0=7 2=7 | yes | fields( 7 - 7 )";
-
-#[test]
-fn sequences(rt: HostRuntime) -> Result<(), Fail> {
-    check(rt.alloc(), &Parts, SEQUENCES)
-}
-
-// type | the tags of the parts that come, each with its value | whether the form is definite | the value or the refusal
-const SETS: &str = "\
+SEQUENCE{ [0]INTEGER [1]INTEGER? [2]INTEGER=5 } | 0=7 2=7 | yes | fields( 7 - 7 )
 SET{ } | none | yes | fields( )
 SET{ } | 0=5 | yes | refused 2
 SET{ } | UNIVERSAL.0=7 | yes | refused 2
@@ -86,15 +78,8 @@ SET{ [0]INTEGER [1]INTEGER } | 1=5 0=5 UNIVERSAL.0=7 | yes | refused 2
 SET{ [0]INTEGER [1]INTEGER [2]INTEGER } | 1=7 0=5 2=7 | yes | fields( 5 7 7 )
 SET{ [0]INTEGER? [1]INTEGER=5 [2]INTEGER } | 2=5 | yes | fields( - - 5 )
 SET{ [0]INTEGER? [1]INTEGER=5 [2]INTEGER } | 1=5 1=5 | yes | refused 9
-SET{ [0]INTEGER? [1]INTEGER=5 [2]INTEGER } | 1=7 2=5 | yes | fields( - 7 5 )";
-
-#[test]
-fn sets(rt: HostRuntime) -> Result<(), Fail> {
-    check(rt.alloc(), &Parts, SETS)
-}
-
-// type | the tags of the parts that come, each with its value | whether the form is definite | the value or the refusal
-const OTHERS: &str = "\
+SET{ [0]INTEGER? [1]INTEGER=5 [2]INTEGER } | 1=7 2=5 | yes | fields( - 7 5 )
+// items and explicit tags
 SET-OF{ [1]INTEGER } | none | no | items( )
 SET-OF{ [1]INTEGER } | 1=7 1=5 1=7 | no | items( 7 5 7 )
 SET-OF{ [1]INTEGER } | 1=5 0=5 | no | refused 2
@@ -108,6 +93,6 @@ SET-OF{ [1]INTEGER } | 1=5 UNIVERSAL.0=7 | no | refused 5
 [30]{ [1]INTEGER } | 1=5 UNIVERSAL.0=7 | yes | refused 2";
 
 #[test]
-fn items_and_explicit_tags(rt: HostRuntime) -> Result<(), Fail> {
-    check(rt.alloc(), &Parts, OTHERS)
+fn held_parts(rt: HostRuntime) -> Result<(), Fail> {
+    check(rt.alloc(), &Parts, PARTS)
 }

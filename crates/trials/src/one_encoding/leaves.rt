@@ -108,20 +108,13 @@ OCTETS  | 24 02 04 01 41 | 1 20 5 | refused 4
 OCTETS  | 1F 81 00       | 1 6 5  | refused 11
 BOOLEAN | 01 05          | 0 6 5  | refused 11
 BOOLEAN | 01 05          | 0 7 5  | refused 6
-BOOLEAN | 21 00          | 0 8 5  | refused 3";
-
-#[test]
-fn parts(rt: HostRuntime) -> Result<(), Fail> {
-    check(rt.alloc(), &OfOctets(Leaf), PARTS)
-}
-
-// type | octets | levels, end, and octets before | how many octets the part has and its value, or the refusal
-const SEGMENTS: &str = "\
+BOOLEAN | 21 00          | 0 8 5  | refused 3
+// joined segments
 OCTETS  | 24 80 04 01 41 04 01 42 00 00 | 64 1048576 0 | 10 octets:4142
 BITS    | 23 09 03 03 00 AA BB 03 02 04 F0 | 64 1048576 0 | 11 bits:AABBF0/4
 VisibleString | 3A 06 04 01 4A 04 01 6F | 64 1048576 0 | 8 text:'Jo'";
 
 #[test]
-fn joined_segments(rt: HostRuntime) -> Result<(), Fail> {
-    check(rt.alloc(), &OfOctets(Leaf), SEGMENTS)
+fn parts(rt: HostRuntime) -> Result<(), Fail> {
+    check(rt.alloc(), &OfOctets(Leaf), PARTS)
 }

@@ -21,7 +21,7 @@ impl ValuesTable for Conforming {
 }
 
 // type | value | whether it is one of the type
-const WITH_PARTS: &str = "\
+const VALUES: &str = "\
 SEQUENCE{ INTEGER=1 BOOLEAN } | fields( - TRUE ) | yes
 SEQUENCE{ INTEGER=1 BOOLEAN } | fields( 2 TRUE ) | yes
 SEQUENCE{ INTEGER=1 BOOLEAN } | fields( 1 TRUE ) | no
@@ -44,18 +44,18 @@ CHOICE{ NULL BOOLEAN } | NULL | no
 SET-OF{ INTEGER } | items( ) | yes
 SET-OF{ INTEGER } | items( 2 1 2 ) | yes
 SET-OF{ INTEGER } | items( 2 TRUE ) | no
-SET-OF{ INTEGER } | items( TRUE 2 ) | no";
-
-#[test]
-fn values_with_parts(rt: HostRuntime) -> Result<(), Fail> {
-    check(rt.alloc(), &OfValues(Conforming), WITH_PARTS)
-}
-
-// type | value | whether it is one of the type
-const WITHOUT_PARTS: &str = "\
+SET-OF{ INTEGER } | items( TRUE 2 ) | no
 INTEGER | -170141183460469231731687303715884105728 | yes
 INTEGER | 170141183460469231731687303715884105727 | yes
 INTEGER | enum:1 | no
+INTEGER | wide:0080,00*15 | yes
+INTEGER | wide:FF7F,FF*15 | yes
+INTEGER | wide:8000,00*14 | no
+INTEGER | wide:007F,FF*15 | no
+INTEGER | wide:0100,00*1022 | yes
+INTEGER | wide:0100,00*1023 | no
+[PRIVATE.0]INTEGER | -1 | yes
+[PRIVATE.0]INTEGER | NULL | no
 ENUMERATED(1,3) | enum:1 | yes
 ENUMERATED(1,3) | enum:3 | yes
 ENUMERATED(1,3) | enum:0 | no
@@ -66,22 +66,43 @@ OCTETS | octets:FF | yes
 OCTETS | text:41 | no
 BITS | bits:FE/1 | yes
 BITS | octets:FE | no
+NAMED-BITS(0) | bits:''/0 | yes
+NAMED-BITS(0) | bits:A0/5 | yes
+NAMED-BITS(0) | bits:A0/4 | no
+NAMED-BITS(0) | bits:01/0 | yes
+NAMED-BITS(0) | bits:8000/0 | no
+OID | oid:0.0 | yes
 OID | oid:1.39 | yes
 OID | oid:2.40 | yes
+OID | oid:2.999.3 | yes
 OID | oid:2.340282366920938463463374607431768211375 | yes
+OID | oid:1.2.340282366920938463463374607431768211455 | yes
+OID | oid:1*128 | yes
 OID | oid:1*129 | yes
 OID | oid:1.40 | no
 OID | oid:3.0 | no
 OID | oid:2 | no
 OID | oid:none | no
 OID | oid:2.340282366920938463463374607431768211376 | no
+OID | oid:340282366920938463463374607431768211455 | no
 OID | oid:1*130 | no
 OID | relative:1.39 | no
 RELATIVE-OID | relative:0 | yes
+RELATIVE-OID | relative:1.39 | yes
+RELATIVE-OID | relative:1.40 | yes
+RELATIVE-OID | relative:0.0 | yes
+RELATIVE-OID | relative:2.40 | yes
+RELATIVE-OID | relative:2.999.3 | yes
+RELATIVE-OID | relative:3.0 | yes
+RELATIVE-OID | relative:2 | yes
+RELATIVE-OID | relative:2.340282366920938463463374607431768211375 | yes
+RELATIVE-OID | relative:2.340282366920938463463374607431768211376 | yes
+RELATIVE-OID | relative:1.2.340282366920938463463374607431768211455 | yes
 RELATIVE-OID | relative:340282366920938463463374607431768211455 | yes
 RELATIVE-OID | relative:1*128 | yes
 RELATIVE-OID | relative:none | no
 RELATIVE-OID | relative:1*129 | no
+RELATIVE-OID | relative:1*130 | no
 NULL | TRUE | no
 NumericString | text:3120 | yes
 NumericString | text:'-' | no
@@ -112,6 +133,6 @@ UTCTime | text:'230229120000Z' | no
 UTCTime | text:'20240229120000Z' | no";
 
 #[test]
-fn values_without_parts(rt: HostRuntime) -> Result<(), Fail> {
-    check(rt.alloc(), &OfValues(Conforming), WITHOUT_PARTS)
+fn values(rt: HostRuntime) -> Result<(), Fail> {
+    check(rt.alloc(), &OfValues(Conforming), VALUES)
 }

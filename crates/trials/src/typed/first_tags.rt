@@ -7,7 +7,7 @@ use std::test::Fail;
 use test_tables::{Table, check, prints, two};
 
 // type | fault
-const RUNS: &str = "\
+const TAGS: &str = "\
 SEQUENCE{ } | none
 SEQUENCE{ INTEGER INTEGER } | none
 SEQUENCE{ INTEGER INTEGER? } | none
@@ -17,10 +17,8 @@ SEQUENCE{ NULL? BOOLEAN? NULL? } | TagsNotDistinct
 SEQUENCE{ NULL? BOOLEAN NULL? } | none
 SEQUENCE{ NULL BOOLEAN NULL } | none
 SEQUENCE{ INTEGER? CHOICE{ NULL INTEGER } } | TagsNotDistinct
-SEQUENCE{ CHOICE{ BOOLEAN CHOICE{ NULL } }? NULL? } | TagsNotDistinct";
-
-// type | fault. The tags behind an explicit tag, and those of components, do not count
-const PARTS: &str = "\
+SEQUENCE{ CHOICE{ BOOLEAN CHOICE{ NULL } }? NULL? } | TagsNotDistinct
+// the tags behind an explicit tag, and those of components, do not count
 SET{ NULL BOOLEAN NULL } | TagsNotDistinct
 SET{ CHOICE{ NULL BOOLEAN } INTEGER } | none
 SET{ CHOICE{ NULL BOOLEAN } BOOLEAN } | TagsNotDistinct
@@ -31,11 +29,10 @@ CHOICE{ NULL CHOICE{ BOOLEAN [3]NULL } } | none
 CHOICE{ NULL CHOICE{ NULL } } | TagsNotDistinct
 CHOICE{ CHOICE{ BOOLEAN NULL } CHOICE{ INTEGER BOOLEAN } } | TagsNotDistinct
 SEQUENCE-OF{ CHOICE{ NULL NULL } } | TagsNotDistinct
-SET-OF{ [1]{ SET{ NULL NULL? } } } | TagsNotDistinct";
-
-// type | fault
-const UNIVERSAL_0: &str = "\
+SET-OF{ [1]{ SET{ NULL NULL? } } } | TagsNotDistinct
+// universal 0
 [UNIVERSAL.0]NULL | TagsNotDistinct
+[UNIVERSAL.0]BOOLEAN | TagsNotDistinct
 SEQUENCE-OF{ [UNIVERSAL.0]NULL } | TagsNotDistinct
 [UNIVERSAL.0]{ NULL } | TagsNotDistinct
 SEQUENCE-OF{ [UNIVERSAL.0]{ NULL } } | TagsNotDistinct
@@ -45,9 +42,7 @@ SEQUENCE-OF{ [UNIVERSAL.0]{ NULL } } | TagsNotDistinct
 
 #[test]
 fn tags_that_must_differ(rt: HostRuntime) -> Result<(), Fail> {
-    check(rt.alloc(), &Faults, RUNS)?;
-    check(rt.alloc(), &Faults, PARTS)?;
-    check(rt.alloc(), &Faults, UNIVERSAL_0)
+    check(rt.alloc(), &Faults, TAGS)
 }
 
 // type | the tag that each encoding begins with

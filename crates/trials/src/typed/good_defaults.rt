@@ -23,6 +23,11 @@ SEQUENCE{ SEQUENCE{ }=fields(_) } | BadDefault
 SEQUENCE{ PrintableString=text:612A } | BadDefault
 SEQUENCE{ ENUMERATED(1)=enum:2 } | BadDefault
 SEQUENCE{ INTEGER=TRUE } | BadDefault
+// of a type with named bits the last bit is 1, and past 128 bits no INTEGER is a default
+SEQUENCE{ NAMED-BITS(0)=bits:80/7 } | none
+SEQUENCE{ NAMED-BITS(0)=bits:80/5 } | BadDefault
+SEQUENCE{ NAMED-BITS(0)=bits:00/7 } | BadDefault
+SEQUENCE{ INTEGER=wide:0080000000000000000000000000000000 } | BadDefault
 SET-OF{ SET{ [0]{ INTEGER }=TRUE } } | BadDefault";
 
 #[test]

@@ -5,10 +5,10 @@ use octets::{Class, Tag};
 use std::alloc::Global;
 use std::test::Fail;
 use test_tables::{Table, check, two};
-use types::{Alternative, Item, Ty};
+use types::{Alternative, Item, NamedBit, Ty};
 
 // type | fault
-const LEVELS: &str = "\
+const LIMITS: &str = "\
 [0]{*60 OCTETS }*60 | none
 [0]{*61 OCTETS }*61 | TooLarge
 [0]{*59 SEQUENCE{ } }*59 | none
@@ -16,16 +16,9 @@ const LEVELS: &str = "\
 [0]{*60 SET{ } }*60 | TooLarge
 [0]{*59 SEQUENCE-OF{ NULL } }*59 | none
 [0]{*60 SEQUENCE-OF{ NULL } }*60 | TooLarge
-[0]{*60 CHOICE{ CHOICE{ NULL } } }*60 | none";
-
-#[test]
-fn levels(rt: HostRuntime) -> Result<(), Fail> {
-    check(rt.alloc(), &Faults, LEVELS)
-}
-
-// type | fault: of 4,095, 4,096 and 4,097 nodes, of which 3,858 are those of a SEQUENCE, of 15 parts and of the last
-// part's SEQUENCE OF SEQUENCE
-const NODES: &str = "\
+[0]{*60 CHOICE{ CHOICE{ NULL } } }*60 | none
+// of 4,095, 4,096 and 4,097 nodes, of which 3,858 are those of a SEQUENCE, of 15 parts and of the last part's SEQUENCE
+// OF SEQUENCE
 SEQUENCE{ \
     SEQUENCE{ NULL*256 } SEQUENCE{ NULL*256 } SEQUENCE{ NULL*256 } SEQUENCE{ NULL*256 } SEQUENCE{ NULL*256 } \
     SEQUENCE{ NULL*256 } SEQUENCE{ NULL*256 } SEQUENCE{ NULL*256 } SEQUENCE{ NULL*256 } SEQUENCE{ NULL*256 } \
@@ -40,44 +33,42 @@ SEQUENCE{ \
     SEQUENCE{ NULL*256 } SEQUENCE{ NULL*256 } SEQUENCE{ NULL*256 } SEQUENCE{ NULL*256 } SEQUENCE{ NULL*256 } \
     SEQUENCE{ NULL*256 } SEQUENCE{ NULL*256 } SEQUENCE{ NULL*256 } SEQUENCE{ NULL*256 } SEQUENCE{ NULL*256 } \
     SEQUENCE{ NULL*256 } SEQUENCE{ NULL*256 } SEQUENCE{ NULL*256 } SEQUENCE{ NULL*256 } SEQUENCE{ NULL*256 } \
-    SEQUENCE-OF{ SEQUENCE{ NULL*239 } } } | TooLarge";
-
-#[test]
-fn nodes(rt: HostRuntime) -> Result<(), Fail> {
-    check(rt.alloc(), &Faults, NODES)
-}
-
-// type | fault
-const COMPONENTS: &str = "\
+    SEQUENCE-OF{ SEQUENCE{ NULL*239 } } } | TooLarge
+// components
 SEQUENCE{ } | none
 SEQUENCE{ NULL } | none
 SEQUENCE{ NULL*256 } | none
 SEQUENCE{ NULL*257 } | TooLarge
-SET{ NULL*257 } | TooLarge";
-
-#[test]
-fn components(rt: HostRuntime) -> Result<(), Fail> {
-    check(rt.alloc(), &Faults, COMPONENTS)
-}
-
-// type | fault; of the last two, which of several faults is named
-const NUMBERS: &str = "\
+SET{ NULL*257 } | TooLarge
+// numbers of tags, items and named bits; of two rows at CHOICE, which of several faults is named
 [268435455]NULL | none
 [268435456]NULL | TooLarge
 SEQUENCE-OF{ [268435456]NULL } | TooLarge
+[UNIVERSAL.1]BOOLEAN | none
+[0]BOOLEAN | none
+[PRIVATE.268435455]BOOLEAN | none
+[PRIVATE.268435456]BOOLEAN | TooLarge
 [268435455]{ NULL } | none
 [268435456]{ NULL } | TooLarge
 SEQUENCE{ [268435456]{ NULL } } | TooLarge
+ENUMERATED(0) | none
 ENUMERATED(1,2,0) | none
+ENUMERATED(2,1,0) | none
+ENUMERATED(0,1,2,3,4,5,6,7,8,9,10,11,12,13,14,15,16,17,18,19,20,21,22,23,24,25,26,27,28,29,30,31,32,33,34,35,36,37,38,39,40,41,42,43,44,45,46,47,48,49,50,51,52,53,54,55,56,57,58,59,60,61,62,63,64,65,66,67,68,69,70,71,72,73,74,75,76,77,78,79,80,81,82,83,84,85,86,87,88,89,90,91,92,93,94,95,96,97,98,99,100,101,102,103,104,105,106,107,108,109,110,111,112,113,114,115,116,117,118,119,120,121,122,123,124,125,126,127,128,129,130,131,132,133,134,135,136,137,138,139,140,141,142,143,144,145,146,147,148,149,150,151,152,153,154,155,156,157,158,159,160,161,162,163,164,165,166,167,168,169,170,171,172,173,174,175,176,177,178,179,180,181,182,183,184,185,186,187,188,189,190,191,192,193,194,195,196,197,198,199,200,201,202,203,204,205,206,207,208,209,210,211,212,213,214,215,216,217,218,219,220,221,222,223,224,225,226,227,228,229,230,231,232,233,234,235,236,237,238,239,240,241,242,243,244,245,246,247,248,249,250,251,252,253,254,255) | none
+ENUMERATED(0,1,2,3,4,5,6,7,8,9,10,11,12,13,14,15,16,17,18,19,20,21,22,23,24,25,26,27,28,29,30,31,32,33,34,35,36,37,38,39,40,41,42,43,44,45,46,47,48,49,50,51,52,53,54,55,56,57,58,59,60,61,62,63,64,65,66,67,68,69,70,71,72,73,74,75,76,77,78,79,80,81,82,83,84,85,86,87,88,89,90,91,92,93,94,95,96,97,98,99,100,101,102,103,104,105,106,107,108,109,110,111,112,113,114,115,116,117,118,119,120,121,122,123,124,125,126,127,128,129,130,131,132,133,134,135,136,137,138,139,140,141,142,143,144,145,146,147,148,149,150,151,152,153,154,155,156,157,158,159,160,161,162,163,164,165,166,167,168,169,170,171,172,173,174,175,176,177,178,179,180,181,182,183,184,185,186,187,188,189,190,191,192,193,194,195,196,197,198,199,200,201,202,203,204,205,206,207,208,209,210,211,212,213,214,215,216,217,218,219,220,221,222,223,224,225,226,227,228,229,230,231,232,233,234,235,236,237,238,239,240,241,242,243,244,245,246,247,248,249,250,251,252,253,254,255,256) | TooLarge
 ENUMERATED(1,2,1) | RepeatedNumber
 ENUMERATED(1,1) | RepeatedNumber
 SEQUENCE-OF{ ENUMERATED(-1,3,-1) } | RepeatedNumber
+NAMED-BITS(65535,0) | none
+NAMED-BITS(65536) | TooLarge
+NAMED-BITS(7,0,7) | RepeatedNumber
+NAMED-BITS(65536,0,0) | TooLarge
 CHOICE{ ENUMERATED(1,1) BOOLEAN BOOLEAN } | RepeatedNumber
 CHOICE{ ENUMERATED(1,1) [268435456]NULL } | TooLarge";
 
 #[test]
-fn numbers_of_tags_and_items(rt: HostRuntime) -> Result<(), Fail> {
-    check(rt.alloc(), &Faults, NUMBERS)
+fn limits(rt: HostRuntime) -> Result<(), Fail> {
+    check(rt.alloc(), &Faults, LIMITS)
 }
 
 // So many alternatives `[0] NULL`, `[1] NULL` and so on.
@@ -91,6 +82,15 @@ fn alternatives(alloc: Global, count: u32) -> Result<Vec<Alternative>, Fail> {
     Ok(alternatives)
 }
 
+// So many named bits, the least number first.
+fn named_bits(alloc: Global, count: u32) -> Result<Vec<NamedBit>, Fail> {
+    let mut bits = Vec::new(alloc);
+    for number in 0..count {
+        bits.push(NamedBit::new(alloc, "a", number)?)?;
+    }
+    Ok(bits)
+}
+
 // So many items, the greatest number first.
 fn items(alloc: Global, count: u32) -> Result<Vec<Item>, Fail> {
     let mut items = Vec::new(alloc);
@@ -100,7 +100,7 @@ fn items(alloc: Global, count: u32) -> Result<Vec<Item>, Fail> {
     Ok(items)
 }
 
-// how many | fault of a CHOICE of so many, within a SEQUENCE OF, and of an ENUMERATED of so many
+// how many | fault of a CHOICE of so many, within a SEQUENCE OF, of an ENUMERATED and of a BIT STRING of so many
 const LISTS: &str = "\
 0   | TooLarge
 1   | none
@@ -113,13 +113,15 @@ impl Table for Lists {
     fn holds(&self, alloc: Global, row: &str) -> Result<bool, Fail> {
         let (count, want) = two(row)?;
         let count = count.parse::<u32>()?;
-        let choice = Ty::sequence_of(alloc, Ty::choice(alternatives(alloc, count)?))?;
-        let enumerated = Ty::enumerated(items(alloc, count)?);
-        Ok(fault_of(choice) == want && fault_of(enumerated) == want)
+        let choice = Ty::choice(alternatives(alloc, count)?);
+        let choice = fault_of(Ty::sequence_of(alloc, choice)?);
+        let enumerated = fault_of(Ty::enumerated(items(alloc, count)?));
+        let bits = fault_of(Ty::named_bits(named_bits(alloc, count)?));
+        Ok(choice == want && enumerated == want && bits == want)
     }
 }
 
 #[test]
-fn alternatives_and_items(rt: HostRuntime) -> Result<(), Fail> {
+fn alternatives_items_and_named_bits(rt: HostRuntime) -> Result<(), Fail> {
     check(rt.alloc(), &Lists, LISTS)
 }
