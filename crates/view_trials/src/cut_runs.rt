@@ -7,7 +7,7 @@ use std::alloc::Global;
 use std::cell::RefCell;
 use std::test::Fail;
 use test_tables::{Table, check, four, lines_of, two};
-use view::run;
+use view::{Line, run};
 
 // the words behind the program's name | the input | each file's name and octets | the standard error | the status
 const CUTS: &str = "\
@@ -35,27 +35,28 @@ impl Table for Cuts {
         let (words, input, files, printed) = four(row)?;
         let (wanted, status) = two(printed)?;
         let input = unhex(alloc, input.as_bytes())?;
-        let written = RefCell::new(String::new(alloc));
-        let file_system = Fake {
-            alloc,
-            module: "",
-            input: input.as_slice(),
-            written: &written,
-        };
-        let (mut out, mut err) = (Vec::new(alloc), Vec::new(alloc));
         let line = line_of(alloc, words)?;
-        let ended = run(alloc, &line, &file_system, &mut out, &mut err);
-        let has_written = match written.try_borrow() {
-            Ok(text) => text.as_str().trim() == files,
-            Err(_) => false,
-        };
-        Ok(
-            has_written
-                && out.is_empty()
-                && err == lines_of(alloc, wanted)?
-                && ended == status.parse::<u8>()?,
-        )
+        let (is_written, err, ended) = run_over(alloc, &line, input.as_slice(), files);
+        Ok(is_written && err == lines_of(alloc, wanted)? && ended == status.parse::<u8>()?)
     }
+}
+
+// Whether a run writes these files, and nothing to the standard output; the standard error, and the status.
+fn run_over(alloc: Global, line: &Line, input: &[u8], files: &str) -> (bool, Vec<u8>, u8) {
+    let written = RefCell::new(String::new(alloc));
+    let file_system = Fake {
+        alloc,
+        module: "",
+        input,
+        written: &written,
+    };
+    let (mut out, mut err) = (Vec::new(alloc), Vec::new(alloc));
+    let status = run(alloc, line, &file_system, &mut out, &mut err);
+    let has_written = match written.try_borrow() {
+        Ok(text) => text.as_str().trim() == files,
+        Err(_) => false,
+    };
+    (has_written && out.is_empty(), err, status)
 }
 
 #[test]

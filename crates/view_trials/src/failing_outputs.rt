@@ -8,7 +8,7 @@ use std::cell::RefCell;
 use std::io::{self, Error, ErrorKind, Write};
 use std::test::Fail;
 use test_tables::{Table, check, four, lines_of, two};
-use view::run;
+use view::{Line, run};
 
 // An output whose calls fail in turn as the words say, and then as the last of them does.
 #[derive(Drop)]
@@ -85,21 +85,24 @@ impl Table for Outputs {
         let (words, input, words_of_failures, printed) = four(row)?;
         let (wanted, status) = two(printed)?;
         let input = unhex(alloc, input.as_bytes())?;
-        let written = RefCell::new(String::new(alloc));
-        let file_system = Fake {
-            alloc,
-            module: MODULE,
-            input: input.as_slice(),
-            written: &written,
-        };
         let line = line_of(alloc, words)?;
-        let out = Failing {
-            words: words_of_failures,
-        };
-        let mut err = Vec::new(alloc);
-        let ended = run(alloc, &line, &file_system, out, &mut err);
+        let (err, ended) = run_into(alloc, &line, input.as_slice(), words_of_failures);
         Ok(err == lines_of(alloc, wanted)? && ended == status.parse::<u8>()?)
     }
+}
+
+// The standard error of a run into an output that fails as the words say, and the status.
+fn run_into(alloc: Global, line: &Line, input: &[u8], words: &str) -> (Vec<u8>, u8) {
+    let written = RefCell::new(String::new(alloc));
+    let file_system = Fake {
+        alloc,
+        module: MODULE,
+        input,
+        written: &written,
+    };
+    let mut err = Vec::new(alloc);
+    let status = run(alloc, line, &file_system, Failing { words }, &mut err);
+    (err, status)
 }
 
 #[test]

@@ -13,8 +13,8 @@ use std::test::Fail;
 use test_tables::{is_row, rows_of, three};
 use view::{CommandLine, Line, run};
 
-// A line for each identifier: where the standard puts heads, and what the text of each value is.
-const LINES: &str = "
+const RUNS: &str = "
+// a line for each identifier: where the standard puts heads, and what the text of each value is
 M DEFINITIONS IMPLICIT TAGS ::= BEGIN T ::= SEQUENCE { a INTEGER, b [0] BOOLEAN DEFAULT FALSE, c CHOICE { x [1] UTF8String, y [APPLICATION 2] SEQUENCE OF NULL } OPTIONAL, d [3] EXPLICIT ENUMERATED { p(0), q(1) } OPTIONAL } S ::= SET { a INTEGER, b [PRIVATE 0] OBJECT IDENTIFIER } O ::= SET OF BIT STRING N ::= BIT STRING { u(0) } C ::= SET { a CHOICE { x BOOLEAN, y [5] NULL }, b INTEGER } D ::= SEQUENCE { s OCTET STRING, n INTEGER } I ::= SET OF INTEGER Q ::= SET OF SET OF INTEGER END:
 octets,m,T,in | 3003 020107 | 0000: 0 2+3 [UNIVERSAL 16] T ::= SEQUENCE;0002: 1 2+1 [UNIVERSAL 2] .a INTEGER 7; || 0
 octets,m,T,in | 300c 020180 8001ff 620405000500 | 0000: 0 2+12 [UNIVERSAL 16] T ::= SEQUENCE;0002: 1 2+1 [UNIVERSAL 2] .a INTEGER -128;0005: 1 2+1 [0] .b BOOLEAN TRUE;0008: 1 2+4 [APPLICATION 2] .c.y SEQUENCE OF;0010: 2 2+0 [UNIVERSAL 5] .c.y[0] NULL NULL;0012: 2 2+0 [UNIVERSAL 5] .c.y[1] NULL NULL; || 0
@@ -61,10 +61,7 @@ octets,m,C,in,--from,cer | 3180 8500 020107 0000 | 0000: 0 2+indef [UNIVERSAL 17
 octets,m,C,in,--from,cer | 3180 020107 8500 0000 | 0000: 0 2+indef [UNIVERSAL 17] C ::= SET;0002: 1 2+1 [UNIVERSAL 2] .b INTEGER 7;0005: 1 2+0 [5] .a.y NULL NULL (not CER: a component out of the order of tags);0007: 1 2+0 [UNIVERSAL 0] end of contents; | in: octet 5: .a.y: refused 12 NotCanonical: not CER: a component out of the order of tags; | 1
 octets,m,C,in,--from,der | 3105 8500 020107 | 0000: 0 2+5 [UNIVERSAL 17] C ::= SET;0002: 1 2+0 [5] .a.y NULL NULL;0004: 1 2+1 [UNIVERSAL 2] .b INTEGER 7 (not DER: a component out of the order of tags); | in: octet 4: .b: refused 12 NotCanonical: not DER: a component out of the order of tags; | 1
 octets,@builtin,OCTET STRING,in,--from,cer,--only-refused | 2480 040141 0000 || in: octet 2: OCTET STRING: refused 12 NotCanonical: not CER: a string in segments; | 1
-";
-
-// Octets that are refused: the number of each, where the fault stands by the clauses of X.690, and the words.
-const REFUSED: &str = "
+// octets that are refused: the number of each, where the fault stands by the clauses of X.690, and the words
 M DEFINITIONS IMPLICIT TAGS ::= BEGIN T ::= SEQUENCE { a INTEGER, b [0] BOOLEAN DEFAULT FALSE, c CHOICE { x [1] UTF8String, y [APPLICATION 2] SEQUENCE OF NULL } OPTIONAL, d [3] EXPLICIT ENUMERATED { p(0), q(1) } OPTIONAL } S ::= SET { a INTEGER, b [PRIVATE 0] OBJECT IDENTIFIER } G ::= GeneralizedTime U ::= UTCTime V ::= NumericString P ::= BMPString N ::= BIT STRING R ::= RELATIVE-OID END:
 octets,m,T,in,--only-refused | 3003 0201 || in: octet 4: .a: refused 1 Truncated: the input ends inside the contents octets, 1 missing; | 1
 octets,m,T,in,--only-refused | 3003 || in: octet 2: T: refused 1 Truncated: the input ends where an identifier must stand; | 1
@@ -120,10 +117,7 @@ octets,m,T,whole,--only-refused | 3330204630336130620a3032 093031 || whole: octe
 octets,m,T,whole,--only-refused | 3330204630336130620a3032 09303167 || whole: octet 0: T: refused 2 Identifier: no part that begins with [UNIVERSAL 19] can stand here; | 1
 octets,m,T,whole,--only-refused | 3003 020107 3330204630336130620a3032 09303130 || whole: octet 5: T: refused 2 Identifier: no part that begins with [UNIVERSAL 19] can stand here; | 1
 octets,m,T,in,--only-refused | 2d2d2d2d2d424547494e20 || in: octet 0: T: refused 2 Identifier: no part that begins with [UNIVERSAL 13] can stand here; | 1
-";
-
-// The other commands.
-const OTHERS: &str = "
+// the other commands
 M DEFINITIONS IMPLICIT TAGS ::= BEGIN T ::= SEQUENCE { a INTEGER, b [0] BOOLEAN DEFAULT FALSE, c CHOICE { x [1] UTF8String, y [APPLICATION 2] SEQUENCE OF NULL } OPTIONAL, d [3] EXPLICIT ENUMERATED { p(0), q(1) } OPTIONAL } N ::= BIT STRING { u(0) } P ::= BMPString D ::= SEQUENCE { s OCTET STRING, n INTEGER } END:
 json,m,T,in | 3003 020107 300d 020107 8103 4a226e a303 0a0101 | {\"a\":7};{\"a\":7,\"c\":{\"x\":\"J\\\"n\"},\"d\":\"q\"}; || 0
 json,m,T,in | 300c 020180 8001ff 620405000500 | {\"a\":-128,\"b\":true,\"c\":{\"y\":[null,null]}}; || 0
@@ -199,27 +193,43 @@ pub fn line_of(alloc: Global, words: &str) -> Result<Line, Fail> {
 }
 
 fn check_run(alloc: Global, module: &str, row: &str) -> Result<(), Fail> {
-    let (words, input, printed) = three(row)?;
+    let (words, input, wanted) = three(row)?;
     let input = unhex(alloc, input.as_bytes())?;
-    let line = line_of(alloc, words)?;
+    let printed = run_over(alloc, &line_of(alloc, words)?, module, input.as_slice());
+    if row.starts_with("json,") && !row.contains("--indent") {
+        check_json(alloc, row, printed.0.as_slice())?;
+    }
+    check_printed(alloc, row, &printed, wanted)
+}
+
+// The standard output, the standard error and the status.
+type Printed = (Vec<u8>, Vec<u8>, u8);
+
+fn run_over(alloc: Global, line: &Line, module: &str, input: &[u8]) -> Printed {
     let written = RefCell::new(String::new(alloc));
     let file_system = Fake {
         alloc,
         module,
-        input: input.as_slice(),
+        input,
         written: &written,
     };
     let mut out = Vec::new(alloc);
     let mut err = Vec::new(alloc);
-    let status = run(alloc, &line, &file_system, &mut out, &mut err);
-    if row.starts_with("json,") && !row.contains("--indent") {
-        check_json(alloc, row, out.as_slice())?;
-    }
+    let status = run(alloc, line, &file_system, &mut out, &mut err);
+    (out, err, status)
+}
+
+// The text of what is printed.
+fn text_of(alloc: Global, (out, err, status): &Printed) -> Result<String, Fail> {
     let out = spaced(alloc, out.as_slice())?;
     let err = spaced(alloc, err.as_slice())?;
-    let found = format!(in alloc; "{} | {} | {status}", out.as_str(), err.as_str())?;
-    let found = spaced(alloc, found.as_bytes())?;
-    let wanted = spaced(alloc, printed.as_bytes())?;
+    let text = format!(in alloc; "{} | {} | {status}", out.as_str(), err.as_str())?;
+    spaced(alloc, text.as_bytes())
+}
+
+fn check_printed(alloc: Global, row: &str, printed: &Printed, wanted: &str) -> Result<(), Fail> {
+    let found = text_of(alloc, printed)?;
+    let wanted = spaced(alloc, wanted.as_bytes())?;
     if found.as_str().trim() == wanted.as_str().trim() {
         return Ok(());
     }
@@ -264,16 +274,6 @@ fn spaced(alloc: Global, octets: &[u8]) -> Result<String, Fail> {
 }
 
 #[test]
-fn lines_of_encodings(rt: HostRuntime) -> Result<(), Fail> {
-    check_runs(rt.alloc(), LINES)
-}
-
-#[test]
-fn refused_octets(rt: HostRuntime) -> Result<(), Fail> {
-    check_runs(rt.alloc(), REFUSED)
-}
-
-#[test]
-fn other_commands(rt: HostRuntime) -> Result<(), Fail> {
-    check_runs(rt.alloc(), OTHERS)
+fn runs(rt: HostRuntime) -> Result<(), Fail> {
+    check_runs(rt.alloc(), RUNS)
 }
