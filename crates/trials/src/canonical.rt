@@ -44,15 +44,22 @@ impl OctetsTable for Strict {
     ) -> Result<bool, Fail> {
         let (rules, want) = two(others)?;
         match rules {
-            "DER" => comes_to(alloc, &read_der(alloc, ty, octets), want),
-            "CER" => comes_to(alloc, &read_cer(alloc, ty, octets), want),
-            "both" => Ok(
-                comes_to(alloc, &read_der(alloc, ty, octets), want)?
-                    && comes_to(alloc, &read_cer(alloc, ty, octets), want)?,
-            ),
+            "DER" => is_by_der(alloc, ty, octets, want),
+            "CER" => is_by_cer(alloc, ty, octets, want),
+            "both" => {
+                Ok(is_by_der(alloc, ty, octets, want)? && is_by_cer(alloc, ty, octets, want)?)
+            }
             _ => Err("a rule without a name".into()),
         }
     }
+}
+
+fn is_by_der(alloc: Global, ty: &WellTyped, octets: &[u8], want: &str) -> Result<bool, Fail> {
+    comes_to(alloc, &read_der(alloc, ty, octets), want)
+}
+
+fn is_by_cer(alloc: Global, ty: &WellTyped, octets: &[u8], want: &str) -> Result<bool, Fail> {
+    comes_to(alloc, &read_cer(alloc, ty, octets), want)
 }
 
 #[test]

@@ -74,9 +74,9 @@ fn told_at_last(reader: &mut Reader<'_>, octets: &[u8]) -> Option<Result<Step, R
 
 // Whether the last octet completes the value that was read, or is refused as it was.
 fn ends_so(last: Option<Result<Step, Refusal>>, read: &Read) -> bool {
-    match (last, read) {
-        (Some(Ok(Step::Done { value, used: 1 })), Ok((want, _))) => value == *want,
-        (Some(Err(refusal)), Err(want)) => refusal == *want,
+    match (&last, read) {
+        (Some(Ok(Step::Done { value, used: 1 })), Ok((want, _))) => value == want,
+        (Some(Err(refusal)), Err(want)) => refusal == want,
         _ => false,
     }
 }
@@ -102,9 +102,18 @@ impl OctetsTable for Cut {
         octets: &[u8],
         others: &str,
     ) -> Result<bool, Fail> {
-        let read = read(alloc, ty, octets);
-        Ok(is_the_same(alloc, ty, octets, &read) && comes_to(alloc, &read, others)?)
+        is_read(alloc, ty, octets, (&read(alloc, ty, octets), others))
     }
+}
+
+// Whether this was read, in pieces too, and is what columns say.
+fn is_read(
+    alloc: Global,
+    ty: &WellTyped,
+    octets: &[u8],
+    (read, want): (&Read, &str),
+) -> Result<bool, Fail> {
+    Ok(is_the_same(alloc, ty, octets, read) && comes_to(alloc, read, want)?)
 }
 
 // type | octets | how many of them are read, and the value, or the refusal of the last one

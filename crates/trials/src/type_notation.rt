@@ -13,10 +13,11 @@ use crate::strings_and_times::kind_of;
 use crate::value_notation::value_between;
 use octets::{Class, Tag};
 use std::alloc::Global;
+use std::mem::drop;
 use std::test::Fail;
 use strings::TimeKind;
 use test_tables::{Table, octets_of, three, times_of};
-use types::{Alternative, Field, Item, NamedBit, Presence, Ty, WellTyped};
+use types::{Alternative, Field, Item, Name, NamedBit, Presence, Ty, WellTyped};
 
 /// The type of a notation, which keeps the rules.
 pub fn typed(alloc: Global, text: &str) -> Result<WellTyped, Fail> {
@@ -41,9 +42,8 @@ pub struct OfOctets<T>(pub T);
 impl<T: OctetsTable> Table for OfOctets<T> {
     fn holds(&self, alloc: Global, row: &str) -> Result<bool, Fail> {
         let (ty, octets, others) = three(row)?;
-        let ty = typed(alloc, ty)?;
         let octets = octets_of(alloc, octets)?;
-        self.0.holds(alloc, &ty, &octets, others)
+        self.0.holds(alloc, &typed(alloc, ty)?, &octets, others)
     }
 }
 
@@ -138,21 +138,30 @@ fn tagged(word: &str) -> Result<Option<(Tag, &str)>, Fail> {
 
 // The type of the one part, which is no component.
 fn only(mut parts: Vec<Field>) -> Result<Ty, Fail> {
-    let part = parts.pop().ok_or("no part")?;
-    match (part.presence, parts.is_empty()) {
-        (Presence::Required, true) => Ok(part.ty),
-        _ => Err("more than one part, or the sign of a component".into()),
+    if parts.len() > 1 {
+        return Err("more than one part".into());
     }
+    let (_, ty) = bare(parts.pop().ok_or("no part")?)?;
+    Ok(ty)
+}
+
+// The name and the type of a part without the sign of a component.
+fn bare(part: Field) -> Result<(Name, Ty), Fail> {
+    let Field { name, ty, presence } = part;
+    let is_bare = matches!(presence, Presence::Required);
+    drop(presence);
+    if is_bare {
+        return Ok((name, ty));
+    }
+    drop(ty);
+    Err("the sign of a component".into())
 }
 
 fn alternatives_of(alloc: Global, parts: Vec<Field>) -> Result<Vec<Alternative>, Fail> {
     let mut alternatives = Vec::new(alloc);
     for part in parts {
-        let Field { name, ty, presence } = part;
-        match presence {
-            Presence::Required => alternatives.push(Alternative { name, ty })?,
-            _ => return Err("the sign of a component at an alternative".into()),
-        }
+        let (name, ty) = bare(part)?;
+        alternatives.push(Alternative { name, ty })?;
     }
     Ok(alternatives)
 }

@@ -123,10 +123,10 @@ fn with_parts(alloc: Global, begun: &str, slots: Vec<Option<Value>>) -> Result<V
 
 // The value in the one slot.
 fn only(mut slots: Vec<Option<Value>>) -> Result<Value, Fail> {
-    let slot = slots.pop().ok_or("no value")?;
-    if !slots.is_empty() {
+    if slots.len() > 1 {
         return Err("more than one value".into());
     }
+    let slot = slots.pop().ok_or("no value")?;
     Ok(slot.ok_or("no value in a slot")?)
 }
 

@@ -38,10 +38,10 @@ impl OctetsTable for AtOnce {
         others: &str,
     ) -> Result<bool, Fail> {
         match at_once(alloc, ty, octets) {
-            Some((value, used)) => {
-                let no_front = reads_no_front(alloc, ty, octets, used);
-                Ok(no_front && is_read_as(alloc, &value, used, others)?)
+            Some((value, used)) if reads_no_front(alloc, ty, octets, used) => {
+                is_read_as(alloc, &value, used, others)
             }
+            Some(_) => Ok(false),
             None => Ok(others.starts_with("none: ")),
         }
     }

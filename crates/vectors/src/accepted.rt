@@ -1,6 +1,6 @@
 //! What holds of the octets that BER accepts.
 
-use crate::answers::{convert_by, number_of, read_by, write_by};
+use crate::answers::{ReadFront, convert_by, number_of, read_by, write_by};
 use crate::checks::{RULES, expect, expect_by, expect_number, name_of, refused};
 use crate::pieces::{check_end_fed, check_front_fed, check_pieces};
 use crate::rows::{Becomes, Row};
@@ -22,12 +22,18 @@ pub fn check_accepted(alloc: Global, row: &Row) -> Result<(), Fail> {
 
 // Checks what is read, in pieces as well.
 fn check_read(alloc: Global, row: &Row) -> Result<(), Fail> {
-    let octets = row.octets.as_slice();
-    let read = read_by(alloc, Rule::Ber, row.ty, octets);
-    check_pieces(alloc, row, octets, &read)?;
+    check_read_as(
+        alloc,
+        row,
+        &read_by(alloc, Rule::Ber, row.ty, row.octets.as_slice()),
+    )
+}
+
+fn check_read_as(alloc: Global, row: &Row, read: &ReadFront) -> Result<(), Fail> {
+    check_pieces(alloc, row, row.octets.as_slice(), read)?;
     match read {
-        Ok((value, used)) => check_value(alloc, row, &value, used),
-        Err(refusal) => refused(refusal, "no value", row),
+        Ok((value, used)) => check_value(alloc, row, value, *used),
+        Err(refusal) => refused(*refusal, "no value", row),
     }
 }
 

@@ -142,8 +142,11 @@ fn check_in_turn(alloc: Global, table: &str) -> Result<(), Fail> {
 // Checks the stream of a type and the rows below it.
 fn check_part(alloc: Global, part: &str) -> Result<(), Fail> {
     let (name, rows) = part.split_once(":\n").ok_or("no type")?;
-    let ty = type_of(alloc, name)?;
-    stream_of(alloc, &ty, rows)?.check(alloc, &ty)
+    check_rows(alloc, &type_of(alloc, name)?, rows)
+}
+
+fn check_rows(alloc: Global, ty: &WellTyped, rows: &str) -> Result<(), Fail> {
+    stream_of(alloc, ty, rows)?.check(alloc, ty)
 }
 
 // The stream that rows of a type are.

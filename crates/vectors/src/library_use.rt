@@ -7,8 +7,8 @@ use std::alloc::Global;
 use std::test::Fail;
 
 fn written_by_der(alloc: Global, digits: &[u8]) -> Result<Vec<u8>, Fail> {
-    let ty = WellTyped::new(Ty::boolean())?;
     let octets = unhex(alloc, digits)?;
+    let ty = WellTyped::new(Ty::boolean())?;
     let from = Rule::Ber;
     let to = Canonical::Der;
     Ok(transcode(alloc, &ty, from, to, octets.as_slice())?)

@@ -55,9 +55,8 @@ fn put_integer(all: &mut String, number: u16) -> Result<(), AllocError> {
 
 // Checks that the items of a SET OF INTEGER become these others.
 fn check_ordered(alloc: Global, items: &str, ascending: &str) -> Result<(), Fail> {
-    let ty = type_of(alloc, "SET OF INTEGER")?;
     let line = format!(in alloc; "31829BC0{items} | 31829BC0{ascending} | 3180{ascending}0000")?;
-    check_line(alloc, &ty, line.as_str())
+    check_line(alloc, &type_of(alloc, "SET OF INTEGER")?, line.as_str())
 }
 
 // The first two items exchanged.

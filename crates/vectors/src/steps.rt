@@ -118,11 +118,11 @@ fn with_end(alloc: Global, answers: String, end: Result<(), Refusal>) -> Result<
 }
 
 fn word_of(alloc: Global, ty: &WellTyped, answer: Result<Step, Refusal>) -> Result<String, Fail> {
-    Ok(match answer {
-        Ok(Step::More) => String::from_str(alloc, "More")?,
-        Ok(Step::Done { value, used }) => done(alloc, ty, &value, used)?,
-        Err(refusal) => number_of(alloc, refusal)?,
-    })
+    match answer {
+        Ok(Step::More) => Ok(String::from_str(alloc, "More")?),
+        Ok(Step::Done { value, used }) => done(alloc, ty, &value, used),
+        Err(refusal) => number_of(alloc, refusal),
+    }
 }
 
 fn done(alloc: Global, ty: &WellTyped, value: &Value, used: usize) -> Result<String, Fail> {

@@ -16,24 +16,21 @@ pub trait TypedTable {
 
 /// Fails at the first row that does not hold, and where there is none.
 pub fn check_typed<T: TypedTable>(alloc: Global, table: &T, rows: &str) -> Result<(), Fail> {
-    let mut ty = type_of(alloc, "NULL")?;
+    let mut ty = String::new(alloc);
     for line in rows_of(rows)? {
         match line.strip_suffix(':') {
-            Some(name) => ty = type_of(alloc, name)?,
-            None => check_line(alloc, table, &ty, line)?,
+            Some(notation) => ty = String::from_str(alloc, notation)?,
+            None if !is_row(line) => {}
+            None => check_line(alloc, table, ty.as_str(), line)?,
         }
     }
     Ok(())
 }
 
-fn check_line<T: TypedTable>(
-    alloc: Global,
-    table: &T,
-    ty: &WellTyped,
-    line: &str,
-) -> Result<(), Fail> {
-    if !is_row(line) || table.holds(alloc, ty, line)? {
-        return Ok(());
+fn check_line<T: TypedTable>(alloc: Global, table: &T, ty: &str, line: &str) -> Result<(), Fail> {
+    match table.holds(alloc, &type_of(alloc, ty)?, line) {
+        Ok(true) => Ok(()),
+        Ok(false) => Err(not_so(line)),
+        Err(fail) => Err(fail),
     }
-    Err(not_so(line))
 }

@@ -1,7 +1,7 @@
 //! Alternatives of a CHOICE, by the tag that an encoding begins with.
 
 use crate::type_notation::{tag_of, typed};
-use crate::value_notation::value_of;
+use crate::value_notation::{is_value, value_of};
 use encoding_parts::{begins, is_node, node_of, node_within, wrap};
 use octets::{Class, Tag};
 use std::alloc::Global;
@@ -27,8 +27,7 @@ fn is_wrapped(
     want: &str,
 ) -> Result<bool, Fail> {
     let value = value_of(alloc, value)?;
-    let wrapped = wrap(alloc, ty.as_type(), tag, value)?;
-    Ok(wrapped == value_of(alloc, want)?)
+    is_value(alloc, &wrap(alloc, ty.as_type(), tag, value)?, want)
 }
 
 // a tag of an encoding of the CHOICE | the value of its node | the value of the CHOICE; `none` where none begins so
@@ -46,14 +45,24 @@ impl Table for Nodes {
         let (tag, value, want) = three(row)?;
         let tag = tag_of(tag)?;
         let ty = typed(alloc, "CHOICE{ NULL CHOICE{ OCTETS BOOLEAN } }")?;
-        if is_node(ty.as_type()) {
-            return Ok(false);
-        }
-        if want == "none" {
-            return Ok(!begins(ty.as_type(), tag) && node_of(ty.as_type(), tag).is_none());
-        }
-        Ok(has_node(ty.as_type(), tag) && is_wrapped(alloc, &ty, tag, value, want)?)
+        is_found(alloc, &ty, tag, (value, want))
     }
+}
+
+fn is_found(
+    alloc: Global,
+    ty: &WellTyped,
+    tag: Tag,
+    (value, want): (&str, &str),
+) -> Result<bool, Fail> {
+    let choice = ty.as_type();
+    if is_node(choice) {
+        return Ok(false);
+    }
+    if want == "none" {
+        return Ok(!begins(choice, tag) && node_of(choice, tag).is_none());
+    }
+    Ok(has_node(choice, tag) && is_wrapped(alloc, ty, tag, value, want)?)
 }
 
 #[test]
@@ -64,16 +73,21 @@ fn nodes_and_wrapped_values(rt: HostRuntime) -> Result<(), Fail> {
 // A CHOICE of so many NULLs and, behind them, this type, which is the one at the place that the tag of number 1,000
 // says, counted from the number of the first.
 fn choice_around(alloc: Global, ty: Ty, place: u32) -> Result<Ty, Fail> {
+    let mut alternatives = nulls(alloc, place)?;
+    alternatives.push(Alternative::new(alloc, "z", ty)?)?;
+    Ok(Ty::choice(alternatives))
+}
+
+fn nulls(alloc: Global, place: u32) -> Result<Vec<Alternative>, Fail> {
     let tag = Tag {
         class: Class::Context,
         number: 1_000u32.saturating_sub(place),
     };
     let mut alternatives = Vec::new(alloc);
     for _ in 0..place {
-        alternatives.push(Alternative::new(alloc, "a", Ty::null().implicit(alloc, tag)?)?)?;
+        alternatives.push(Alternative::new(alloc, "a", Ty::Null(tag))?)?;
     }
-    alternatives.push(Alternative::new(alloc, "z", ty)?)?;
-    Ok(Ty::choice(alternatives))
+    Ok(alternatives)
 }
 
 // A search that looks twice into what stands there takes 2 to the power of 30 steps.

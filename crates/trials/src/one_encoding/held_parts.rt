@@ -6,7 +6,7 @@ use encoding_parts::{HeldParts, held_parts_of};
 use std::alloc::Global;
 use std::test::Fail;
 use test_tables::{Table, check, four, is_refused, is_yes};
-use types::Refusal;
+use types::{Refusal, Ty, Value};
 
 // Puts the parts of a column into what holds them, to the first that is refused.
 fn put_parts(
@@ -33,16 +33,34 @@ impl Table for Parts {
     fn holds(&self, alloc: Global, row: &str) -> Result<bool, Fail> {
         let (ty, parts, definite, want) = four(row)?;
         let definite = is_yes(definite)?;
-        let ty = ty_of(alloc, ty)?;
-        let mut held = held_parts_of(alloc, &ty)?.ok_or("a type without parts")?;
-        if let Some(refusal) = put_parts(alloc, &mut held, parts)? {
-            return is_refused(refusal.number(), want);
-        }
-        // a list is the same whether it is fitted or not
-        match held.into_value(definite, definite) {
-            Ok(value) => is_value(alloc, &value, want),
-            Err(refusal) => is_refused(refusal.number(), want),
-        }
+        is_held(alloc, &ty_of(alloc, ty)?, parts, (definite, want))
+    }
+}
+
+fn is_held(
+    alloc: Global,
+    ty: &Ty,
+    parts: &str,
+    (definite, want): (bool, &str),
+) -> Result<bool, Fail> {
+    let mut held = held_parts_of(alloc, ty)?.ok_or("a type without parts")?;
+    let put = put_parts(alloc, &mut held, parts);
+    // a list is the same whether it is fitted or not
+    let value = held.into_value(definite, definite);
+    match put? {
+        Some(refusal) => is_refused(refusal.number(), want),
+        None => is_value_or_refused(alloc, &value, want),
+    }
+}
+
+fn is_value_or_refused(
+    alloc: Global,
+    value: &Result<Value, Refusal>,
+    want: &str,
+) -> Result<bool, Fail> {
+    match value {
+        Ok(value) => is_value(alloc, value, want),
+        Err(refusal) => is_refused(refusal.number(), want),
     }
 }
 
