@@ -191,7 +191,7 @@ BITS | 80 | none | -
 BITS | FF 00 | none | -";
 
 #[test]
-fn contents(rt: HostRuntime) -> Result<(), Fail> {
+fn contents_octets(rt: HostRuntime) -> Result<(), Fail> {
     check(rt.alloc(), &Contents, CONTENTS)?;
     assert!(rt; Bits::new(Vec::new(rt.alloc()), 1).is_none());
     Ok(())

@@ -135,6 +135,6 @@ UTCTime | '240229120060Z' | no
 UTCTime | '' | no";
 
 #[test]
-fn contents(rt: HostRuntime) -> Result<(), Fail> {
+fn contents_octets(rt: HostRuntime) -> Result<(), Fail> {
     check(rt.alloc(), &Strings, CONTENTS)
 }

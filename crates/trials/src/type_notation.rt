@@ -1,13 +1,12 @@
 //! Types from their notation: words with one space between them.
 //!
 //! A type without parts is a word: `BOOLEAN`, `INTEGER`, `NULL`, `OID`, `RELATIVE-OID`, `BITS`, `OCTETS`,
-//! `ENUMERATED(1,3)` for one of these numbers, `NAMED-BITS(1,3)` for bits of which these have names, or the name of a
-//! character string or a time; before it may stand the
-//! tag that it has in place of its universal one, as `[3]NULL` or `[UNIVERSAL.0]NULL`. One with parts stands between a
-//! word that ends with `{` and the word `}`: `SEQUENCE{`, `SET{`, `CHOICE{`, `SEQUENCE-OF{`, `SET-OF{` or, for an
-//! explicit tag, `[3]{`. The last word of a component ends with `?` where it may be absent, and with `=` and a value
-//! where that is its default; `_` stands there for a space. A word that ends with `*` and a number stands there as many
-//! times.
+//! `ENUMERATED(1,3..5)` for one of these numbers, `NAMED-BITS(1,3)` for bits of which these have names, or the name of a
+//! character string or a time; before it may stand the tag that it has in place of its universal one, as `[3]NULL` or
+//! `[UNIVERSAL.0]NULL`. One with parts stands between a word that ends with `{` and the word `}`: `SEQUENCE{`, `SET{`,
+//! `CHOICE{`, `SEQUENCE-OF{`, `SET-OF{` or, for an explicit tag, `[3]{`. The last word of a component ends with `?` where
+//! it may be absent, and with `=` and a value where that is its default; `_` stands there for a space. A word that ends
+//! with `*` and a number stands there as many times.
 
 use crate::strings_and_times::kind_of;
 use crate::value_notation::value_between;
@@ -204,8 +203,11 @@ fn with_numbers(alloc: Global, word: &str, numbers: &str) -> Result<Ty, Fail> {
 
 fn items_of(alloc: Global, numbers: &str) -> Result<Vec<Item>, Fail> {
     let mut items = Vec::new(alloc);
-    for number in numbers.split(',') {
-        items.push(Item::new(alloc, "a", number.parse::<i128>()?)?)?;
+    for word in numbers.split(',') {
+        let (first, last) = word.split_once("..").unwrap_or((word, word));
+        for number in first.parse::<i128>()?..=last.parse::<i128>()? {
+            items.push(Item::new(alloc, "a", number)?)?;
+        }
     }
     Ok(items)
 }

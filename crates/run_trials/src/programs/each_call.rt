@@ -64,15 +64,18 @@ struct FailingReaders;
 
 impl Table for FailingReaders {
     fn holds(&self, alloc: Global, row: &str) -> Result<bool, Fail> {
-        let (words, out, columns) = three(row)?;
-        let (ends, rest) = two(columns)?;
-        let line = line_of(alloc, words)?;
-        let mut out = out_of(alloc, &line, out)?;
-        check_reads(alloc, &line, (out.as_slice(), pair_of(ends)?))?;
-        out.extend_from_slice(lines_of(alloc, rest)?.as_slice())?;
-        let (found, err, status) = printed(alloc, &line, &OCTETS, (10, NO_FAILURE));
-        Ok(found == out && err.is_empty() && status == 0)
+        let (words, columns) = two(row)?;
+        is_cut_at_reads(alloc, &line_of(alloc, words)?, columns)
     }
+}
+
+fn is_cut_at_reads(alloc: Global, line: &Line, columns: &str) -> Result<bool, Fail> {
+    let (out, ends, rest) = three(columns)?;
+    let mut out = out_of(alloc, line, out)?;
+    check_reads(alloc, line, (out.as_slice(), pair_of(ends)?))?;
+    out.extend_from_slice(lines_of(alloc, rest)?.as_slice())?;
+    let (found, err, status) = printed(alloc, line, &OCTETS, (10, NO_FAILURE));
+    Ok(found == out && err.is_empty() && status == 0)
 }
 
 // Fails at the first call of the reader whose failure shows otherwise than it should.
@@ -115,22 +118,25 @@ struct FailingWriters;
 
 impl Table for FailingWriters {
     fn holds(&self, alloc: Global, row: &str) -> Result<bool, Fail> {
-        let (words, input, out, columns) = four(row)?;
-        let (ends, err, status) = three(columns)?;
-        let line = line_of(alloc, words)?;
-        let input = input_of(alloc, &line, input)?;
-        let out = out_of(alloc, &line, out)?;
-        check_writes(
-            alloc,
-            &line,
-            input.as_slice(),
-            (out.as_slice(), pair_of(ends)?),
-        )?;
-        let want = (lines_of(alloc, err)?, status.parse::<u8>()?);
-        let calls = (NO_FAILURE, out.len());
-        let (found, err, status) = printed(alloc, &line, input.as_slice(), calls);
-        Ok(found == out && (err, status) == want)
+        let (words, columns) = two(row)?;
+        is_cut_at_writes(alloc, &line_of(alloc, words)?, columns)
     }
+}
+
+fn is_cut_at_writes(alloc: Global, line: &Line, columns: &str) -> Result<bool, Fail> {
+    let (input, out, ends, columns) = four(columns)?;
+    let (err, status) = two(columns)?;
+    let input = input_of(alloc, line, input)?;
+    let out = out_of(alloc, line, out)?;
+    check_writes(
+        alloc,
+        line,
+        input.as_slice(),
+        (out.as_slice(), pair_of(ends)?),
+    )?;
+    let calls = (NO_FAILURE, out.len());
+    let (found, found_err, found_status) = printed(alloc, line, input.as_slice(), calls);
+    Ok(found == out && found_err == lines_of(alloc, err)? && found_status == status.parse::<u8>()?)
 }
 
 // Fails at the first call of the writer whose failure shows otherwise than it should.

@@ -67,7 +67,7 @@ show,calls.asn,Call,calls.hex,--hex  | { caller \"5550123\", called number : \"5
 convert,calls.asn,Call,calls.hex,--hex,--to,der | 6142800735353530313233a109420735353530313939820f32303236303330313039333031355a83012aa50b06032a030406042a030405860b63616c6c20626f782031326123800735353530313233a1028200821132303236303330313130343530302e355a840101;";
 
 #[test]
-fn calls(rt: HostRuntime) -> Result<(), Fail> {
+fn runs_over_calls(rt: HostRuntime) -> Result<(), Fail> {
     check(rt.alloc(), &Calls, OVER_CALLS)
 }
 

@@ -44,23 +44,22 @@ fn is_held(
     (definite, want): (bool, &str),
 ) -> Result<bool, Fail> {
     let mut held = held_parts_of(alloc, ty)?.ok_or("a type without parts")?;
-    let put = put_parts(alloc, &mut held, parts);
+    let refused = put_parts(alloc, &mut held, parts);
     // a list is the same whether it is fitted or not
-    let value = held.into_value(definite, definite);
-    match put? {
-        Some(refusal) => is_refused(refusal.number(), want),
-        None => is_value_or_refused(alloc, &value, want),
-    }
+    is_so(alloc, refused, &held.into_value(definite, definite), want)
 }
 
-fn is_value_or_refused(
+// Whether a column says how a part was refused, or else the value or its refusal.
+fn is_so(
     alloc: Global,
+    refused: Result<Option<Refusal>, Fail>,
     value: &Result<Value, Refusal>,
     want: &str,
 ) -> Result<bool, Fail> {
-    match value {
-        Ok(value) => is_value(alloc, value, want),
-        Err(refusal) => is_refused(refusal.number(), want),
+    match (refused?, value) {
+        (Some(refusal), _) => is_refused(refusal.number(), want),
+        (None, Ok(value)) => is_value(alloc, value, want),
+        (None, Err(refusal)) => is_refused(refusal.number(), want),
     }
 }
 
