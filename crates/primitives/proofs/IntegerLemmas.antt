@@ -1,11 +1,12 @@
 -- Lemmas on numbers in two's complement.
-use Rattle.std.proofs.Common.{◌≡◌, ℕ, ◌+◌, ◌*◌, ◌^◌, ◌<◌, ◌≤◌, ◌-◌, ◌/◌, ◌%◌, inl, inr, ◌⊎◌, List, [], ◌∷◌, ◌++◌, length, take, refl, sym, ◌∙◌, ap, arith, All, get_or, suc, Bool, true, false, length-append, append_assoc, drop, set, subst}
+use Rattle.std.proofs.Common.{◌≡◌, ℕ, ◌+◌, ◌*◌, ◌^◌, ◌<◌, ◌≤◌, ◌-◌, ◌/◌, ◌%◌, inl, inr, ◌⊎◌, List, [], ◌∷◌, ◌++◌, length, take, refl, sym, ◌∙◌, ap, ap₂, arith, All, get_or, suc, Bool, true, false, length-append, append_assoc, drop, set, subst, replicate, zero, pow-add}
 use Rattle.std.specs.Prelude.{ℤ, pos, negsuc, ◌-ℤ◌, ◌+ℤ◌, ◌*ℤ◌, FitsSigned}
 use mir.Syntax.{Width}
 use mir.Val.{to_z, bits, hbits}
 use Rattle.std.proofs.Math.Facts.{to_z-neg}
-use Rattle.std.specs.Int.{w16, w32, w128}
-use Rattle.std.proofs.lemmas.List.{take_more, drop-set, length-set}
+use Rattle.std.specs.Int.{w16, w32, w128, from_be_bytes, byte_worth, sum_through}
+use Rattle.std.proofs.lemmas.List.{take_more, take_all, drop-set, length-set, length-replicate, length-drop, drop_all, take-replicate, append-nil}
+use borrow.Rule.Slice.PartMut.{put_mid}
 use Rattle.std.proofs.lemmas.List.Elements.{All-append, All-cons, All-nil}
 use Rattle.std.proofs.Math.Nat.{pow-le-pow_right, pow-suc, mul-le-mul_right}
 use Rattle.std.proofs.lemmas.Nat.{mul-add-lt}
@@ -13,23 +14,15 @@ use Rattle.std.proofs.lemmas.Grind.{pow_more}
 use Rattle.std.proofs.lemmas.Bool.{cases_lt}
 use Rattle.std.proofs.lemmas.Int.{ints}
 use Rattle.octets.specs.Digits.{number_of}
-use Rattle.octets.proofs.DigitLemmas.{number_of-snoc, number_of-below, All-tail}
+use Rattle.octets.proofs.DigitLemmas.{number_of-append, number_of-snoc, number_of-below, number_of-zeros, All-tail}
 use Rattle.octets.proofs.PlaceLemmas.{number_of-injective}
 use Rattle.primitives.specs.Integer.{IsInteger, IsWideInteger, integer_of, NineBitsDiffer, number_at, last_octet_at}
 use Rattle.primitives.specs.Laws.{OneIntegerValue, OneIntegerEncoding, AtMostSixteenOctets}
 
 -- one octet more
-pub number_of-more : (c : List ℕ) (i d : ℕ) → i < length c → get_or c i 0 ≡ d → number_of 256 (take (i + 1) c) ≡ number_of 256 (take i c) * 256 + d
+number_of-more : (c : List ℕ) (i d : ℕ) → i < length c → get_or c i 0 ≡ d → number_of 256 (take (i + 1) c) ≡ number_of 256 (take i c) * 256 + d
 number_of-more c i d below item =
     ap (number_of 256) (take_more c i 0 below) ∙ (number_of-snoc 256 (take i c) (get_or c i 0) ∙ ap (λ x. number_of 256 (take i c) * 256 + x) item)
-
--- i octets of sixteen, and room for one more
-pub room_for_more : (i : ℕ) → i < 16 → 256 ^ i * 256 ≤ 2 ^ 128
-room_for_more i below =
-    let power : 256 ^ suc i ≡ 256 ^ i * 256 = pow-suc 256 i in
-    let most : 256 ^ suc i ≤ 256 ^ 16 = pow-le-pow_right {n = 256} (omega arith) {i = suc i} {j = 16} (omega arith) in
-    let whole : 256 ^ 16 ≡ 2 ^ 128 = refl in
-    omega (arith, power, most, whole)
 
 pub sixteen : (n : ℕ) → n ≤ 16 → 256 ^ n ≤ 2 ^ 128
 sixteen n few =
@@ -380,3 +373,65 @@ four_octets (a ∷ []) four octets = cc
 four_octets (a ∷ b ∷ []) four octets = cc
 four_octets (a ∷ b ∷ c ∷ []) four octets = cc
 four_octets (a ∷ b ∷ c ∷ d ∷ e ∷ es) four octets = cc
+
+byte_worth-value : (i d : ℕ) → byte_worth i d ≡ d * 256 ^ i
+byte_worth-value zero d = omega arith
+byte_worth-value (suc i) d = refl
+
+-- the octets from the first to one of them, each by its place
+sum_to : (cs : List ℕ) (last k : ℕ) → length cs ≡ last + 1 → k ≤ last → sum_through (λ i. byte_worth (last - i) (get_or cs i 0)) k ≡ number_of 256 (take (k + 1) cs) * 256 ^ (last - k)
+sum_to cs last zero size within =
+    let first : number_of 256 (take 1 cs) ≡ get_or cs 0 0 = number_of-more cs 0 (get_or cs 0 0) (omega (arith, size)) refl ∙ omega arith in
+    let whole : last - 0 ≡ last = omega arith in
+    subst (λ l. byte_worth l (get_or cs 0 0) ≡ number_of 256 (take 1 cs) * 256 ^ l) (sym whole) (byte_worth-value last (get_or cs 0 0) ∙ ap (λ n. n * 256 ^ last) (sym first))
+sum_to cs last (suc k) size within =
+    let d = get_or cs (suc k) 0 in
+    let left = last - suc k in
+    let before = sum_to cs last k size (omega (arith, within)) in
+    let next : suc k ≡ k + 1 = omega arith in
+    let more : number_of 256 (take (suc k + 1) cs) ≡ number_of 256 (take (k + 1) cs) * 256 + d = number_of-more cs (suc k) d (omega (arith, size, within)) refl ∙ ap (λ i. number_of 256 (take i cs) * 256 + d) next in
+    let power : 256 ^ (last - k) ≡ 256 ^ left * 256 = ap (λ n. 256 ^ n) (omega (arith, within)) ∙ pow-suc 256 left in
+    omega (arith, before, byte_worth-value left d, ap (λ n. number_of 256 (take (k + 1) cs) * n) power, ap (λ n. n * 256 ^ left) more)
+
+-- sixteen octets spell their number
+spelt_by_sixteen : (cs : List ℕ) → length cs ≡ 16 → from_be_bytes w128 cs ≡ number_of 256 cs
+spelt_by_sixteen cs size = sum_to cs 15 15 size (omega arith) ∙ omega (arith, ap (number_of 256) (take_all 16 cs (omega (arith, size))))
+
+number_of-ones : (k : ℕ) → number_of 256 (replicate k 255) + 1 ≡ 256 ^ k
+number_of-ones zero = refl
+number_of-ones (suc k) = omega (arith, number_of-ones k, pow-suc 256 k, ap (λ n. 256 ^ n) (length-replicate {A = ℕ} k 255))
+
+-- filled up to sixteen octets by the first bit, a number stays the same
+pub filled_up_value : (fill : ℕ) (cs : List ℕ) → 1 ≤ length cs → length cs ≤ 16 → All (λ d. d < 256) cs → (get_or cs 0 0 < 128 → fill ≡ 0) → (128 ≤ get_or cs 0 0 → fill ≡ 255) →
+    integer_of cs ≡ to_z w128 (from_be_bytes w128 (replicate (16 - length cs) fill ++ cs))
+filled_up_value fill [] some few octets zeros ones = absurd (omega (arith, some))
+filled_up_value fill (first ∷ rest) some few octets zeros ones =
+    let cs : List ℕ = first ∷ rest in
+    let free = 16 - length cs in
+    let front = number_of 256 (replicate free fill) in
+    let all_places : free + length cs ≡ 16 = omega (arith, few) in
+    let power : 256 ^ free * 256 ^ length cs ≡ 2 ^ 128 = sym (pow-add 256 free (length cs)) ∙ ap (λ n. 256 ^ n) all_places in
+    let size : length (replicate free fill ++ cs) ≡ 16 = omega (arith, length-append (replicate free fill) cs, length-replicate {A = ℕ} free fill, few) in
+    let value : from_be_bytes w128 (replicate free fill ++ cs) ≡ front * 256 ^ length cs + number_of 256 cs = spelt_by_sixteen (replicate free fill ++ cs) size ∙ number_of-append 256 (replicate free fill) cs in
+    let below = sixteen (length cs) few in
+    elim (cases_lt first 128) [
+      | inl low ↦
+          let half = half_below first rest octets low in
+          let none : front ≡ 0 = ap (λ d. number_of 256 (replicate free d)) (zeros low) ∙ number_of-zeros 256 free in
+          let same : from_be_bytes w128 (replicate free fill ++ cs) ≡ number_of 256 cs = omega (arith, value, ap (λ n. n * 256 ^ length cs) none) in
+          value-from_IsComplement false (number_of 256 cs) first rest octets record { value = refl; half = half } ∙ omega (arith, ints, same, half, below)
+      | inr high ↦
+          let half = half_above first rest high in
+          let whole = number_of-below 256 cs octets in
+          let all : front + 1 ≡ 256 ^ free = ap (λ d. number_of 256 (replicate free d) + 1) (ones high) ∙ number_of-ones free in
+          let above = 256 ^ length cs - number_of 256 cs - 1 in
+          let same : from_be_bytes w128 (replicate free fill ++ cs) ≡ 2 ^ 128 - suc above = omega (arith, value, ap (λ n. n * 256 ^ length cs) all, power, whole, below) in
+          value-from_IsComplement true above first rest octets record { value = omega (arith, whole); half = omega (arith, half, whole) } ∙ sym (ap (to_z w128) same ∙ to_z-neg w128 above (omega (arith, half, whole, below)))
+    ]
+
+-- sixteen octets of one value with others written over the last of them
+pub filled_up : (fill : ℕ) (new cs : List ℕ) → new ≡ cs → length cs ≤ 16 → put_mid (16 - length cs) (16 - (16 - length cs)) (replicate 16 fill) new ≡ replicate (16 - length cs) fill ++ cs
+filled_up fill new cs is few =
+    let free = 16 - length cs in
+    let none : drop (16 - free) (drop free (replicate 16 fill)) ≡ [] = drop_all (16 - free) (drop free (replicate 16 fill)) (omega (arith, length-drop free (replicate 16 fill))) in
+    ap₂ (λ front back. front ++ back) (take-replicate free 16 fill (omega arith)) (ap (λ back. new ++ back) none ∙ (append-nil new ∙ is))

@@ -1,8 +1,7 @@
 //! Contents octets of an INTEGER and of an ENUMERATED number (X.690 8.3 and 8.4).
 
-ghost use Rattle.std.specs.Prelude.{◌≡◌, ◌+◌, ◌^◌, ◌<◌, ◌≤◌, ◌↔◌, ℤ, length, drop, FitsSigned, IsTrue, IfSome, IfNone, OnOk, OnErr};
+ghost use Rattle.std.specs.Prelude.{◌≡◌, ◌^◌, ◌<◌, ◌≤◌, ◌↔◌, ℤ, length, drop, FitsSigned, IsTrue, IfSome, IfNone, OnOk, OnErr};
 ghost use Rattle.std.specs.Int.{w128};
-ghost use Rattle.octets.specs.Digits.{number_of};
 ghost use Rattle.octets.specs.Front.{Appends};
 ghost use Rattle.primitives.specs.Integer.{integer_of, IsInteger, IsWideInteger, NineBitsDiffer, number_at, last_octet_at};
 
@@ -30,14 +29,10 @@ pub fn read_integer(contents: &[u8]) -> Option<i128>
     if let Some(number) = few_octets(contents) {
         return Some(i128::from(number));
     }
-    let Some((&first, _)) = contents.split_first() else {
+    if contents.is_empty() {
         return None;
-    };
-    if first < 0x80 {
-        Some(long_number_above(contents) as i128)
-    } else {
-        Some(-1 - long_number_below(contents) as i128)
     }
+    Some(up_to_sixteen_octets(contents))
 }
 
 /// Whether these are contents octets of a number below -2^127 or above 2^127 - 1, at most
@@ -62,30 +57,16 @@ fn is_shortest(contents: &[u8]) -> bool
     }
 }
 
-// The number that up to sixteen octets spell without a sign.
+// The number of up to sixteen contents octets. Bit 8 of the first fills the octets that are left free before them.
 #[inline(never)]
-fn long_number_above(contents: &[u8]) -> u128
-    requires { length contents.now ≤ 16 }
-    ensures { result ≡ number_of 256 contents.now }
+fn up_to_sixteen_octets(contents: &[u8]) -> i128
+    requires { (1 ≤ length contents.now) × (length contents.now ≤ 16) }
+    ensures { integer_of contents.now ≡ result }
 {
-    let mut number = 0u128;
-    for octet in contents {
-        number = number * 256 + u128::from(*octet);
-    }
-    number
-}
-
-// How far below -1 up to sixteen octets stand.
-#[inline(never)]
-fn long_number_below(contents: &[u8]) -> u128
-    requires { length contents.now ≤ 16 }
-    ensures { result + number_of 256 contents.now + 1 ≡ 256 ^ length contents.now }
-{
-    let mut number = 0u128;
-    for octet in contents {
-        number = number * 256 + u128::from(0xFF - *octet);
-    }
-    number
+    let fill = if contents[0] < 0x80 { 0x00 } else { 0xFF };
+    let mut sixteen = [fill; 16];
+    sixteen[16 - contents.len()..].copy_from_slice(contents);
+    i128::from_be_bytes(sixteen)
 }
 
 // The number of one, three or four contents octets. No branch tells its sign, since nobody guesses which comes next.
