@@ -51,6 +51,8 @@ impl Columns {
         Ok(columns)
     }
 
+    // Keeps the heads of a depth and a size by how many contents octets follow, the indefinite form last, as
+    // `place_of` counts.
     fn keep_heads(&mut self, alloc: Global, depth: usize, head: usize) -> Result<(), NoMemory> {
         for size in 0..SHORT {
             self.keep_head(alloc, depth, head, Some(size))?;
@@ -72,6 +74,7 @@ impl Columns {
         Ok(())
     }
 
+    // Keeps the tags of a class by their numbers. Universal ones must come first, as `Columns::put_tag` counts.
     fn keep_tags(&mut self, alloc: Global, class: Class) -> Result<(), NoMemory> {
         for number in 0..LOW {
             let mut text = String::new(alloc);
@@ -130,6 +133,7 @@ fn place_of(depth: usize, head: usize, contents: Option<usize>) -> Option<usize>
     }
 }
 
+// Appends how many octets a head and its contents have, as `2+5`, filled up to the column's width.
 fn put_lengths(head: usize, contents: Option<usize>, out: &mut String) -> Result<(), NoMemory> {
     let start = out.len();
     put_number(head as u64, out)?;
@@ -141,6 +145,7 @@ fn put_lengths(head: usize, contents: Option<usize>, out: &mut String) -> Result
     pad(start, WIDTH_OF_LENGTHS, out)
 }
 
+// Appends a tag, filled up to the column's width.
 fn put_tag(tag: Tag, out: &mut String) -> Result<(), NoMemory> {
     let start = out.len();
     out.push_str(PrintedTag(tag).word())?;

@@ -29,6 +29,7 @@ pub fn read_values<R: Read, V: Visit>(
     }
 }
 
+// Hands each piece on as it is read: a stream may be longer than memory.
 fn read_pieces<R: Read, V: Visit>(
     alloc: Global,
     input: &mut R,

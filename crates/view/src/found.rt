@@ -57,6 +57,7 @@ pub fn find(
     )
 }
 
+// The walk is lent, so that the loop has nothing to drop on its ways out.
 fn find_by(
     alloc: Global,
     walk: &mut Walk<'_>,

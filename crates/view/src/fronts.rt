@@ -72,6 +72,7 @@ impl Fronts {
         Ok(())
     }
 
+    // Keeps a text at its place. Until it is whole the place has none: a growth may be refused.
     fn keep(&mut self, key: usize, text: &str) -> Result<(), NoMemory> {
         if self.table.is_empty() {
             self.make_table()?;

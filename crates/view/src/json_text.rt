@@ -220,6 +220,7 @@ fn put_hex(octets: &[u8], out: &mut String) -> Result<(), NoMemory> {
     Ok(())
 }
 
+// The digit of a value below 16.
 fn hex_digit(value: u8) -> char {
     match value {
         0..=9 => char::from(b'0' + value),

@@ -98,6 +98,7 @@ fn put_unresolved(
     }
 }
 
+// Each name is asked for by itself, since `resolve` tells one fault of all that a name reaches.
 fn put_unresolved_names(
     alloc: Global,
     module: &Module,

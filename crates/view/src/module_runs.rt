@@ -37,6 +37,7 @@ pub fn show_types<D: FileSystem, W: Write, E: Write>(
     }
 }
 
+// The lines are gathered first: where memory runs out, none is printed.
 fn show_types_of<W: Write, E: Write>(
     alloc: Global,
     module: &Module,

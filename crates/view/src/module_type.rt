@@ -54,6 +54,7 @@ pub fn module_of(alloc: Global, octets: &[u8]) -> Result<Module, Fault> {
     }
 }
 
+// A fault of the file as a whole has no place of its own, and stands at 1:1.
 fn at_front(number: u32) -> Fault {
     let line = 1;
     let column = 1;

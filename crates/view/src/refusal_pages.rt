@@ -179,6 +179,7 @@ fn page_of(number: u64) -> Option<&'static str> {
     None
 }
 
+// Whether the page begins with the number.
 fn is_of(page: &str, number: u64) -> bool {
     match page.split_once(' ') {
         Some((first, _)) => matches!(first.parse::<u64>(), Ok(found) if found == number),

@@ -91,6 +91,7 @@ fn show<D: FileSystem, W: Write, E: Write>(
     }
 }
 
+// The columns are made once, for all files.
 fn show_values<D: FileSystem, W: Write, E: Write>(
     alloc: Global,
     file_system: &D,

@@ -100,6 +100,7 @@ impl<D: FileSystem> Showing<'_, D> {
         self.print_by(&mut self.lines(out), input, values)
     }
 
+    // What was gathered before a fault is written before the fault is told.
     fn print_by<R: Read, W: Write>(
         &self,
         lines: &mut ValueLines<'_, W>,

@@ -107,6 +107,7 @@ impl<'a> Values<'a> {
         }
     }
 
+    // Goes on by the BER reader, which takes the whole piece where no value ends in it.
     fn feed(&mut self, piece: &[u8]) -> Result<Option<usize>, Refusal> {
         let used = self.reader.feed_into(piece, &mut self.slot)?;
         Ok(if self.slot.is_some() {
