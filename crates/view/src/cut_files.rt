@@ -17,6 +17,9 @@ use view_faults::Fault;
 // How many octets of the input are read at once.
 const PIECE: usize = 262_144;
 
+// The greatest numbers of four digits and more.
+const NINES: [u32; 6] = [9_999, 99_999, 999_999, 9_999_999, 99_999_999, 999_999_999];
+
 // The files PREFIX0001, PREFIX0002 and so on.
 #[derive(Drop)]
 struct NumberedFiles<'a, D: FileSystem> {
@@ -170,6 +173,15 @@ fn print_fault<E: Write>(
     }
 }
 
+// The name of a file. Names sort as the files were made: before a number of more than four digits stand the greatest
+// numbers of fewer, so PREFIX999910000 comes behind PREFIX9999.
 fn file_name(alloc: Global, prefix: &str, count: u32) -> Result<String, Fault> {
-    Ok(format!(in alloc; "{prefix}{count:04}")?)
+    let mut name = String::from_str(alloc, prefix)?;
+    for greatest in NINES {
+        if count > greatest {
+            write!(name, "{greatest}")?;
+        }
+    }
+    write!(name, "{count:04}")?;
+    Ok(name)
 }

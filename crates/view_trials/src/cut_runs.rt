@@ -41,6 +41,56 @@ impl Table for Cuts {
     }
 }
 
+// how many values | the name of the last of as many files: no name comes before that of an earlier file
+const LAST_NAMES: &str = "\
+1      | p0001
+9999   | p9999
+10000  | p999910000
+10001  | p999910001
+100000 | p999999999100000";
+
+struct LastNames;
+
+impl Table for LastNames {
+    fn holds(&self, alloc: Global, row: &str) -> Result<bool, Fail> {
+        let (count, wanted) = two(row)?;
+        let input = nulls(alloc, count.parse::<usize>()?)?;
+        let written = RefCell::new(String::new(alloc));
+        let file_system = Fake {
+            alloc,
+            module: "",
+            input: input.as_slice(),
+            written: &written,
+        };
+        let line = line_of(alloc, "cut,whole,--octets,1,--into,p")?;
+        let (mut out, mut err) = (Vec::new(alloc), Vec::new(alloc));
+        let status = run(alloc, &line, &file_system, &mut out, &mut err);
+        Ok(status == 0 && is_last_of_all(alloc, &written, wanted)?)
+    }
+}
+
+// So many values of NULL.
+fn nulls(alloc: Global, count: usize) -> Result<Vec<u8>, Fail> {
+    let mut octets = Vec::new(alloc);
+    for _ in 0..count {
+        octets.extend_from_slice(&[0x05, 0x00])?;
+    }
+    Ok(octets)
+}
+
+// Whether names that are written, each before its octets, come one behind another, and this one is the last.
+fn is_last_of_all(alloc: Global, written: &RefCell<String>, wanted: &str) -> Result<bool, Fail> {
+    let Ok(text) = written.try_borrow() else {
+        return Ok(false);
+    };
+    let words = text.as_str().split(' ');
+    let names: Vec<&str> = words.filter(|word| word.starts_with("p")).collect(alloc)?;
+    match names.last() {
+        Some(last) => Ok(*last == wanted && names.is_sorted_by(|one, next| *one < *next)),
+        None => Ok(false),
+    }
+}
+
 // Whether a run writes these files, and nothing to the standard output; the standard error, and the status.
 fn run_over(alloc: Global, line: &Line, input: &[u8], files: &str) -> (bool, Vec<u8>, u8) {
     let written = RefCell::new(String::new(alloc));
@@ -62,4 +112,9 @@ fn run_over(alloc: Global, line: &Line, input: &[u8], files: &str) -> (bool, Vec
 #[test]
 fn streams_in_files(rt: HostRuntime) -> Result<(), Fail> {
     check(rt.alloc(), &Cuts, CUTS)
+}
+
+#[test]
+fn names_in_order(rt: HostRuntime) -> Result<(), Fail> {
+    check(rt.alloc(), &LastNames, LAST_NAMES)
 }
