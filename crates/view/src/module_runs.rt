@@ -6,7 +6,7 @@ ghost use Rattle.view_faults.specs.Status.{IsStatus};
 use crate::FileSystem;
 use crate::assigned_lines::put_names;
 use crate::module_faults::put_faults;
-use crate::module_type::{module_octets, module_of, resolved};
+use crate::module_type::{module_in, module_octets, resolved};
 use crate::type_lines::put_type;
 use notation::Module;
 use octets::NoMemory;
@@ -14,7 +14,7 @@ use std::alloc::Global;
 use std::io::Write;
 use std::string::String;
 use types::Ty;
-use view_faults::{NoType, print_no_memory, print_no_type};
+use view_faults::{print_no_memory, print_no_type};
 
 /// Prints the names of a module, or the type that one of them means, and returns the exit status.
 pub fn show_types<D: FileSystem, W: Write, E: Write>(
@@ -27,13 +27,9 @@ pub fn show_types<D: FileSystem, W: Write, E: Write>(
 ) -> u8
     ensures { IsStatus result }
 {
-    let octets = match module_octets(alloc, file_system, path) {
-        Ok(octets) => octets,
-        Err(fault) => return print_no_type(path, "", &fault, err),
-    };
-    match module_of(alloc, octets.as_slice()) {
+    match module_in(alloc, file_system, path, err) {
         Ok(module) => show_types_of(alloc, &module, path, name, out, err),
-        Err(fault) => print_no_type(path, "", &NoType::Module(fault), err),
+        Err(status) => status,
     }
 }
 
@@ -63,7 +59,7 @@ fn show_types_of<W: Write, E: Write>(
     status
 }
 
-// Appends the type that a name means.
+// Appends the type that a name means, or prints why it has none. Returns the exit status.
 fn put_resolved<E: Write>(
     alloc: Global,
     module: &Module,
@@ -74,9 +70,9 @@ fn put_resolved<E: Write>(
 ) -> Result<u8, NoMemory>
     ensures { IfOk result IsStatus }
 {
-    match resolved(alloc, module, name) {
+    match resolved(alloc, module, path, name, err) {
         Ok(ty) => put_sized(alloc, ty.as_type(), name, text),
-        Err(fault) => Ok(print_no_type(path, name, &fault, err)),
+        Err(status) => Ok(status),
     }
 }
 

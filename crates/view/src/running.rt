@@ -14,7 +14,7 @@ use octets::NoMemory;
 use std::alloc::Global;
 use std::io::{BufWriter, Write};
 use types::WellTyped;
-use view_faults::{Fault, print_no_memory, print_no_type};
+use view_faults::{Fault, print_no_memory};
 
 /// Does what a command line asks, and returns the exit status. Results go to `out`, one line for each fault to `err`.
 /// An output that fails is a fault, but where its reader is gone.
@@ -85,9 +85,9 @@ fn show<D: FileSystem, W: Write, E: Write>(
     ensures { IsStatus result }
 {
     let (module, name) = (reading.module.as_str(), reading.name.as_str());
-    match type_of(alloc, file_system, module, name) {
+    match type_of(alloc, file_system, module, name, err) {
         Ok(ty) => show_values(alloc, file_system, &ty, reading, form, out, err),
-        Err(fault) => print_no_type(module, name, &fault, err),
+        Err(status) => status,
     }
 }
 

@@ -135,12 +135,15 @@ M DEFINITIONS ::= BEGIN A ::= INTEGER (5) B ::= SEQUENCE { a ANY } C ::= Dd END:
 module,m | | m:1:39: refused 32 NotInProfile: (: OPTIONAL, DEFAULT, a comma or } behind a type, the next assignment, or ::= behind a name could stand here; constraints are not in the profile: leave it out, as asn1x-trim does;m:1:62: refused 32 NotInProfile: ANY: a type, or behind an item a comma, } or a number in ( ) could stand here; ANY is not in the profile: write the type that stands there;m:1:74: refused 24 UnknownType: Dd: no type has this name in the module; || 2
 M DEFINITIONS ::= BEGIN A ::= NULL A ::= SET OF A BB ::= SET OF BB END:
 module,m | | m:1:36: refused 26 RepeatedName: A: the name is assigned already; || 2
+types,m,BB | || m:1:36: A: refused 26 RepeatedName: two names are equal; | 2
+octets,m,BB,in | 0500 || m:1:36: A: refused 26 RepeatedName: two names are equal; | 2
 M DEFINITIONS ::= BEGIN Aab ::= NULL BBBB ::= SET OF BBBB END:
 module,m | | m:1:54: refused 25 Cycle: BBBB: in BBBB: the type reaches itself; || 2
 types,m,Aaa | || m:1:1: Aaa: refused 24 UnknownType: the name, or one that it reaches, is not assigned;Aaa is near Aab; | 2
 octets,m,Aaa,in | 0500 || m:1:1: Aaa: refused 24 UnknownType: the name, or one that it reaches, is not assigned;Aaa is near Aab; | 2
 M DEFINITIONS ::= BEGIN T ::= CHOICE { a NULL, b NULL, a BOOLEAN } U ::= SEQUENCE { t T } END:
 module,m | | m:1:56: refused 26 RepeatedName: a: in T: two names are equal; || 2
+types,m,T | || m:1:25: T: refused 26 RepeatedName: two names are equal; | 2
 M DEFINITIONS ::= BEGIN T ::= SEQUENCE { e ENUMERATED { p(1), q(1) }, f BIT STRING { u(3), v(4), w(3) } } END:
 module,m | | m:1:65: refused 27 RepeatedNumber: 1: in T: two items or two named bits have one number; || 2
 M DEFINITIONS ::= BEGIN T ::= SET { a [1] NULL, b SEQUENCE OF SET { c [APPLICATION 2] NULL, d [APPLICATION 2] BOOLEAN } } U ::= CHOICE { a NULL, b NULL } END:
@@ -157,6 +160,8 @@ M DEFINITIONS ::= BEGIN T ::= [268435456] NULL END:
 module,m | | m:1:32: refused 31 TooLarge: 268435456: a limit of asn1x is passed; || 2
 M DEFINITIONS BEGIN END:
 module,m | | m:1:15: refused 22 Syntax: BEGIN: EXPLICIT, IMPLICIT or AUTOMATIC TAGS, or ::= could stand here; || 2
+types,m,T | || m:1:15: refused 22 Syntax: the token cannot stand here, or more is needed; | 2
+octets,m,T,in | 0500 || m:1:15: refused 22 Syntax: the token cannot stand here, or more is needed; | 2
 M DEFINITIONS:
 module,m | | m:1:14: refused 22 Syntax: EXPLICIT, IMPLICIT or AUTOMATIC TAGS, or ::= could stand here; || 2
 M DEFINITIONS ::= BEGIN T ::= END:
