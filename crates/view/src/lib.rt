@@ -18,6 +18,7 @@ mod module_faults;
 mod module_runs;
 mod module_text;
 mod module_type;
+mod place;
 mod printing;
 mod refusal_pages;
 mod running;

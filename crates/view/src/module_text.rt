@@ -1,6 +1,7 @@
 //! The text of a module, cut at its assignments.
 
 use crate::expected::{expected_behind, what_to_do};
+use crate::place::Place;
 use lexis::{Fault, Kind, Token};
 use octets::NoMemory;
 use simdutf8::basic::from_utf8;
@@ -78,7 +79,7 @@ impl<'a> ModuleText<'a> {
         for which in 0..self.tokens.len() {
             let token = self.tokens[which];
             let is_new = if part.is_header {
-                which > 0 && self.spelling(which - 1) == "BEGIN"
+                self.spelling_before(which) == "BEGIN"
             } else {
                 self.begins_assignment(which) || (which == last && self.spelling(which) == "END")
             };
@@ -125,6 +126,14 @@ impl<'a> ModuleText<'a> {
         };
         let octets = self.octets.get(token.start..token.end).unwrap_or(&[]);
         from_utf8(octets).unwrap_or("")
+    }
+
+    // How the token before this one is spelled; empty where there is none.
+    fn spelling_before(&self, which: usize) -> &'a str {
+        match which.checked_sub(1) {
+            Some(before) => self.spelling(before),
+            None => "",
+        }
     }
 
     /// The token behind a tag that begins with this one.
@@ -246,12 +255,7 @@ impl<'a> ModuleText<'a> {
         }
         // The END that `text_of` puts behind a part is not in the text: the part ends too early.
         let number = if which == part.end { 22 } else { fault.number };
-        let behind = if which == 0 {
-            ""
-        } else {
-            self.spelling(which - 1)
-        };
-        let expected = expected_behind(behind);
+        let expected = expected_behind(self.spelling_before(which));
         let advice = what_to_do(number, spelling);
         let words = format!(in alloc; "{expected} could stand here{advice}")?;
         lines.put(place.line, place.column, number, spelling, words.as_str())
@@ -315,36 +319,5 @@ impl<'a> ModuleText<'a> {
         }
         place.go_to(self.octets, self.start(part.end));
         (part.end, place)
-    }
-}
-
-// A place in a text, which goes forward.
-#[derive(Clone, Copy)]
-struct Place {
-    at: usize,
-    line: u32,
-    column: u32,
-}
-
-impl Place {
-    fn new() -> Place {
-        Place {
-            at: 0,
-            line: 1,
-            column: 1,
-        }
-    }
-
-    // Goes forward to an octet.
-    fn go_to(&mut self, octets: &[u8], at: usize) {
-        for octet in octets.get(self.at..at).unwrap_or(&[]) {
-            if *octet == b'\n' {
-                self.line = self.line.saturating_add(1);
-                self.column = 1;
-            } else {
-                self.column = self.column.saturating_add(1);
-            }
-        }
-        self.at = self.at.max(at);
     }
 }
