@@ -21,51 +21,65 @@ const UNRESOLVED: &str = "names behind the first 1,000 are not looked at";
 // How many times a module is judged to find the places of its faults.
 const MOST_JUDGED: usize = 1_000;
 
-/// Appends a line for each fault of a module's file, and returns how many there are.
+/// Appends a line for each fault of a module's file, in the order of their places, and returns how many there are.
 pub fn put_faults(
     alloc: Global,
     path: &str,
     octets: &[u8],
     out: &mut String,
 ) -> Result<usize, NoMemory> {
+    let mut text = String::new(alloc);
     let mut lines = FaultLine {
         path,
-        out,
-        count: 0,
+        out: &mut text,
+        places: Vec::new(alloc),
     };
+    put_unordered(alloc, octets, &mut lines)?;
+    put_in_order(&mut lines, out)?;
+    Ok(lines.places.len())
+}
+
+// Appends the lines in the order of their places.
+fn put_in_order(lines: &mut FaultLine<'_, '_>, out: &mut String) -> Result<(), NoMemory> {
+    lines.places.sort()?;
+    for (_, _, start) in lines.places.iter() {
+        let behind = lines.out.as_str().get(*start..).unwrap_or("");
+        if let Some((line, _)) = behind.split_once('\n') {
+            out.push_str(line)?;
+            out.push('\n')?;
+        }
+    }
+    Ok(())
+}
+
+// The faults of the octets of a module: those of its text, then those of names that stand in it, then those of types.
+fn put_unordered(
+    alloc: Global,
+    octets: &[u8],
+    lines: &mut FaultLine<'_, '_>,
+) -> Result<(), NoMemory> {
     if octets.len() > MAX_TEXT {
-        lines.put(
-            1,
-            1,
-            31,
-            "",
-            "the file has more than 262,144 octets (the limit is asn1x's own)",
-        )?;
-        return Ok(lines.count);
+        let words = "the file has more than 262,144 octets (the limit is asn1x's own)";
+        return lines.put(1, 1, 31, "", words);
     }
     let Ok(text) = from_utf8(octets) else {
-        lines.put(1, 1, 21, "", "the file is not UTF-8")?;
-        return Ok(lines.count);
+        return lines.put(1, 1, 21, "", "the file is not UTF-8");
     };
     let found = match tokens(alloc, text) {
         Ok(found) => found,
         Err(fault) => {
-            lines.put_number(
-                alloc,
-                fault,
-                "",
-                ", and what stands behind it is not looked at",
-            )?;
-            return Ok(lines.count);
+            let more = ", and what stands behind it is not looked at";
+            return lines.put_number(alloc, fault, "", more);
         }
     };
     let module = ModuleText::new(alloc, octets, found)?;
-    put_parts(alloc, &module, &mut lines)?;
-    module.put_names(alloc, &mut lines)?;
-    if lines.count == 0 {
-        put_unresolved(alloc, text, &module, &mut lines)?;
+    put_parts(alloc, &module, lines)?;
+    let is_parsed = lines.places.is_empty();
+    module.put_names(alloc, lines)?;
+    if is_parsed {
+        put_unresolved(alloc, text, &module, lines)?;
     }
-    Ok(lines.count)
+    Ok(())
 }
 
 // The faults of the parts of a module, each by itself.
@@ -122,6 +136,10 @@ fn put_unresolved_names(
         match resolve(alloc, module, name).err() {
             None => {}
             Some(Fault { number: 33, .. }) => return Err(NoMemory),
+            // `put_names` has told both: a name is not assigned, ..
+            Some(Fault { number: 24, .. }) => {}
+            // .. or one is assigned twice, for which each name is refused
+            Some(fault) if fault.number == 26 && !part.is_at(fault) => return Ok(()),
             Some(fault) => put_unresolved_name(&mut places, part, fault.number, lines)?,
         }
     }

@@ -34,6 +34,11 @@ pub struct Part {
 }
 
 impl Part {
+    /// Whether a fault of the whole text stands at its first octet.
+    pub fn is_at(&self, fault: Fault) -> bool {
+        self.line == fault.line && self.column == fault.column
+    }
+
     // The line and the column in the whole text of a fault of the part, which was parsed by itself.
     fn place_of(&self, fault: Fault) -> (u32, u32) {
         if self.is_header {

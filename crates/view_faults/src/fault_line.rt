@@ -14,8 +14,8 @@ pub struct FaultLine<'a, 'b> {
     pub path: &'a str,
     /// The lines.
     pub out: &'b mut String,
-    /// How many there are.
-    pub count: usize,
+    /// Of each line the place that it is of, its line and its column there, and where it begins in `out`.
+    pub places: Vec<(u32, u32, usize)>,
 }
 
 impl FaultLine<'_, '_> {
@@ -29,6 +29,7 @@ impl FaultLine<'_, '_> {
         subject: &str,
         words: &str,
     ) -> Result<(), NoMemory> {
+        self.places.push((line, column, self.out.len()))?;
         let path = PrintedPath(self.path);
         let name = fault_name(number);
         let colon = if subject.is_empty() { "" } else { ": " };
@@ -37,7 +38,6 @@ impl FaultLine<'_, '_> {
             self.out,
             "{path}:{line}:{column}: refused {number} {name}: {subject}{colon}{words}\n"
         )?;
-        self.count = self.count.saturating_add(1);
         Ok(())
     }
 
@@ -49,9 +49,9 @@ impl FaultLine<'_, '_> {
         name: &str,
         words: &str,
     ) -> Result<(), NoMemory> {
+        self.places.push((line, column, self.out.len()))?;
         let path = PrintedPath(self.path);
         write!(self.out, "{path}:{line}:{column}: {name}: {words}\n")?;
-        self.count = self.count.saturating_add(1);
         Ok(())
     }
 

@@ -133,6 +133,10 @@ types,m,Q | || m:1:1: Q: refused 24 UnknownType: the name, or one that it reache
 module,m | | || 0
 M DEFINITIONS ::= BEGIN A ::= INTEGER (5) B ::= SEQUENCE { a ANY } C ::= Dd END:
 module,m | | m:1:39: refused 32 NotInProfile: (: OPTIONAL, DEFAULT, a comma or } behind a type, the next assignment, or ::= behind a name could stand here; constraints are not in the profile: leave it out, as asn1x-trim does;m:1:62: refused 32 NotInProfile: ANY: a type, or behind an item a comma, } or a number in ( ) could stand here; ANY is not in the profile: write the type that stands there;m:1:74: refused 24 UnknownType: Dd: no type has this name in the module; || 2
+M DEFINITIONS ::= BEGIN A ::= Dd B ::= INTEGER (5) END:
+module,m | | m:1:31: refused 24 UnknownType: Dd: no type has this name in the module;m:1:48: refused 32 NotInProfile: (: OPTIONAL, DEFAULT, a comma or } behind a type, the next assignment, or ::= behind a name could stand here; constraints are not in the profile: leave it out, as asn1x-trim does; || 2
+M DEFINITIONS ::= BEGIN U ::= CHOICE { a NULL, b NULL } T ::= SEQUENCE { x Dd } V ::= CHOICE { c BOOLEAN, d BOOLEAN } END:
+module,m | | m:1:48: refused 28 TagsNotDistinct: b: in U: tags that must differ are equal;m:1:76: refused 24 UnknownType: Dd: no type has this name in the module;m:1:107: refused 28 TagsNotDistinct: d: in V: tags that must differ are equal; || 2
 M DEFINITIONS ::= BEGIN A ::= NULL A ::= SET OF A BB ::= SET OF BB END:
 module,m | | m:1:36: refused 26 RepeatedName: A: the name is assigned already; || 2
 types,m,BB | || m:1:36: A: refused 26 RepeatedName: two names are equal; | 2
