@@ -86,8 +86,8 @@ pub enum Cause<'a> {
     /// An untagged CHOICE of a SET that would lose alternatives: their tags decide CER's order.
     #[error("a CHOICE without all of its alternatives in a SET")]
     CutChoice,
-    /// More types than are taken.
-    #[error("more types than are taken")]
+    /// More types, or longer values, than are taken.
+    #[error("more types or longer values than are taken")]
     TooLarge,
     /// A type that is not taken itself.
     #[error("{0}")]

@@ -107,7 +107,7 @@ impl Copier {
         Ok(Expr::NamedBits(copies))
     }
 
-    fn presence(&self, presence: &Presence) -> Result<Presence, AllocError> {
+    fn presence(&mut self, presence: &Presence) -> Result<Presence, AllocError> {
         match presence {
             Presence::Required => Ok(Presence::Required),
             Presence::Optional => Ok(Presence::Optional),
@@ -115,7 +115,7 @@ impl Copier {
         }
     }
 
-    fn value(&self, value: &DefaultValue) -> Result<DefaultValue, AllocError> {
+    fn value(&mut self, value: &DefaultValue) -> Result<DefaultValue, AllocError> {
         match value {
             DefaultValue::True => Ok(DefaultValue::True),
             DefaultValue::False => Ok(DefaultValue::False),
@@ -127,7 +127,17 @@ impl Copier {
         }
     }
 
-    fn text(&self, text: &String) -> Result<String, AllocError> {
+    // A copy of the text. A long one counts as several parts.
+    fn text(&mut self, text: &String) -> Result<String, AllocError> {
+        self.left = self.left.saturating_sub(parts_in(text.as_str()));
+        if self.left == 0 {
+            return Ok(String::new(self.alloc));
+        }
         String::from_str(self.alloc, text.as_str())
     }
+}
+
+/// As how many parts a text counts besides what it stands in.
+pub fn parts_in(text: &str) -> usize {
+    text.len() / 16
 }

@@ -15,7 +15,7 @@ mod sources;
 mod values;
 
 pub use cause::{Cause, Fault};
-pub use copying::Copier;
+pub use copying::{Copier, parts_in};
 pub use messages::{Kind, Message};
 pub use naming::{Naming, identifier, spelled};
 pub use printing::put_expr;

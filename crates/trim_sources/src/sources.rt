@@ -1,7 +1,7 @@
 //! The modules of all files, and what names in them stand for (X.680 clause 13).
 
 use crate::cause::Cause;
-use published::{Assignment, Body, Form, Module, Reference, Type, Value, Word};
+use published::{Assignment, Body, Field, Form, Module, Reference, Type, Value, Word};
 use std::alloc::{AllocError, Global};
 use std::collections::BTreeMap;
 
@@ -30,6 +30,8 @@ struct Scope<'a> {
     assigned: BTreeMap<&'a str, Found>,
     // from which module, or None: from several
     imported: BTreeMap<&'a str, Option<&'a Word>>,
+    // of classes, by the place of the class and the name
+    fields: BTreeMap<(usize, &'a str), &'a Field>,
 }
 
 /// The modules of all files, with their names.
@@ -176,11 +178,15 @@ impl<'a> Sources<'a> {
         field: &'a Word,
     ) -> Option<bool> {
         let spot = self.find(module, class).ok()?;
-        let Body::Class(fields) = &self.assignment_at(spot)?.body else {
-            return None;
-        };
-        let found = fields.iter().find(|found| found.name.name == field.name)?;
+        let found = self.field_at(spot, field)?;
         Some(found.is_open)
+    }
+
+    // The field of this name of the class that is assigned there.
+    fn field_at(&self, spot: Spot, field: &'a Word) -> Option<&'a Field> {
+        let scope = self.scopes.get(spot.module)?;
+        let key = (spot.assignment, field.name.as_str());
+        scope.fields.get(&key).copied()
     }
 
     /// Whether the type is a field of a class that has a type of its own, behind names perhaps.
@@ -200,8 +206,12 @@ impl<'a> Sources<'a> {
 // The names of a module.
 fn scope_of<'a>(alloc: Global, module: &'a Module) -> Result<Scope<'a>, AllocError> {
     let mut assigned = BTreeMap::new(alloc);
+    let mut fields = BTreeMap::new(alloc);
     for (place, assignment) in module.assignments.iter().enumerate() {
         enter(&mut assigned, assignment.name.name.as_str(), place)?;
+        if let Body::Class(found) = &assignment.body {
+            enter_fields(&mut fields, place, found)?;
+        }
     }
     let mut imported = BTreeMap::new(alloc);
     for import in &module.imports {
@@ -209,7 +219,26 @@ fn scope_of<'a>(alloc: Global, module: &'a Module) -> Result<Scope<'a>, AllocErr
             enter_imported(&mut imported, word.name.as_str(), &import.module)?;
         }
     }
-    Ok(Scope { assigned, imported })
+    Ok(Scope {
+        assigned,
+        imported,
+        fields,
+    })
+}
+
+// Enters the fields of the class that is assigned at this place. Of a name that repeats the first one counts.
+fn enter_fields<'a>(
+    fields: &mut BTreeMap<(usize, &'a str), &'a Field>,
+    class: usize,
+    found: &'a [Field],
+) -> Result<(), AllocError> {
+    for field in found {
+        let key = (class, field.name.name.as_str());
+        if fields.get(&key).is_none() {
+            fields.insert(key, field)?;
+        }
+    }
+    Ok(())
 }
 
 // Enters a name that is imported from this module.

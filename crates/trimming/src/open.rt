@@ -5,7 +5,7 @@ use published::{Place, Reference, Word};
 use std::alloc::{AllocError, Global};
 use syntax::{Expr, Simple};
 use trim_rules::Root;
-use trim_sources::{Cause, Given, Spot, Substitute, simple_of_words};
+use trim_sources::{Cause, Spot, Substitute, simple_of_words};
 
 impl<'a> Trimmer<'a> {
     /// An open type, or a field of a class: the type that the request gives to its place. Without one it is
@@ -16,14 +16,17 @@ impl<'a> Trimmer<'a> {
         place: Place,
         cause: Cause<'a>,
     ) -> Result<Draft, AllocError> {
-        let Some(given) = self.take_given(alloc)? else {
+        let Some(at) = self.take_given(alloc)? else {
+            return self.refuse(alloc, place, cause);
+        };
+        let Some(given) = self.request.given.get(at) else {
             return self.refuse(alloc, place, cause);
         };
         if let Some(simple) = self.simple_given(&given.ty) {
             return Ok(Draft::whole(Expr::Simple(simple)));
         }
         let name = given.ty.name.as_str();
-        let Some(spot) = self.spot_of(alloc, &given.ty)? else {
+        let Some(spot) = self.spot_of(at, &given.ty) else {
             return self.refuse(alloc, place, Cause::NoSubstitute(name));
         };
         match self.reach(alloc, spot)? {
@@ -66,7 +69,7 @@ impl<'a> Trimmer<'a> {
         if self.simple_given(&given.ty).is_some() {
             return Ok(Root::Other);
         }
-        let Some(spot) = self.spot_of(alloc, &given.ty)? else {
+        let Some(spot) = self.spot_of(place, &given.ty) else {
             return Ok(Root::Field);
         };
         match self.reach(alloc, spot)? {
@@ -88,15 +91,15 @@ impl<'a> Trimmer<'a> {
         }
     }
 
-    // What the request gives to the place that is being made, which is taken then.
-    fn take_given(&mut self, alloc: Global) -> Result<Option<&'a Given>, AllocError> {
+    // What the request gives to the place that is being made, which is taken then: how many stand before it.
+    fn take_given(&mut self, alloc: Global) -> Result<Option<usize>, AllocError> {
         let Some(place) = self.given_here(alloc)? else {
             return Ok(None);
         };
         if let Some(is_taken) = self.taken.get_mut(place) {
             *is_taken = true;
         }
-        Ok(self.request.given.get(place))
+        Ok(Some(place))
     }
 
     // What the request gives to the place that is being made: how many stand before it.
@@ -118,20 +121,33 @@ impl<'a> Trimmer<'a> {
         })
     }
 
-    // Where the type is assigned: in the module that is given, or in that of the place, or else in the only
-    // one that assigns the name.
-    fn spot_of(&self, alloc: Global, ty: &'a Substitute) -> Result<Option<Spot>, AllocError> {
+    // Where the type is assigned that the request gives behind so many: in the module that is given, or in that
+    // of the place, or else in the only one that assigns the name.
+    fn spot_of(&self, at: usize, ty: &'a Substitute) -> Option<Spot> {
         let name = ty.name.as_str();
         if let Some(module) = &ty.module {
-            return Ok(self.sources.find_in(module.as_str(), name).ok());
+            return self.sources.find_in(module.as_str(), name).ok();
         }
         if let Ok(spot) = self.sources.find_from(self.work.module, name) {
-            return Ok(Some(spot));
+            return Some(spot);
         }
-        let modules = self.sources.assigning(alloc, name)?;
-        match modules.as_slice() {
-            [module] => Ok(self.sources.find_from(*module, name).ok()),
-            _ => Ok(None),
+        match self.alone.get(at) {
+            Some(spot) => *spot,
+            None => None,
         }
+    }
+
+    /// Looks once for the types that the request gives, in all modules.
+    pub fn look_for_given(&mut self, alloc: Global) -> Result<(), AllocError> {
+        for given in &self.request.given {
+            let name = given.ty.name.as_str();
+            let modules = self.sources.assigning(alloc, name)?;
+            let spot = match modules.as_slice() {
+                [module] => self.sources.find_from(*module, name).ok(),
+                _ => None,
+            };
+            self.alone.push(spot)?;
+        }
+        Ok(())
     }
 }

@@ -5,7 +5,7 @@ use published::Place;
 use std::alloc::{AllocError, Global};
 use std::collections::BTreeMap;
 use syntax::{Expr, Simple, Tagging};
-use trim_sources::{Budget, Cause, Fault, Kind, Message, Naming, Request, Sources};
+use trim_sources::{Budget, Cause, Fault, Kind, Message, Naming, Request, Sources, Spot, parts_in};
 
 /// The most types that are looked at.
 const MAX_LOOKS: usize = 262_144;
@@ -39,6 +39,8 @@ pub struct Trimmer<'a> {
     pub told: usize,
     /// Of each type that the request gives, whether an open type took it.
     pub taken: Vec<bool>,
+    /// Of each, where it is assigned, if one module alone assigns its name.
+    pub alone: Vec<Option<Spot>>,
 }
 
 /// What is made of one type.
@@ -113,12 +115,19 @@ impl<'a> Trimmer<'a> {
             budget: Budget::new(),
             told: 0,
             taken: Vec::new(alloc),
+            alone: Vec::new(alloc),
         }
     }
 
     /// Counts a type that is looked at. Whether there were not too many.
     pub fn look(&mut self) -> bool {
         self.looks = self.looks.saturating_add(1);
+        self.looks <= MAX_LOOKS
+    }
+
+    /// Counts a text as several types that are looked at. Whether there were not too many.
+    pub fn look_at_text(&mut self, text: &str) -> bool {
+        self.looks = self.looks.saturating_add(parts_in(text));
         self.looks <= MAX_LOOKS
     }
 

@@ -179,6 +179,7 @@ fn made<'a>(
         Err(cause) => return Err(refused(alloc, None, format!(in alloc; "{cause}")?)),
     };
     trimmer.taken = vec![in alloc; false; request.given.len()]?;
+    trimmer.look_for_given(alloc)?;
     trimmer.walk(alloc, root)?;
     let mut refusal = trimmer.refusals(alloc, root)?;
     trimmer.not_taken(alloc, &mut refusal)?;
