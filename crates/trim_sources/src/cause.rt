@@ -86,6 +86,9 @@ pub enum Cause<'a> {
     /// An untagged CHOICE of a SET that would lose alternatives: their tags decide CER's order.
     #[error("a CHOICE without all of its alternatives in a SET")]
     CutChoice,
+    /// An untagged CHOICE that would lose alternatives, where another component has the tag of one.
+    #[error("a CHOICE without all of its alternatives, beside a part with one of their tags")]
+    SharedChoice,
     /// More types, or longer values, than are taken.
     #[error("more types or longer values than are taken")]
     TooLarge,

@@ -12,6 +12,7 @@ mod request;
 mod reserved;
 mod simple;
 mod sources;
+mod tags;
 mod values;
 
 pub use cause::{Cause, Fault};
@@ -22,4 +23,5 @@ pub use printing::put_expr;
 pub use request::{Given, Request, Substitute, given_of, with_module};
 pub use simple::{in_profile, is_left_out_string, name_of_left_out, simple_of_words};
 pub use sources::{MAX_STEPS, Sources, Spot};
+pub use tags::Tags;
 pub use values::{Base, Budget, ValueOf};

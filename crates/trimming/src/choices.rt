@@ -19,6 +19,8 @@ struct Chosen<'a> {
     lost: Vec<Fault<'a>>,
     /// Whether one is an untagged CHOICE without some of its alternatives.
     is_cut: bool,
+    /// Where what is noted of the tags of the next one stands.
+    mark: usize,
 }
 
 impl<'a> Trimmer<'a> {
@@ -39,15 +41,19 @@ impl<'a> Trimmer<'a> {
             self.drop_part(alloc, marker, "an extension marker")?;
         }
         let is_automatic = self.is_automatic_choice(alternatives);
+        let marks = self.work.shared.len();
+        self.note_shared_of_choice(alloc, alternatives)?;
         let mut chosen = Chosen {
             made: Vec::new(alloc),
             lost: Vec::new(alloc),
             is_cut: false,
+            mark: marks,
         };
         let first = first_of(is_automatic, Section::Root, root);
         self.alternatives(alloc, first, &alternatives.root, &mut chosen)?;
         let first = first_of(is_automatic, Section::Additions, root);
         self.alternatives(alloc, first, &alternatives.additions, &mut chosen)?;
+        self.work.shared.truncate(marks);
         self.chosen(alloc, chosen)
     }
 
@@ -69,6 +75,7 @@ impl<'a> Trimmer<'a> {
         for (place, written) in alternatives.iter().enumerate() {
             let number = first.map(|first| first.saturating_add(place));
             self.alternative(alloc, number, written, chosen)?;
+            chosen.mark = chosen.mark.saturating_add(1);
         }
         Ok(())
     }
@@ -87,6 +94,9 @@ impl<'a> Trimmer<'a> {
         self.work.path.push(written.name.name.as_str())?;
         let Draft { expr: body, is_cut } = self.part(alloc, number, &written.body)?;
         chosen.is_cut = chosen.is_cut || is_cut;
+        if is_cut && self.shares_tag(chosen.mark) {
+            self.note(alloc, written.body.place, Cause::SharedChoice)?;
+        }
         if self.work.made.faults.len() == mark.faults {
             chosen.made.push(Alternative { name, body })?;
         } else {
@@ -106,7 +116,10 @@ impl<'a> Trimmer<'a> {
         mark: Mark,
         chosen: &mut Chosen<'a>,
     ) -> Result<(), AllocError> {
-        if !self.can_leave_out_since(mark) || !self.is_told_apart(alloc, number, written)? {
+        if self.shares_tag(chosen.mark)
+            || !self.can_leave_out_since(mark)
+            || !self.is_told_apart(alloc, number, written)?
+        {
             return Ok(());
         }
         chosen.is_cut = true;
@@ -135,6 +148,7 @@ impl<'a> Trimmer<'a> {
             made,
             mut lost,
             is_cut,
+            mark: _,
         } = chosen;
         if made.is_empty() {
             self.work.made.faults.append(&mut lost)?;

@@ -18,6 +18,8 @@ pub struct Inclusion {
     pub is_automatic: bool,
     /// The section of its list.
     pub section: Section,
+    /// Whether one of its components shares a tag with another component of the list.
+    pub shares_tag: bool,
 }
 
 impl<'a> Trimmer<'a> {
@@ -90,6 +92,11 @@ impl<'a> Trimmer<'a> {
         if node.made.has_open_end {
             return Some(Cause::ComponentsOf("a list without the open type at its end"));
         }
+        if node.made.is_narrowed && at.shares_tag {
+            return Some(Cause::ComponentsOf(
+                "a list without all of its parts, beside a part with one of their tags",
+            ));
+        }
         None
     }
 
@@ -116,6 +123,7 @@ impl<'a> Trimmer<'a> {
                 }
             }
             self.work.made.included.push(place)?;
+            self.work.made.is_narrowed |= node.made.is_narrowed;
         }
         self.look_until(copier.left);
         if copier.left == 0 {

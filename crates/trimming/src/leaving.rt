@@ -55,6 +55,7 @@ impl<'a> Trimmer<'a> {
         why: &str,
     ) -> Result<(), AllocError> {
         self.forget(mark);
+        self.work.made.is_narrowed = true;
         if !self.tell() {
             self.note(alloc, place, Cause::TooLarge)?;
         }

@@ -13,6 +13,7 @@ mod node;
 mod open;
 mod reaching;
 mod reporting;
+mod sharing;
 mod tagging;
 mod trimmer;
 mod trimming;

@@ -5,8 +5,7 @@ use crate::leaving::Mark;
 use crate::tagging::Label;
 use crate::trimmer::{Draft, Trimmer};
 use published::{
-    Component as Written, Components, Form, Number, Place, Presence as WrittenPresence, Tag, Type,
-    Word,
+    Component as Written, Components, Form, Place, Presence as WrittenPresence, Type, Word,
 };
 use std::alloc::{AllocError, Global};
 use std::mem::drop;
@@ -28,7 +27,7 @@ struct Slot {
     standing: Standing,
     /// Whether an open type here cannot be taken for another component where it is left out.
     is_apart: bool,
-    /// Whether it is an addition with the tag of another one.
+    /// Whether it shares a tag with another component, for which it could be taken.
     shares_tag: bool,
 }
 
@@ -45,6 +44,8 @@ struct List {
     tail: usize,
     /// How many components there are.
     count: usize,
+    /// Where what is noted of the tags of the first one stands.
+    marks: usize,
 }
 
 impl<'a> Trimmer<'a> {
@@ -58,12 +59,16 @@ impl<'a> Trimmer<'a> {
         components: &'a Components,
     ) -> Result<Draft, AllocError> {
         let is_automatic = is_automatic(self.work.tagging, has_tags(components));
-        let list = list_of(is_automatic, group, components);
+        let marks = self.work.shared.len();
+        let list = list_of(is_automatic, group, components, marks);
         if list.count > MAX_PARTS {
             return self.refuse(alloc, place, Cause::Parts);
         }
         if let Some(marker) = components.marker {
             self.drop_part(alloc, marker, "an extension marker")?;
+        }
+        if !is_automatic {
+            self.note_shared(alloc, group, components)?;
         }
         let mut made = Vec::new(alloc);
         self.section(alloc, list, Section::Root, &components.root, &mut made)?;
@@ -72,6 +77,7 @@ impl<'a> Trimmer<'a> {
         self.section(alloc, list, Section::Additions, additions, &mut made)?;
         let (end, end_of_uses) = (made.len(), self.work.made.uses.len());
         self.section(alloc, list, Section::Tail, &components.tail, &mut made)?;
+        self.work.shared.truncate(marks);
         // (a list within the tail has noted its own)
         self.work.made.additions = Additions { start, end };
         self.work.made.uses_of_additions = Additions {
@@ -93,8 +99,9 @@ impl<'a> Trimmer<'a> {
     ) -> Result<(), AllocError> {
         let first = first_number(section, list.root, list.tail);
         for (place, written) in components.iter().enumerate() {
+            let shares_tag = self.shares_tag(mark_of(list, section, place));
             let Some(word) = &written.name else {
-                let at = inclusion_in(list, section);
+                let at = inclusion_in(list, section, shares_tag);
                 self.include(alloc, at, &written.body, made)?;
                 continue;
             };
@@ -103,7 +110,7 @@ impl<'a> Trimmer<'a> {
                 number: number_at(list.is_automatic, first, place),
                 standing: standing_in(section, standing_of(&written.presence)),
                 is_apart: is_apart(list, section, components, place),
-                shares_tag: section == Section::Additions && shares_tag(components, &written.body),
+                shares_tag,
             };
             self.component(alloc, slot, word, written, made)?;
         }
@@ -209,7 +216,20 @@ impl<'a> Trimmer<'a> {
         Ok(!is_open || slot.is_apart)
     }
 
-    // What stands behind the component. A SET takes no CHOICE that is without some of its alternatives.
+    // Notes that the type of a component is a CHOICE without some of its alternatives, which a SET does not take, nor a
+    // list in which another component has the tag of one.
+    fn note_cut(&mut self, alloc: Global, slot: Slot, place: Place) -> Result<(), AllocError> {
+        self.work.made.is_narrowed = true;
+        if slot.group == Group::Set {
+            self.note(alloc, place, Cause::CutChoice)
+        } else if slot.shares_tag {
+            self.note(alloc, place, Cause::SharedChoice)
+        } else {
+            Ok(())
+        }
+    }
+
+    // What stands behind the component.
     fn presence(
         &mut self,
         alloc: Global,
@@ -217,8 +237,8 @@ impl<'a> Trimmer<'a> {
         written: &'a Written,
         is_cut: bool,
     ) -> Result<Presence, AllocError> {
-        if is_cut && slot.group == Group::Set {
-            self.note(alloc, written.body.place, Cause::CutChoice)?;
+        if is_cut {
+            self.note_cut(alloc, slot, written.body.place)?;
         }
         let literal = match &written.presence {
             WrittenPresence::Default(value) => self.literal(alloc, &written.body, value)?,
@@ -243,7 +263,7 @@ fn place_of(written: &Written) -> Place {
 }
 
 // The numbers of components of a list.
-fn list_of(is_automatic: bool, group: Group, components: &Components) -> List {
+fn list_of(is_automatic: bool, group: Group, components: &Components, marks: usize) -> List {
     let root = components.root.len();
     let tail = components.tail.len();
     List {
@@ -254,36 +274,18 @@ fn list_of(is_automatic: bool, group: Group, components: &Components) -> List {
         count: root
             .saturating_add(tail)
             .saturating_add(components.additions.len()),
+        marks,
     }
 }
 
-// Whether several additions have the tag that is written in front of this one. Each may be absent, whatever is written
-// behind it, so one would be read as another where that is left out.
-fn shares_tag(additions: &[Written], addition: &Type) -> bool {
-    let Form::Tagged(tag, _) = &addition.form else {
-        return false;
+// Where it stands whether a component of a section shares its tag.
+fn mark_of(list: List, section: Section, place: usize) -> usize {
+    let before = match section {
+        Section::Root => 0,
+        Section::Additions => list.root,
+        Section::Tail => list.count.saturating_sub(list.tail),
     };
-    let has_tag = |component: &&Written| is_tagged_so(&component.body, tag);
-    additions.iter().filter(has_tag).count() > 1
-}
-
-// Whether this tag is written in front of the type.
-fn is_tagged_so(ty: &Type, tag: &Tag) -> bool {
-    match &ty.form {
-        Form::Tagged(written, _) => {
-            written.class == tag.class && is_same_number(&written.number, &tag.number)
-        }
-        _ => false,
-    }
-}
-
-// Whether two numbers are written alike.
-fn is_same_number(one: &Number, other: &Number) -> bool {
-    match (one, other) {
-        (Number::Literal(one), Number::Literal(other)) => one == other,
-        (Number::Name(one), Number::Name(other)) => one.name == other.name,
-        _ => false,
-    }
+    list.marks.saturating_add(before).saturating_add(place)
 }
 
 /// Whether a tag is written in a list, as it stands before COMPONENTS OF is written out (X.680 25.3).
@@ -301,11 +303,12 @@ fn standing_of(presence: &WrittenPresence) -> Standing {
 }
 
 // Where COMPONENTS OF stands in a section of a list.
-fn inclusion_in(list: List, section: Section) -> Inclusion {
+fn inclusion_in(list: List, section: Section, shares_tag: bool) -> Inclusion {
     Inclusion {
         group: list.group,
         is_automatic: list.is_automatic,
         section,
+        shares_tag,
     }
 }
 

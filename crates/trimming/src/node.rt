@@ -79,6 +79,8 @@ pub struct Made<'a> {
     pub uses_of_additions: Additions,
     /// Whether an untagged open type at the end of a list is left out.
     pub has_open_end: bool,
+    /// Whether a part of it is left out, or of an untagged CHOICE in it.
+    pub is_narrowed: bool,
 }
 
 impl Made<'_> {
@@ -94,6 +96,7 @@ impl Made<'_> {
             additions: Additions::new(),
             uses_of_additions: Additions::new(),
             has_open_end: false,
+            is_narrowed: false,
         }
     }
 }

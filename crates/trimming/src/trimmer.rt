@@ -13,6 +13,9 @@ const MAX_LOOKS: usize = 262_144;
 /// The most faults and messages that are told with their paths.
 const MAX_TOLD: usize = 10_000;
 
+/// The most types that are looked at for their tags, and tags.
+const MAX_TAGS: usize = 1 << 19;
+
 /// The most octets of a path.
 const MAX_PATH: usize = 256;
 
@@ -37,6 +40,8 @@ pub struct Trimmer<'a> {
     pub budget: Budget,
     /// How many faults and messages are told.
     pub told: usize,
+    /// How many types may still be looked at for their tags, and tags.
+    pub tags_left: usize,
     /// Of each type that the request gives, whether an open type took it.
     pub taken: Vec<bool>,
     /// Of each, where it is assigned, if one module alone assigns its name.
@@ -60,6 +65,8 @@ pub struct Work<'a> {
     pub pending: Vec<usize>,
     /// Whether it neither refers to itself nor to a type that does.
     pub is_finite: bool,
+    /// Of each part of the lists that are being made, whether it shares a tag with another part of its list.
+    pub shared: Vec<bool>,
 }
 
 /// What is made of a type.
@@ -97,6 +104,7 @@ impl<'a> Work<'a> {
             made: Made::new(alloc),
             pending: Vec::new(alloc),
             is_finite: true,
+            shared: Vec::new(alloc),
         }
     }
 }
@@ -114,6 +122,7 @@ impl<'a> Trimmer<'a> {
             looks: 0,
             budget: Budget::new(),
             told: 0,
+            tags_left: MAX_TAGS,
             taken: Vec::new(alloc),
             alone: Vec::new(alloc),
         }

@@ -76,6 +76,18 @@ T --narrow; T ::= SEQUENCE { c CHOICE { x NULL, y CHOICE { z ANY } } OPTIONAL, b
 T --narrow; T ::= CHOICE { a NULL, c C } C ::= CHOICE { x BOOLEAN, y ANY }; m.asn:2:58: refused: an open type at C.y; give --as C.y=TYPE
 T --narrow; T ::= SEQUENCE { a NULL, ..., b [0] REAL, c [0] BOOLEAN OPTIONAL }; m.asn:2:37: refused: REAL at T.b
 T --narrow; T ::= SEQUENCE { a NULL, ..., b [v] REAL OPTIONAL, [[ c [v] BOOLEAN OPTIONAL ]] } v INTEGER ::= 3; m.asn:2:37: refused: REAL at T.b
+T --narrow; T ::= SEQUENCE { a NULL, ..., b CHOICE { x [0] REAL, y [1] NULL }, c [0] BOOLEAN }; m.asn:2:33: refused: a CHOICE without all of its alternatives, beside a part with one of their tags at T.b
+T --narrow; T ::= SEQUENCE { a NULL, ..., b U OPTIONAL, [[ c W ]] } U ::= CHOICE { x V, y NULL } V ::= [0] REAL W ::= [0] BOOLEAN; m.asn:2:33: refused: a CHOICE without all of its alternatives, beside a part with one of their tags at T.b
+T --narrow; T ::= SEQUENCE { a NULL, ..., b U, c V } U ::= [0] REAL V ::= [0] BOOLEAN; m.asn:2:52: refused: REAL at U
+T --narrow; T ::= SEQUENCE { a NULL, ..., b P {NULL}, c [0] BOOLEAN }; m.asn:2:33: refused: a type with parameters at T.b
+T --narrow; T ::= SEQUENCE { a NULL, ..., b [0] REAL, ..., c [0] BOOLEAN }; m.asn:2:37: refused: REAL at T.b
+T --narrow; T ::= SEQUENCE { a NULL, ..., b [0] NULL, ..., c CHOICE { x [0] REAL, y [1] NULL } }; m.asn:2:50: refused: a CHOICE without all of its alternatives, beside a part with one of their tags at T.c
+T --narrow; T ::= SEQUENCE { a [0] REAL OPTIONAL, b [0] BOOLEAN }; m.asn:2:24: refused: REAL at T.a
+T --narrow; T ::= SET { a [0] REAL OPTIONAL, b NULL, c [0] BOOLEAN }; m.asn:2:19: refused: REAL at T.a
+T --narrow; T ::= CHOICE { a [0] REAL, b [0] NULL }; m.asn:2:22: refused: REAL at T.a
+T --narrow; T ::= CHOICE { a CHOICE { x [0] REAL, y NULL }, b [0] BOOLEAN }; m.asn:2:18: refused: a CHOICE without all of its alternatives, beside a part with one of their tags at T.a
+T --narrow; T ::= SEQUENCE { a [0] REAL OPTIONAL, COMPONENTS OF U } U ::= SEQUENCE { b [0] NULL }; m.asn:2:24: refused: REAL at T.a
+T --narrow; T ::= SEQUENCE { a [0] NULL OPTIONAL, COMPONENTS OF U } U ::= SEQUENCE { COMPONENTS OF V, c NULL } V ::= SEQUENCE { b [0] REAL OPTIONAL }; m.asn:2:53: refused: COMPONENTS OF a list without all of its parts, beside a part with one of their tags at T; write the components out
 M.T; IMPORTS U FROM N U FROM P;T ::= SEQUENCE { a U } END N DEFINITIONS ::= BEGIN U ::= NULL END P DEFINITIONS ::= BEGIN U ::= BOOLEAN; m.asn:2:46: refused: U is imported from more than one module at T.a
 ";
 
