@@ -29,8 +29,8 @@ pub use published_tokens::{Fault, MAX_FILE, MAX_LEVELS, MAX_PARTS, Place, Reason
 pub use simple::Simple;
 pub use syntax::{Group, SignedNumber, TagMode, Tagging};
 pub use tree::{
-    Alternative, Alternatives, Assignment, Body, Component, Components, Field, Form, Import, Item,
-    Items, LeftOut, Module, NamedNumber, Presence, Reference, Tag, Type,
+    Alternative, Alternatives, Assignment, Body, Component, Components, Field, FieldOf, Form,
+    Import, Item, Items, LeftOut, Module, NamedNumber, Presence, Reference, Tag, Type,
 };
 pub use value::{Arc, Number, Value, ValueForm};
 

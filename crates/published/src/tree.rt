@@ -73,6 +73,17 @@ pub struct Field {
     /// Whether a type that is written by its name is open: the field has a type, or a value whose type another
     /// field has.
     pub is_open: bool,
+    /// What is written as its type, where that is a field of a class in turn.
+    pub other: Option<FieldOf>,
+}
+
+/// A field of a class, as it is written in place of a type.
+#[derive(Drop)]
+pub struct FieldOf {
+    /// The class's name.
+    pub class: Reference,
+    /// The name of the field. None: several fields stand there.
+    pub field: Option<Word>,
 }
 
 /// A type.

@@ -177,9 +177,18 @@ impl<'a> Sources<'a> {
         class: &'a Reference,
         field: &'a Word,
     ) -> Option<bool> {
-        let spot = self.find(module, class).ok()?;
-        let found = self.field_at(spot, field)?;
-        Some(found.is_open)
+        let (mut module, mut class, mut field) = (module, class, field);
+        for _step in 0..MAX_STEPS {
+            let spot = self.find(module, class).ok()?;
+            let found = self.field_at(spot, field)?;
+            let Some(other) = &found.other else {
+                return Some(found.is_open);
+            };
+            module = spot.module;
+            class = &other.class;
+            field = other.field.as_ref()?;
+        }
+        None
     }
 
     // The field of this name of the class that is assigned there.

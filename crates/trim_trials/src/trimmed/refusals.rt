@@ -88,6 +88,7 @@ T --narrow; T ::= CHOICE { a [0] REAL, b [0] NULL }; m.asn:2:22: refused: REAL a
 T --narrow; T ::= CHOICE { a CHOICE { x [0] REAL, y NULL }, b [0] BOOLEAN }; m.asn:2:18: refused: a CHOICE without all of its alternatives, beside a part with one of their tags at T.a
 T --narrow; T ::= SEQUENCE { a [0] REAL OPTIONAL, COMPONENTS OF U } U ::= SEQUENCE { b [0] NULL }; m.asn:2:24: refused: REAL at T.a
 T --narrow; T ::= SEQUENCE { a [0] NULL OPTIONAL, COMPONENTS OF U } U ::= SEQUENCE { COMPONENTS OF V, c NULL } V ::= SEQUENCE { b [0] REAL OPTIONAL }; m.asn:2:53: refused: COMPONENTS OF a list without all of its parts, beside a part with one of their tags at T; write the components out
+T --as T.a=NULL; T ::= SEQUENCE { a [0] K.&id } K ::= CLASS { &id N.&Type }; m.asn:2:20: refused: a tag without a keyword in front of a field of a class at T.a; write EXPLICIT or IMPLICIT behind the tag
 M.T; IMPORTS U FROM N U FROM P;T ::= SEQUENCE { a U } END N DEFINITIONS ::= BEGIN U ::= NULL END P DEFINITIONS ::= BEGIN U ::= BOOLEAN; m.asn:2:46: refused: U is imported from more than one module at T.a
 ";
 

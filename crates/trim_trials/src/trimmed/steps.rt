@@ -69,6 +69,8 @@ IMPLICIT TAGS; T --as T.a=NULL --as T.b=NULL --as T.c=C --as T.d=NULL; T ::= SEQ
 ; T --as T=NULL; T ::= [0] IMPLICIT X.&id; T ::= [0] IMPLICIT NULL;
 IMPLICIT TAGS; T --as T.a=NULL --as U=NULL; T ::= SEQUENCE { a [0] X.&value, b [1] U } X ::= CLASS { &value &Type, &Type OPTIONAL, &Set INTEGER } U ::= X.&Set; T ::= SEQUENCE { a [0] EXPLICIT NULL, b [1] IMPLICIT U } U ::= NULL;
 AUTOMATIC TAGS; T --as T.a=INTEGER --as T.b=NULL; T ::= SEQUENCE { a K.&id, b K.&Type } K ::= CLASS { &id INTEGER UNIQUE, &Type }; T ::= SEQUENCE { a [0] IMPLICIT INTEGER, b [1] EXPLICIT NULL };
+# a field whose type is a field of another class is what that one is
+IMPLICIT TAGS; T --as T.a=NULL --as T.b=INTEGER; T ::= SEQUENCE { a [0] K.&a, b [1] K.&b } K ::= CLASS { &a L.&Type, &b M.L.&id UNIQUE } L ::= CLASS { &id INTEGER, &Type }; T ::= SEQUENCE { a [0] EXPLICIT NULL, b [1] IMPLICIT INTEGER };
 # a component or an alternative without a name, as X.208 has it, is named by its place
 ; T; T ::= SEQUENCE { a NULL, CHOICE { b BOOLEAN, [0] NULL } }; T ::= SEQUENCE { a NULL, unnamed-2 CHOICE { b BOOLEAN, unnamed-2 [0] EXPLICIT NULL } };
 # COMPONENTS OF stands for the components of the root (X.680 25.5), each with the tags that it has where it is written
