@@ -6,7 +6,7 @@ ghost use Rattle.texts.specs.Leaf.{bit_digit as digit_of_bit, hex_digit as digit
 
 use octets::NoMemory;
 use primitives::Bits;
-use simdutf8::basic::from_utf8;
+use std::str::from_utf8_unchecked;
 use std::string::String;
 use strings::TextKind;
 
@@ -136,10 +136,7 @@ fn put_ascii(octets: &[u8], out: &mut String) -> Result<(), NoMemory>
     requires { IsAscii octets.now }
     ensures { OnOk result (string_bytes out.new ≡ string_bytes out.old ++ octets.now) }
 {
-    let Ok(text) = from_utf8(octets) else {
-        unreachable!();
-    };
-    out.push_str(text)?;
+    out.push_str(unsafe { from_utf8_unchecked(octets) })?;
     Ok(())
 }
 
