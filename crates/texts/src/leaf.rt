@@ -53,9 +53,14 @@ pub(crate) fn put_arcs(arcs: &[u128], out: &mut String) -> Result<(), NoMemory>
     Ok(())
 }
 
+// Appends an arc in decimal. Most are one digit.
 fn put_arc(arc: u128, out: &mut String) -> Result<(), NoMemory>
     ensures { OnOk result (string_bytes out.new ≡ string_bytes out.old ++ decimal arc) }
 {
+    if arc < 10 {
+        out.push((b'0' + arc as u8) as char)?;
+        return Ok(());
+    }
     let mut buffer = Buffer::new();
     out.push_str(buffer.format(arc))?;
     Ok(())

@@ -109,6 +109,10 @@ fn put_component(field: &Field, value: &Value, out: &mut String) -> Result<(), N
 fn put_lead(is_first: bool, out: &mut String) -> Result<(), NoMemory>
     ensures { OnOk result (string_bytes out.new ≡ string_bytes out.old ++ (if is_first then codes " " else codes ", ")) }
 {
-    out.push_str(if is_first { " " } else { ", " })?;
+    if is_first {
+        out.push_str(" ")?;
+    } else {
+        out.push_str(", ")?;
+    }
     Ok(())
 }
