@@ -1,6 +1,6 @@
 //! Texts of strings.
 
-ghost use Rattle.std.specs.Prelude.{◌≡◌, ◌≤◌, ◌<◌, ◌++◌, IsAscii, IsTrue, OnOk, drop, flat_map, length, map, string_bytes, true};
+ghost use Rattle.std.specs.Prelude.{◌≡◌, ◌≤◌, ◌<◌, ◌*◌, ◌++◌, IsAscii, IsTrue, OnOk, drop, flat_map, length, map, string_bytes, take, true};
 ghost use Rattle.primitives.specs.Bits.{bits_of, bits_of_octet, bits_before};
 ghost use Rattle.texts.specs.Leaf.{bit_digit as digit_of_bit, hex_digit as digit_of_hex, bits_text, octets_text, hex_digits, quoted_octet, quoted_text, are_printable, readable_text, text_of_kind};
 
@@ -12,6 +12,9 @@ use strings::TextKind;
 
 // How many octets become digits before these are appended.
 const AT_ONCE: usize = 64;
+
+// How many octets of a longer string become hexadecimal digits before these are appended.
+const MANY: usize = 512;
 
 // Appends a digit for each bit, in quotes.
 pub(crate) fn put_bits(bits: &Bits, out: &mut String) -> Result<(), NoMemory>
@@ -100,8 +103,10 @@ pub fn put_octets(octets: &[u8], out: &mut String) -> Result<(), NoMemory>
 {
     out.reserve(octets.len().saturating_mul(2).saturating_add(3))?;
     out.push_str("'")?;
-    for chunk in octets.chunks(AT_ONCE) {
-        put_hex_digits(chunk, out)?;
+    if octets.len() <= AT_ONCE {
+        put_hex_digits(octets, out)?;
+    } else {
+        put_many_hex_digits(octets, out)?;
     }
     out.push_str("'H")?;
     Ok(())
@@ -113,11 +118,36 @@ fn put_hex_digits(octets: &[u8], out: &mut String) -> Result<(), NoMemory>
     ensures { OnOk result (string_bytes out.new ≡ string_bytes out.old ++ flat_map hex_digits octets.now) }
 {
     let mut digits = [0u8; 2 * AT_ONCE];
-    for (place, octet) in octets.iter().enumerate() {
-        digits[2 * place] = hex_digit(octet / 16);
-        digits[2 * place + 1] = hex_digit(octet % 16);
-    }
+    write_hex_digits(octets, &mut digits);
     put_ascii(&digits[..2 * octets.len()], out)
+}
+
+// Appends the digits of many octets. It has a function of its own, since few octets need no such room.
+#[inline(never)]
+fn put_many_hex_digits(octets: &[u8], out: &mut String) -> Result<(), NoMemory>
+    ensures { OnOk result (string_bytes out.new ≡ string_bytes out.old ++ flat_map hex_digits octets.now) }
+{
+    let mut digits = [0u8; 2 * MANY];
+    for chunk in octets.chunks(MANY) {
+        write_hex_digits(chunk, &mut digits);
+        put_ascii(&digits[..2 * chunk.len()], out)?;
+    }
+    Ok(())
+}
+
+// Writes the digits of octets to the front of a room of ASCII.
+fn write_hex_digits(octets: &[u8], digits: &mut [u8])
+    requires room { 2 * length octets.now ≤ length digits.old }
+    requires ascii { IsAscii digits.old }
+    ensures value { take (2 * length octets.now) digits.new ≡ flat_map hex_digits octets.now }
+    ensures length { length digits.new ≡ length digits.old }
+    ensures ascii { IsAscii digits.new }
+{
+    for (place, octet) in octets.iter().enumerate() {
+        let at = 2 * place;
+        digits[at] = hex_digit(octet / 16);
+        digits[at + 1] = hex_digit(octet % 16);
+    }
 }
 
 fn hex_digit(value: u8) -> u8
