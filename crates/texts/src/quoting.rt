@@ -190,11 +190,39 @@ pub fn put_text(kind: TextKind, octets: &[u8], out: &mut String) -> Result<(), N
 pub fn put_readable(octets: &[u8], out: &mut String) -> Result<(), NoMemory>
     ensures { OnOk result (string_bytes out.new ≡ string_bytes out.old ++ readable_text octets.now) }
 {
-    if is_readable(octets) {
+    if is_written_once(octets) {
+        put_once(octets, out)
+    } else if is_readable(octets) {
         put_quoted(octets, out)
     } else {
         put_octets(octets, out)
     }
+}
+
+// Whether each octet is a space or a visible character of ASCII, and none a quote.
+fn is_written_once(octets: &[u8]) -> bool
+    ensures { IsTrue result → (are_printable octets.now ≡ true) × (flat_map quoted_octet octets.now ≡ octets.now) }
+{
+    let mut are_once = true;
+    for octet in octets {
+        if *octet < 32 || *octet > 126 || *octet == b'"' {
+            are_once = false;
+        }
+    }
+    are_once
+}
+
+// Appends characters in double quotes, of which none is a quote.
+fn put_once(octets: &[u8], out: &mut String) -> Result<(), NoMemory>
+    requires printable { are_printable octets.now ≡ true }
+    requires once { flat_map quoted_octet octets.now ≡ octets.now }
+    ensures { OnOk result (string_bytes out.new ≡ string_bytes out.old ++ quoted_text octets.now) }
+{
+    out.reserve(octets.len().saturating_add(2))?;
+    out.push_str("\"")?;
+    put_ascii(octets, out)?;
+    out.push_str("\"")?;
+    Ok(())
 }
 
 // Whether each octet is a space or a visible character of ASCII.
@@ -229,7 +257,7 @@ fn put_characters(octets: &[u8], out: &mut String) -> Result<(), NoMemory>
     requires ascii { IsAscii octets.now }
     ensures { OnOk result (string_bytes out.new ≡ string_bytes out.old ++ flat_map quoted_octet octets.now) }
 {
-    if has_no_quote(octets) {
+    if is_written_once(octets) {
         return put_ascii(octets, out);
     }
     let mut characters = [0u8; 2 * AT_ONCE];
@@ -243,16 +271,4 @@ fn put_characters(octets: &[u8], out: &mut String) -> Result<(), NoMemory>
         }
     }
     put_ascii(&characters[..count], out)
-}
-
-fn has_no_quote(octets: &[u8]) -> bool
-    ensures { IsTrue result → flat_map quoted_octet octets.now ≡ octets.now }
-{
-    let mut has_none = true;
-    for octet in octets {
-        if *octet == b'"' {
-            has_none = false;
-        }
-    }
-    has_none
 }
