@@ -21,6 +21,7 @@ pub mod TyLemmas
 pub mod PutLemmas
 pub mod OpeningLemmas
 pub mod WritesLemmas
+pub mod NestedLemmas
 pub mod ForwardLemmas
 pub mod TagPutLemmas
 pub mod OrderTagLemmas

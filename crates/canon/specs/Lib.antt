@@ -6,6 +6,7 @@ pub mod Few
 pub mod Span
 pub mod Keyed
 pub mod Opening
+pub mod Nested
 pub mod Part
 pub mod Writes
 pub mod Ordered

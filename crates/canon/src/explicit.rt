@@ -10,6 +10,7 @@ ghost use Rattle.canon.specs.Turned.{IsTurned};
 ghost use Rattle.canon.specs.Writes.{IsWritable, Writes};
 
 use crate::heads::{put_closing, put_opening};
+use crate::nested::{close_tags, open_tags};
 use crate::turned::{moves_often, put_turned_head, turn_forward};
 use crate::writer::Writer;
 use octets::{Canonical, NoMemory, Tag};
@@ -57,10 +58,29 @@ impl Writer {
         ensures { Writes (IsEncoding (rule_of self.rule) (ty_view ty.now) (value_view value.now))
             result out.old.items out.new.items }
     {
-        if let Ty::Explicit(tag, inner) = ty {
-            return self.put_tagged(*tag, inner, value, out);
+        if let Ty::Explicit(..) = ty {
+            return self.put_under_tags(ty, value, out);
         }
         self.put_value(ty, value, out)
+    }
+
+    // Appends the encoding of a value of a type that begins with explicit tags: first what stands before the contents
+    // octets of all of them, and at the end what closes these, from the inside out.
+    #[cycle(writing)]
+    #[inline(never)]
+    fn put_under_tags(self, ty: &Ty, value: &Value, out: &mut Vec<u8>) -> Result<(), NoMemory>
+        requires { IsWritable (ty_view ty.now) (value_view value.now) }
+        ensures { Writes (IsEncoding (rule_of self.rule) (ty_view ty.now) (value_view value.now))
+            result out.old.items out.new.items }
+    {
+        let start = out.len();
+        let inner = open_tags(ty, out)?;
+        let end = out.len();
+        if end == start {
+            return self.put_value(ty, value, out);
+        }
+        self.put_value(inner, value, out)?;
+        close_tags(self.rule, start, end, out)
     }
 }
 

@@ -15,6 +15,7 @@ mod heads;
 mod laws;
 mod leaf;
 mod leaves;
+mod nested;
 mod numbers;
 mod ordering;
 mod parts;

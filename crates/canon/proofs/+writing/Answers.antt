@@ -29,6 +29,7 @@ use Rattle.canon.proofs.JoinLemmas.{BeginsComponents, none_joined, present_joine
 use Rattle.canon.proofs.KeptLemmas.{kept, keeps_more, keeps_chain, keeps_taken}
 use Rattle.canon.proofs.LeafLemmas.{leaf_alike, leaf_conforms}
 use Rattle.canon.proofs.LeavesLemmas.{leaves_conform, leaves_alike, item_behind}
+use Rattle.canon.proofs.NestedLemmas.{behind_smaller, none_opened, opened_keeps, opened_writable, value_inside}
 use Rattle.canon.proofs.NodeLemmas.{choice_parts, explicit_alike, has_items, has_slots, parts_around}
 use Rattle.canon.proofs.OpeningLemmas.{opened_kept}
 use Rattle.canon.proofs.PartLemmas.{part_put}
@@ -473,13 +474,41 @@ writer::Writer::put_tagged-returns-in_err-put_inside t c =
     refused _ c.from_residual-in_err-put_inside.ensures.1
     (keeps_chain old one c.put_inside.new.out.items (opened_kept c.args.tag true old one c.in_ok-place.place c.in_ok-place.ensures.opened) c.in_err-put_inside.ensures.kept)
 
-pub writer::Writer::put_inside-returns-in-Explicit : goal.writer::Writer::put_inside-returns-in-Explicit
-writer::Writer::put_inside-returns-in-Explicit t c =
-    let rule = rule_of c.args.self.rule in
-    let tag = c.in-Explicit.tag in
-    let inner = c.in-Explicit.inner in
-    let is : ty_view c.args.ty.now ≡ Shape.explicit tag (ty_view inner.value) = ap ty_view c.in-Explicit.is ∙ ty-Explicit tag inner in
-    written_as_explicit rule tag c.deref.ensures is c.put_tagged.ensures
+pub writer::Writer::put_under_tags-put_value-requires-2 : goal.writer::Writer::put_under_tags-put_value-requires-2
+writer::Writer::put_under_tags-put_value-requires-2 t c =
+    let opened = c.in_ok-inner.ensures.opened in
+    let behind = c.in_ok-inner.ensures.behind in
+    (omega (arith, c.decreases, behind_smaller behind.0 c.args.ty.now c.in_ok-inner.inner.now behind.1), opened_writable opened.0 (ty_view c.args.ty.now) (ty_view c.in_ok-inner.inner.now) (value_view c.args.value.now) c.args.out.now.items c.open_tags.new.out.items opened.1 c.requires)
+
+pub writer::Writer::put_under_tags-returns-in_err-put_value : goal.writer::Writer::put_under_tags-returns-in_err-put_value
+writer::Writer::put_under_tags-returns-in_err-put_value t c =
+    let opened = c.in_ok-inner.ensures.opened in
+    let old = c.args.out.now.items in
+    let mid = c.open_tags.new.out.items in
+    refused _ c.from_residual-in_err-put_value.ensures.1 (keeps_chain old mid c.put_value-2.new.out.items (opened_keeps opened.0 (ty_view c.args.ty.now) (ty_view c.in_ok-inner.inner.now) old mid opened.1) c.in_err-put_value.ensures.kept)
+
+pub writer::Writer::put_under_tags-returns-then-end-start : goal.writer::Writer::put_under_tags-returns-then-end-start
+writer::Writer::put_under_tags-returns-then-end-start t c =
+    let opened = c.in_ok-inner.ensures.opened in
+    let old = c.args.out.now.items in
+    let mid = c.open_tags.new.out.items in
+    let same : mid ≡ old = none_opened opened.0 (ty_view c.args.ty.now) (ty_view c.in_ok-inner.inner.now) old mid opened.1 (omega (arith, c.if-end-start.true, c.len-start.ensures, c.len-end.ensures)) in
+    subst (λ (b : List ℕ). Writes (IsEncoding (rule_of c.args.self.rule) (ty_view c.args.ty.now) (value_view c.args.value.now)) c.put_value.result b c.put_value.new.out.items) same c.put_value.ensures
+
+pub writer::Writer::put_under_tags-close_tags-requires : goal.writer::Writer::put_under_tags-close_tags-requires
+writer::Writer::put_under_tags-close_tags-requires t c =
+    let opened = c.in_ok-inner.ensures.opened in (
+      ty_view c.args.ty.now,
+      value_view c.args.value.now,
+      c.args.out.now.items,
+      value_inside (rule_of c.args.self.rule) (ty_view c.args.ty.now) (value_view c.args.value.now) c.len-start.result c.len-end.result c.args.out.now.items opened.0 (ty_view c.in_ok-inner.inner.now) c.open_tags.new.out.items c.put_value-2.new.out.items opened.1 (omega (arith, c.len-start.ensures)) (omega (arith, c.len-end.ensures)) c.in_ok-put_value.ensures.appended,
+    )
+
+pub writer::Writer::put_under_tags-returns : goal.writer::Writer::put_under_tags-returns
+writer::Writer::put_under_tags-returns t c =
+    let opened = c.in_ok-inner.ensures.opened in
+    c.close_tags.ensures (ty_view c.args.ty.now) (value_view c.args.value.now) c.args.out.now.items
+    (value_inside (rule_of c.args.self.rule) (ty_view c.args.ty.now) (value_view c.args.value.now) c.len-start.result c.len-end.result c.args.out.now.items opened.0 (ty_view c.in_ok-inner.inner.now) c.open_tags.new.out.items c.put_value-2.new.out.items opened.1 (omega (arith, c.len-start.ensures)) (omega (arith, c.len-end.ensures)) c.in_ok-put_value.ensures.appended)
 
 pub explicit::put_turned-returns-in_ok-put_value-in_default : goal.explicit::put_turned-returns-in_ok-put_value-in_default
 explicit::put_turned-returns-in_ok-put_value-in_default t c =
