@@ -102,21 +102,14 @@ fn key_of_part(buffer: &[u8], span: Span) -> u128
     ((u128::from(high) << 64) + u128::from(low)) << (8 * (16 - there))
 }
 
-// Eight octets as a number, the most significant first.
+// Eight octets as a number, the most significant first. They are copied at once.
 fn word_at(octets: &[u8], i: usize) -> u64
     requires { i + 8 ≤ length octets.now }
     ensures { result ≡ number_of 256 (take 8 (drop i octets.now)) }
 {
-    u64::from_be_bytes([
-        octets[i],
-        octets[i + 1],
-        octets[i + 2],
-        octets[i + 3],
-        octets[i + 4],
-        octets[i + 5],
-        octets[i + 6],
-        octets[i + 7],
-    ])
+    let mut eight = [0u8; 8];
+    eight.copy_from_slice(&octets[i..i + 8]);
+    u64::from_be_bytes(eight)
 }
 
 // The first 16 octets as a number, the most significant first, with zeros for those that are not there.
