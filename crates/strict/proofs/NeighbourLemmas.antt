@@ -1,5 +1,5 @@
 -- Lemmas on the order of two lists: the first place where they differ decides.
-use Rattle.std.proofs.Common.{◌≡◌, ◌≢◌, ℕ, ◌<◌, ◌+◌, List, ◌∷◌, length, drop, suc, add-one, arith, slice_index_or, nat_lt}
+use Rattle.std.proofs.Common.{◌≡◌, ◌≢◌, ℕ, ◌<◌, ◌+◌, List, [], ◌∷◌, false, refl, length, drop, suc, add-one, arith, slice_index_or, nat_lt}
 use Rattle.std.specs.Ordering.{nat_cmp, is_lt}
 use Rattle.std.specs.Cmp.Lexicographic.{slice_cmp}
 use Rattle.std.proofs.Math.Seq.{drop-cons}
@@ -18,3 +18,9 @@ apart_at a b i here there apart = rw (drop-cons a i 0, drop-cons b i 0) (apart_f
 -- where they do not, what is behind decides
 pub alike_at : (a b : List ℕ) (i : ℕ) → i < length a → i < length b → slice_index_or a i 0 ≡ slice_index_or b i 0 → slice_cmp nat_cmp (drop i a) (drop i b) ≡ slice_cmp nat_cmp (drop (i + 1) a) (drop (i + 1) b)
 alike_at a b i here there alike = rw (add-one, drop-cons a i 0, drop-cons b i 0) (alike_first _ _ (drop (suc i) a) (drop (suc i) b) alike)
+
+-- nothing comes before no octets
+pub none_before_none : (a b : List ℕ) → length b ≡ 0 → false ≡ is_lt (slice_cmp nat_cmp a b)
+none_before_none [] [] none = refl
+none_before_none (x ∷ xs) [] none = refl
+none_before_none a (y ∷ ys) none = absurd (omega (arith, none))

@@ -14,7 +14,7 @@ use Rattle.types.proofs.SameLemmas.{same_is_equal}
 use Rattle.encoding_parts.specs.Parts.{IsGoodType, IsGoodComponent, IsSlotOf}
 use Rattle.strict.specs.Reading.{IsRead, HasPart}
 use Rattle.strict.specs.Components.{HasPresent, IsPresentRead}
-use Rattle.strict.proofs.PartLemmas.{one_of, same_part, read_some, read_behind_in_front}
+use Rattle.strict.proofs.PartLemmas.{one_of, same_part, read_some, read_in_front, read_behind_in_front}
 
 pub part_of_present : (rule : Rule) (c : ComponentView) (room : ℕ) (octets : List ℕ) → HasPresent rule c room octets → HasPart rule c.type room octets
 part_of_present rule c room octets h = record { value = h.value; part = h.part; rest = h.rest; encoding = h.encoding; fits = h.fits; parts = h.parts }
@@ -40,6 +40,11 @@ pub present_in_front : (rule : Rule) (c : ComponentView) (room n at : ℕ) (octe
     → IsPresentRead rule c (length (take (length (take n octets) - at) (drop at (take n octets)))) (take (length (take n octets) - at) (drop at (take n octets))) slot used → IsPresentRead rule c (room - at) (drop at octets) slot used
 present_in_front rule c room n at octets None used below fits there read = absurd read
 present_in_front rule c room n at octets (Some v) used below fits there read = (read_behind_in_front rule c.type room n at octets v used below fits there read.0, read.1)
+
+-- the same at the front of all of them
+pub present_at_front : (rule : Rule) (c : ComponentView) (room n : ℕ) (octets : List ℕ) (slot : Option Value) (used : ℕ) → n ≤ room → n ≤ length octets → IsPresentRead rule c (length (take n octets)) (take n octets) slot used → IsPresentRead rule c room octets slot used
+present_at_front rule c room n octets None used fits there read = absurd read
+present_at_front rule c room n octets (Some v) used fits there read = (read_in_front rule c.type room n octets v used fits there read.0, read.1)
 
 -- where what was read is the default, no other value stands there
 pub none_spelt_out : (rule : Rule) (c : ComponentView) (room : ℕ) (octets more : List ℕ) (v : Value) (used : ℕ) → IsGoodComponent c → IsRead rule c.type room octets v used → IsSlotOf c.requirement (value_view v) None → HasPresent rule c room (octets ++ more) → ⊥

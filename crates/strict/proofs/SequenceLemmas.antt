@@ -7,7 +7,6 @@ use Rattle.octets.specs.declared.canonical.Canonical.{Canonical}
 use Rattle.octets.specs.declared.tag.Tag.{Tag}
 use Rattle.octets.specs.Rule.{Rule, ber, cer, der, rule_of}
 use Rattle.types.specs.declared.value.Value.{Value}
-use Rattle.types.specs.declared.value.Value as value
 use Rattle.types.specs.declared.ty.Field.{Field}
 use Rattle.types.specs.Shape.{Val, Slots, no_slot, Requirement, required, optional, default, Shape, no_component}
 use Rattle.types.specs.Conforms.{MayBeAbsent}
@@ -16,7 +15,6 @@ use Rattle.types.specs.FirstTags.{first_tags, RunsAreDistinct}
 use Rattle.types.specs.Order.{BeginsWithOneOf}
 use Rattle.types.specs.Form.{IsConstructed}
 use Rattle.types.specs.View.{ComponentView, value_view, field_view, components_of, components_view, slots_of, slots_view}
-use Rattle.types.proofs.ViewLemmas.{value-Fields}
 use Rattle.encoding_parts.specs.Parts.{IsGoodType, IsGoodComponent}
 use Rattle.encoding_parts.proofs.PartsOpenLemmas.{components_good}
 use Rattle.strict.specs.Head.{Fills, mark, EndsHere}
@@ -156,9 +154,9 @@ all_read rule fields i definite room octets slots at past many read =
     subst (λ l. AreComponentsRead rule (map field_view fields) [] definite room octets l at) (take_all i slots (omega (arith, past, many))) first
 
 -- they are the contents octets of a SEQUENCE
-pub sequence_read : (rule : Rule) (tag : Tag) (fields : List Field) (definite : Bool) (room : ℕ) (octets : List ℕ) (slots : Vec (Option Value) Global) (used : ℕ) → AreComponentsRead rule (map field_view fields) [] definite room octets slots.items used
-    → EndsHere definite (room - used) (drop used octets) → IsInsideRead rule (Shape.sequence tag (components_view fields)) definite room octets (value.Fields slots) used
-sequence_read rule tag fields definite room octets slots used read ends =
+pub sequence_read : (rule : Rule) (tag : Tag) (fields : List Field) (definite : Bool) (room : ℕ) (octets : List ℕ) (slots : Vec (Option Value) Global) (v : Value) (used : ℕ) → AreComponentsRead rule (map field_view fields) [] definite room octets slots.items used
+    → EndsHere definite (room - used) (drop used octets) → value_view v ≡ Val.fields (slots_view slots.items) → IsInsideRead rule (Shape.sequence tag (components_view fields)) definite room octets v used
+sequence_read rule tag fields definite room octets slots v used read ends holds =
     let shape = Shape.sequence tag (components_view fields) in
     record {
       there = read.there;
@@ -167,5 +165,5 @@ sequence_read rule tag fields definite room octets slots used read ends =
       makes = λ own whole is made.
           let same : tag ≡ own = cc is in
           let encodes : IsEncoding rule shape (Val.fields (slots_view slots.items)) whole = record { slots = slots_view slots.items; is = refl; encodings = read.encodings; each = read.each; whole = subst₂ (λ t x. IsConstructed rule t x whole) (sym same) read.joined made } in
-          subst (λ v. IsEncoding rule shape v whole) (sym (value-Fields slots)) encodes;
+          subst (λ x. IsEncoding rule shape x whole) (sym holds) encodes;
     }

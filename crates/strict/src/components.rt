@@ -1,6 +1,6 @@
 //! SEQUENCEs: components in order of declaration (X.690 8.9 and 11.5).
 
-ghost use Rattle.std.specs.Prelude.{◌<◌, ◌≤◌, length, map, IfOk, IfErr, IfSome};
+ghost use Rattle.std.specs.Prelude.{◌≡◌, ◌<◌, ◌≤◌, None, length, map, IfOk, IfErr, IfSome};
 ghost use Rattle.std.specs.List.{AllByRecursion};
 ghost use Rattle.octets.specs.declared.canonical.Canonical.{Canonical};
 ghost use Rattle.octets.specs.declared.TheConstants.{MAX_ENCODING};
@@ -15,17 +15,18 @@ ghost use Rattle.strict.specs.Head.{AreFewer};
 ghost use Rattle.strict.specs.Inside.{IsInsideRead};
 ghost use Rattle.strict.specs.Components.{HasPresent, IsPresentRead, HasComponents, IsComponentRead, HasComponentFirst};
 
-use crate::filling::read_shortly;
+use crate::filling::fill_canonical;
 use crate::fronts::{front_tag, left_over, stands_next, why_not_read};
 use crate::head::Inside;
-use crate::parts::read_one;
-use encoding_parts::{clear, is_default, take_slots};
+use crate::parts::read_wholly;
+use encoding_parts::{clear, is_default, short_primitive, take_slots};
 use octets::{Canonical, MAX_ENCODING};
 use std::alloc::Global;
 use types::{Field, Refusal, Value, may_be_absent};
 
 // Reads the encodings of components at the front up to the end into the value, and returns how many octets they have.
 #[cycle(reading)]
+#[inline(always)]
 pub fn read_components(
     alloc: Global,
     rule: Canonical,
@@ -40,10 +41,13 @@ pub fn read_components(
     ensures value { IfOk result (λ used. (tag : Tag) → IsInsideRead (rule_of rule) (Shape.sequence tag (components_view fields.now)) inside.now.definite inside.now.room octets.now value.new used) }
     ensures refused { IfErr result (RefusesStrictly (HasComponents (rule_of rule) (map field_view fields.now) inside.now.definite inside.now.room) (AreFewer inside.now.definite inside.now.room) octets.now) }
 {
-    let Ok(taken) = take_slots(alloc, fields, value) else {
+    hold_slots(alloc, fields, value);
+    let Value::Fields(slots) = value else {
         return Err(Refusal::NoMemory);
     };
-    let mut slots = taken;
+    if slots.len() != fields.len() {
+        return Err(Refusal::NoMemory);
+    }
     let front = &octets[..octets.len().min(inside.room)];
     let mut at = 0;
     for (place, field) in fields.iter().enumerate() {
@@ -64,11 +68,27 @@ pub fn read_components(
         };
     }
     match front_tag(inside.definite, inside.room - at, &octets[at..])? {
-        Some(tag) => Err(left_over(tag, &slots)),
-        None => {
-            *value = Value::Fields(slots);
-            Ok(at)
+        Some(tag) => Err(left_over(tag, slots.as_slice())),
+        None => Ok(at),
+    }
+}
+
+// Gives the value a slot for each component, unless it has as many or memory runs out. What it has stays where it is.
+#[inline(always)]
+fn hold_slots(alloc: Global, fields: &[Field], value: &mut Value) {
+    if let Value::Fields(slots) = value {
+        if slots.len() == fields.len() {
+            return;
         }
+    }
+    put_slots(alloc, fields, value);
+}
+
+// Makes the value one of empty slots, one for each component, unless memory runs out.
+#[inline(never)]
+fn put_slots(alloc: Global, fields: &[Field], value: &mut Value) {
+    if let Ok(slots) = take_slots(alloc, fields, value) {
+        *value = Value::Fields(slots);
     }
 }
 
@@ -94,10 +114,10 @@ fn read_component(
     ensures refused { IfErr result (RefusesStrictly (HasComponentFirst (rule_of rule) (field_view field.now) definite room) (AreFewer definite room) octets.now) }
 {
     if may_be_absent(&field.presence) && !stands_next(definite, room, octets, &field.ty)? {
-        clear(slot);
+        leave_out(slot);
         return Ok(0);
     }
-    match read_present(alloc, rule, field, room, octets, slot) {
+    match read_wholly_present(alloc, rule, field, room, octets, slot) {
         Ok(used) => Ok(used),
         Err(refusal) => Err(why_not_read(
             refusal,
@@ -107,6 +127,16 @@ fn read_component(
             &field.ty,
             &fields[place + 1..],
         )),
+    }
+}
+
+// Empties the slot. It is empty where the component was left out the last time.
+#[inline(always)]
+fn leave_out(slot: &mut Option<Value>)
+    ensures { slot.new ≡ None }
+{
+    if slot.is_some() {
+        clear(slot);
     }
 }
 
@@ -122,9 +152,11 @@ fn read_shortly_present(
     ensures { IfSome result (λ used. (rule : Canonical) → IsPresentRead (rule_of rule) (field_view field.now) (length octets.now) octets.now slot.new used) }
 {
     let tag = field.ty.leaf_tag()?;
+    let used = short_primitive(tag, octets.len(), octets)?;
     let value = slot.get_or_insert_with(|| Value::Null);
-    let used = read_shortly(alloc, &field.ty, tag, octets, value)?;
-    if !is_default(&field.presence, value) {
+    if fill_canonical(alloc, &field.ty, &octets[2..used], value)
+        && !is_default(&field.presence, value)
+    {
         return Some(used);
     }
     None
@@ -146,8 +178,31 @@ pub fn read_present(
     ensures value { IfOk result (λ used. IsPresentRead (rule_of rule) (field_view field.now) room octets.now slot.new used) }
     ensures refused { IfErr result (RefusesStrictly (HasPresent (rule_of rule) (field_view field.now) room) (λ o. length o < room) octets.now) }
 {
+    let front = &octets[..octets.len().min(room)];
+    match read_shortly_present(alloc, field, front, slot) {
+        Some(used) => Ok(used),
+        None => read_wholly_present(alloc, rule, field, room, octets, slot),
+    }
+}
+
+// Reads it, as `read_present` does, with no look at it before.
+#[cycle(reading)]
+#[inline(always)]
+fn read_wholly_present(
+    alloc: Global,
+    rule: Canonical,
+    field: &Field,
+    room: usize,
+    octets: &[u8],
+    slot: &mut Option<Value>,
+) -> Result<usize, Refusal>
+    requires good { IsGoodComponent (field_view field.now) }
+    requires room { room ≤ MAX_ENCODING }
+    ensures value { IfOk result (λ used. IsPresentRead (rule_of rule) (field_view field.now) room octets.now slot.new used) }
+    ensures refused { IfErr result (RefusesStrictly (HasPresent (rule_of rule) (field_view field.now) room) (λ o. length o < room) octets.now) }
+{
     let value = slot.get_or_insert_with(|| Value::Null);
-    let used = read_one(alloc, rule, &field.ty, room, octets, value)?;
+    let used = read_wholly(alloc, rule, &field.ty, room, octets, value)?;
     if is_default(&field.presence, value) {
         return Err(Refusal::NotCanonical);
     }

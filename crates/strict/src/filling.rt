@@ -43,7 +43,7 @@ pub fn read_shortly(
 // whether it could; it does not say why not. Of BOOLEAN and BIT STRING BER has others (X.690 11.1 and 11.2): these stand
 // apart, so that all other types are told apart once.
 #[inline(always)]
-fn fill_canonical(alloc: Global, ty: &Ty, contents: &[u8], value: &mut Value) -> bool
+pub fn fill_canonical(alloc: Global, ty: &Ty, contents: &[u8], value: &mut Value) -> bool
     requires { IsLeaf (ty_view ty.now) }
     ensures { IsTrue result → HoldsValue der (ty_view ty.now) (value_view value.new) contents.now }
 {

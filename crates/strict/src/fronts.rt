@@ -15,11 +15,12 @@ ghost use Rattle.strict.specs.Reading.{HasPart};
 ghost use Rattle.strict.specs.Refusal.{IsOfStrictReading};
 
 use crate::ends::ends;
-use encoding_parts::{begins, not_due, not_next, read_head_tag};
+use encoding_parts::{begins, can_begin, not_due, not_next, read_head_tag};
 use octets::Tag;
 use types::{Field, Refusal, Ty, Value};
 
 // The tag at the front, or none where the contents octets end there.
+#[inline(always)]
 pub fn front_tag(definite: bool, room: usize, octets: &[u8]) -> Result<Option<Tag>, Refusal>
     ensures value { IfOk result (λ front. IsFront front definite room octets.now) }
     ensures refused { IfErr result (RefusesStrictly (EndsOrBegins definite room) (AreFewer definite room) octets.now) }
@@ -32,14 +33,14 @@ pub fn front_tag(definite: bool, room: usize, octets: &[u8]) -> Result<Option<Ta
 }
 
 // Whether the tag at the front is one that encodings of the type begin with.
-#[inline(never)]
+#[inline(always)]
 pub fn stands_next(definite: bool, room: usize, octets: &[u8], ty: &Ty) -> Result<bool, Refusal>
     ensures value { IfOk result (λ stands. (front : Option Tag) × IsFront front definite room octets.now
         × (IsTrue stands ↔ MatchOption front ⊥ (λ tag. Contains (first_tags (ty_view ty.now)) tag))) }
     ensures refused { IfErr result (RefusesStrictly (EndsOrBegins definite room) (AreFewer definite room) octets.now) }
 {
     match front_tag(definite, room, octets)? {
-        Some(tag) => Ok(begins(ty, tag)),
+        Some(tag) => Ok(can_begin(ty, tag)),
         None => Ok(false),
     }
 }

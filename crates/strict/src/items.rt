@@ -30,6 +30,7 @@ const FEW: usize = 8;
 // Reads the encodings of items up to the end into the value, and returns how many octets they have. Where they are to
 // be `ordered`, as those of a SET OF, none may come before the one that it follows.
 #[cycle(reading)]
+#[inline(always)]
 pub fn read_items(
     alloc: Global,
     rule: Canonical,
@@ -122,10 +123,14 @@ fn is_out_of_order(ordered: bool, item: &[u8], last: &[u8]) -> bool
     ordered && comes_before(item, last)
 }
 
-// Whether the one list of octets comes before the other in the order of lists.
+// Whether the one list of octets comes before the other in the order of lists: nothing comes before an empty one, as
+// the last item is in front of the first.
 fn comes_before(a: &[u8], b: &[u8]) -> bool
     ensures { result ≡ is_lt (slice_cmp nat_cmp a.now b.now) }
 {
+    if b.len() == 0 {
+        return false;
+    }
     for i in 0..a.len().min(b.len()).min(FEW) {
         if a[i] != b[i] {
             return a[i] < b[i];

@@ -25,6 +25,7 @@ use types::{Refusal, SEGMENT_OCTETS, Ty, Value};
 // Reads the encoding at the front, of a type without parts under this tag, into the value, and returns how many octets
 // it has: at most `room`. Strings alone have constructed ones, and of CER the long ones. All values but those of BOOLEAN,
 // INTEGER within 128 bits, ENUMERATED and NULL take memory.
+#[inline(never)]
 pub fn read_leaf(
     alloc: Global,
     rule: Canonical,

@@ -42,19 +42,110 @@ pub fn read_one(
 {
     if let Some(tag) = ty.leaf_tag() {
         let front = &octets[..octets.len().min(room)];
-        return match read_shortly(alloc, ty, tag, front, value) {
-            Some(used) => Ok(used),
-            None => read_leaf(alloc, rule, ty, tag, room, octets, value),
-        };
+        if let Some(used) = read_shortly(alloc, ty, tag, front, value) {
+            return Ok(used);
+        }
+    }
+    read_wholly(alloc, rule, ty, room, octets, value)
+}
+
+// Reads the encoding at the front into the value, as `read_one` does, with no look at it before.
+#[cycle(reading)]
+#[inline(always)]
+pub fn read_wholly(
+    alloc: Global,
+    rule: Canonical,
+    ty: &Ty,
+    room: usize,
+    octets: &[u8],
+    value: &mut Value,
+) -> Result<usize, Refusal>
+    requires good { IsGoodType (ty_view ty.now) }
+    requires room { room ≤ MAX_ENCODING }
+    ensures value { IfOk result (λ used. IsRead (rule_of rule) (ty_view ty.now) room octets.now value.new used) }
+    ensures refused { IfErr result (RefusesPart rule (ty_view ty.now) room octets.now) }
+{
+    if let Some(tag) = ty.leaf_tag() {
+        return read_leaf(alloc, rule, ty, tag, room, octets, value);
     }
     match ty {
         Ty::Choice(alternatives) => read_chosen(alloc, rule, alternatives, room, octets, value),
-        _ => read_parts(alloc, rule, ty, room, octets, value),
+        Ty::Sequence(_, _) => read_sequence(alloc, rule, ty, room, octets, value),
+        Ty::SequenceOf(_, _) | Ty::SetOf(_, _) => read_list(alloc, rule, ty, room, octets, value),
+        _ => read_others(alloc, rule, ty, room, octets, value),
     }
+}
+
+// Reads an encoding of a SEQUENCE. What has parts is read by three functions, so that each keeps in registers what it
+// needs; each goes on to the last one where the type is another.
+#[cycle(reading)]
+#[inline(never)]
+fn read_sequence(
+    alloc: Global,
+    rule: Canonical,
+    ty: &Ty,
+    room: usize,
+    octets: &[u8],
+    value: &mut Value,
+) -> Result<usize, Refusal>
+    requires parts { HasParts (ty_view ty.now) }
+    requires good { IsGoodType (ty_view ty.now) }
+    requires room { room ≤ MAX_ENCODING }
+    ensures value { IfOk result (λ used. IsRead (rule_of rule) (ty_view ty.now) room octets.now value.new used) }
+    ensures refused { IfErr result (RefusesPart rule (ty_view ty.now) room octets.now) }
+{
+    match ty {
+        Ty::Sequence(_, _) => read_parts(alloc, rule, ty, room, octets, value),
+        _ => read_others(alloc, rule, ty, room, octets, value),
+    }
+}
+
+// Reads an encoding of a SEQUENCE OF or SET OF.
+#[cycle(reading)]
+#[inline(never)]
+fn read_list(
+    alloc: Global,
+    rule: Canonical,
+    ty: &Ty,
+    room: usize,
+    octets: &[u8],
+    value: &mut Value,
+) -> Result<usize, Refusal>
+    requires parts { HasParts (ty_view ty.now) }
+    requires good { IsGoodType (ty_view ty.now) }
+    requires room { room ≤ MAX_ENCODING }
+    ensures value { IfOk result (λ used. IsRead (rule_of rule) (ty_view ty.now) room octets.now value.new used) }
+    ensures refused { IfErr result (RefusesPart rule (ty_view ty.now) room octets.now) }
+{
+    match ty {
+        Ty::SequenceOf(_, _) | Ty::SetOf(_, _) => read_parts(alloc, rule, ty, room, octets, value),
+        _ => read_others(alloc, rule, ty, room, octets, value),
+    }
+}
+
+// Reads an encoding of any type with parts, but mostly of a SET or under an explicit tag.
+#[cycle(reading)]
+#[inline(never)]
+fn read_others(
+    alloc: Global,
+    rule: Canonical,
+    ty: &Ty,
+    room: usize,
+    octets: &[u8],
+    value: &mut Value,
+) -> Result<usize, Refusal>
+    requires parts { HasParts (ty_view ty.now) }
+    requires good { IsGoodType (ty_view ty.now) }
+    requires room { room ≤ MAX_ENCODING }
+    ensures value { IfOk result (λ used. IsRead (rule_of rule) (ty_view ty.now) room octets.now value.new used) }
+    ensures refused { IfErr result (RefusesPart rule (ty_view ty.now) room octets.now) }
+{
+    read_parts(alloc, rule, ty, room, octets, value)
 }
 
 // Reads an encoding of a type with parts: it is opened, read inside and closed.
 #[cycle(reading)]
+#[inline(always)]
 fn read_parts(
     alloc: Global,
     rule: Canonical,
@@ -136,6 +227,7 @@ fn read_chosen(
 
 // Reads the one encoding inside another, up to the end, and returns how many octets it has.
 #[cycle(reading)]
+#[inline(always)]
 fn read_alone(
     alloc: Global,
     rule: Canonical,

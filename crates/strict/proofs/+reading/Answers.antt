@@ -27,7 +27,7 @@ use Rattle.strict.proofs.BarsLemmas.{refused_of, refused_for_good, refused_by, r
 use Rattle.strict.proofs.PartLemmas.{read_some, read_in_front}
 use Rattle.strict.proofs.FieldLemmas.{field_type, field_requirement, run_at, first_of, whole_of}
 use Rattle.strict.proofs.FrontLemmas.{IsStandingKnown, front_known}
-use Rattle.strict.proofs.PresentLemmas.{part_of_present, present_in_front, none_spelt_out}
+use Rattle.strict.proofs.PresentLemmas.{part_of_present, present_in_front, present_at_front, none_spelt_out}
 use Rattle.strict.proofs.ComponentLemmas.{ends_or_begins}
 use Rattle.strict.proofs.SequenceLemmas.{absent_read, stands_read, present_first, none_read, component_more, good_components, components_inside, all_read, ends_behind_all, sequence_read}
 use Rattle.strict.proofs.ItemLemmas.{item_or_end, item_stands, no_items, item_read, none_out_of_order, list_read, items_inside}
@@ -223,7 +223,7 @@ parts::read_alone-returns-in-Some-clause-refused t c = refused_for_good (tt, tt)
 
 pub components::read_components-loop-place-init : goal.components::read_components-loop-place-init
 components::read_components-loop-place-init t c =
-    (none_read (rule_of c.args.rule) (map field_view c.args.fields.now) c.args.inside.now.definite c.args.inside.now.room c.args.octets.now [] refl, c.in-Ok.ensures)
+    (none_read (rule_of c.args.rule) (map field_view c.args.fields.now) c.args.inside.now.definite c.args.inside.now.room c.args.octets.now [] refl, search rules)
 
 pub components::read_components-read_component-requires : goal.components::read_components-read_component-requires
 components::read_components-read_component-requires t c =
@@ -339,6 +339,7 @@ components::read_components-returns-in-Some-2-clause-refused t c = refused_for_g
     front.1 more (ends_behind_all rule (map field_view fields) d room octets more c.loop-place.slots.items at read h))
 
 pub components::read_components-returns-in-None-2-clause-value : goal.components::read_components-returns-in-None-2-clause-value
+unfolding value.out-Value denote.Hole.Carrier.out
 components::read_components-returns-in-None-2-clause-value t c =
     let octets = c.args.octets.now in
     let d = c.args.inside.now.definite in
@@ -346,7 +347,7 @@ components::read_components-returns-in-None-2-clause-value t c =
     let at = c.loop-place.at in
     let ends : EndsHere d (room - at) (drop at octets) = subst₂ (λ f x. IsFront f d (room - at) x) c.in-None-2.is (take_rest octets at) c.in_ok-tag.ensures.value in
     let read = all_read (rule_of c.args.rule) c.args.fields.now c.loop-place.place d room octets c.loop-place.slots.items at c.loop-place-test.false c.loop-place.invariant.1 c.loop-place.invariant.0 in
-    λ tag. sequence_read (rule_of c.args.rule) tag c.args.fields.now d room octets c.loop-place.slots at read ends
+    λ tag. sequence_read (rule_of c.args.rule) tag c.args.fields.now d room octets c.loop-place.slots _ at read ends (search (rules, value.the_lemmas))
 
 pub components::read_component-returns-in_err-stands_next-clause-refused : goal.components::read_component-returns-in_err-stands_next-clause-refused
 components::read_component-returns-in_err-stands_next-clause-refused t c =
@@ -368,7 +369,7 @@ components::read_component-returns-then-not-branch-clause-value t c = λ others 
     let front = c.in_ok-stands_next.ensures.value in
     let known : IsStandingKnown false view.type d room octets = subst₂ (λ b t. IsStandingKnown b t d room octets) c.if-not-branch.true (sym (field_type f)) (front_known front.0 c.in_ok-stands_next.field-0 (ty_view f.ty) d room octets front.1 front.2) in
     let may : MayBeAbsent view.requirement = subst MayBeAbsent (sym (field_requirement f)) (c.may_be_absent.ensures.0 c.if-may_be_absent.true) in
-    absent_read c.args.rule view others d room octets c.clear.new.slot c.clear.ensures may c.requires.good.type known
+    absent_read c.args.rule view others d room octets c.leave_out.new.slot c.leave_out.ensures may c.requires.good.type known
 
 pub components::read_component-returns-in-Err-clause-refused : goal.components::read_component-returns-in-Err-clause-refused
 components::read_component-returns-in-Err-clause-refused t c =
@@ -401,10 +402,15 @@ parts::read_one-returns-in-Some-read_shortly-clause-value t c =
 
 pub components::read_component-returns-in-Ok-clause-value : goal.components::read_component-returns-in-Ok-clause-value
 components::read_component-returns-in-Ok-clause-value t c = λ others runs goods.
-    stands_read c.args.rule (field_view c.args.field.now) others c.args.definite c.args.room c.args.octets.now c.read_present.new.slot c.in-Ok.used c.requires.good.type runs goods c.in-Ok.ensures.value
+    stands_read c.args.rule (field_view c.args.field.now) others c.args.definite c.args.room c.args.octets.now c.read_wholly_present.new.slot c.in-Ok.used c.requires.good.type runs goods c.in-Ok.ensures.value
 
-pub components::read_present-returns-in_err-used-clause-refused : goal.components::read_present-returns-in_err-used-clause-refused
-components::read_present-returns-in_err-used-clause-refused t c =
+pub components::read_present-returns-in-Some-clause-value : goal.components::read_present-returns-in-Some-clause-value
+components::read_present-returns-in-Some-clause-value t c =
+    let n = c.min.result in
+    present_at_front (rule_of c.args.rule) (field_view c.args.field.now) c.args.room n c.args.octets.now c.read_shortly_present.new.slot c.in-Some.used (omega (arith, c.min.ensures)) (omega (arith, c.min.ensures)) (c.in-Some.ensures c.args.rule)
+
+pub components::read_wholly_present-returns-in_err-used-clause-refused : goal.components::read_wholly_present-returns-in_err-used-clause-refused
+components::read_wholly_present-returns-in_err-used-clause-refused t c =
     let octets = c.args.octets.now in
     let rule = rule_of c.args.rule in
     let f = c.args.field.now in
@@ -412,15 +418,15 @@ components::read_present-returns-in_err-used-clause-refused t c =
     refused_through c.from_residual.result c.from_residual.ensures.1
     (refused_by c.in_err-used.ensures.refused (λ more h. subst (λ t. HasPart rule t room (octets ++ more)) (field_type f) (part_of_present rule (field_view f) room (octets ++ more) h)) (λ k. begun_short c.args.rule (ty_view f.ty) room octets k))
 
-pub components::read_present-returns-then-is_default-clause-refused : goal.components::read_present-returns-then-is_default-clause-refused
-components::read_present-returns-then-is_default-clause-refused t c = refused_for_good (tt, tt) (λ more h.
+pub components::read_wholly_present-returns-then-is_default-clause-refused : goal.components::read_wholly_present-returns-then-is_default-clause-refused
+components::read_wholly_present-returns-then-is_default-clause-refused t c = refused_for_good (tt, tt) (λ more h.
     let octets = c.args.octets.now in
     let rule = rule_of c.args.rule in
     let f = c.args.field.now in
     let view = field_view f in
     let room = c.args.room in
     let same : ty_view f.ty ≡ view.type = sym (field_type f) in
-    let v = c.read_one.new.value in
+    let v = c.read_wholly.new.value in
     let on : c.is_default.result ≡ true = search rules in
     let spelt = subst (λ r. IsSlotOf r (value_view v) None) (sym (field_requirement f)) (c.is_default.ensures.default on) in
     let read = subst (λ t. IsRead rule t room octets v c.in_ok-used.used) same c.in_ok-used.ensures.value in

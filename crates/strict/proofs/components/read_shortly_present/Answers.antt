@@ -1,9 +1,10 @@
 use Rattle.std.proofs.Common.{length, sym, subst}
 use Rattle.octets.specs.Rule.{rule_of}
 use Rattle.types.specs.Conforms.{DiffersFromDefault}
-use Rattle.types.specs.View.{value_view, requirement_view}
+use Rattle.types.specs.View.{ty_view, value_view, requirement_view}
 use Rattle.strict.specs.Reading.{IsRead}
 use Rattle.strict.proofs.FieldLemmas.{field_type, field_requirement}
+use Rattle.strict.proofs.FillLemmas.{short_read}
 use Rattle.strict.proofs.PresentLemmas.{differs_of}
 use Rattle.strict.proofs.components.read_shortly_present.Goals as goal
 
@@ -11,7 +12,9 @@ pub returns-then-not-is_default : goal.returns-then-not-is_default
 returns-then-not-is_default c = λ rule.
     let octets = c.args.octets.now in
     let f = c.args.field.now in
-    let v = c.read_shortly.new.value in (
-      subst (λ t. IsRead (rule_of rule) t (length octets) octets v c.in_ok-used.used) (sym (field_type f)) (c.in_ok-used.ensures rule),
+    let v = c.fill_canonical.new.value in
+    let stop = c.in_ok-used.used in
+    let read = short_read rule (ty_view f.ty) c.in_ok-tag.tag octets v stop c.in_ok-tag.ensures.leaf c.in_ok-tag.ensures.tag c.in_ok-used.ensures (c.fill_canonical.ensures c.if-fill_canonical.true) in (
+      subst (λ t. IsRead (rule_of rule) t (length octets) octets v stop) (sym (field_type f)) read,
       subst (λ r. DiffersFromDefault r (value_view v)) (sym (field_requirement f)) (differs_of (requirement_view f.presence) (value_view v) (c.is_default.ensures.other c.if-not-is_default.true)),
     )
