@@ -1,6 +1,6 @@
 //! Where the contents octets of an encoding under a known tag begin and end (X.690 8.1).
 
-ghost use Rattle.std.specs.Prelude.{◌↔◌, ◌≤◌, length, take, IsTrue, IfSome};
+ghost use Rattle.std.specs.Prelude.{◌↔◌, ◌<◌, ◌≤◌, length, take, IsTrue, IfSome};
 ghost use Rattle.octets.specs.declared.tag.Tag.{Tag};
 ghost use Rattle.octets.specs.Identifier.{IsIdentifier};
 ghost use Rattle.octets.specs.Rule.{ber};
@@ -91,34 +91,51 @@ pub fn primitive(tag: Tag, octets: &[u8]) -> Option<(&[u8], usize)>
 pub fn opened(tag: Tag, octets: &[u8]) -> Option<Inside<'_>>
     ensures { IfSome result (λ inside. IsOpened tag octets.now inside) }
 {
-    if tag.number < 31 && octets.len() >= 2 && octets[1] <= 0x80 {
-        if octets[0] != leading_octet(tag) + 0x20 {
-            return None;
-        }
-        if octets[1] == 0x80 {
-            return Some(Inside {
-                octets: &octets[2..],
-                start: 2,
-                definite: false,
-            });
-        }
-        let stop = 2 + usize::from(octets[1]);
-        if stop > octets.len() {
-            return None;
-        }
-        return Some(Inside {
-            octets: &octets[2..stop],
-            start: 2,
-            definite: true,
-        });
+    if is_short(tag, octets) {
+        return short_opened(tag, octets);
     }
     let inside = long_opened(tag, octets)?;
     Some(inside)
 }
 
+// Whether one identifier octet and one length octet may stand at the front, of an encoding with the tag.
+#[inline(always)]
+pub fn is_short(tag: Tag, octets: &[u8]) -> bool
+    ensures { IsTrue result → (tag.number < 31) × (2 ≤ length octets.now) }
+{
+    tag.number < 31 && octets.len() >= 2 && octets[1] <= 0x80
+}
+
+// What is inside a constructed encoding, if these two octets stand before it.
+#[inline(always)]
+pub fn short_opened(tag: Tag, octets: &[u8]) -> Option<Inside<'_>>
+    requires { (tag.number < 31) × (2 ≤ length octets.now) }
+    ensures { IfSome result (λ inside. IsOpened tag octets.now inside) }
+{
+    if octets[0] != leading_octet(tag) + 0x20 {
+        return None;
+    }
+    if octets[1] == 0x80 {
+        return Some(Inside {
+            octets: &octets[2..],
+            start: 2,
+            definite: false,
+        });
+    }
+    let stop = 2 + usize::from(octets[1]);
+    if octets[1] > 0x80 || stop > octets.len() {
+        return None;
+    }
+    Some(Inside {
+        octets: &octets[2..stop],
+        start: 2,
+        definite: true,
+    })
+}
+
 // What is inside a constructed encoding, whatever its identifier and length are.
 #[inline(never)]
-fn long_opened(tag: Tag, octets: &[u8]) -> Option<Inside<'_>>
+pub fn long_opened(tag: Tag, octets: &[u8]) -> Option<Inside<'_>>
     ensures { IfSome result (λ inside. IsOpened tag octets.now inside) }
 {
     let start = begun(tag, true, octets)?;

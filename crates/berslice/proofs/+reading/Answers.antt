@@ -336,14 +336,14 @@ reading::read_inside-returns-in-Set t c =
     IfSome-map c.read_members.result _ (λ used. AreContentsRead c.args.levels (ty_view c.args.ty.now) octets v used)
     (λ used h. subst (λ shape. AreContentsRead c.args.levels shape octets v used) (sym same) (h c.in-Set.field-0)) c.read_members.ensures
 
-pub explicit::read_under_tag-returns : goal.explicit::read_under_tag-returns
-explicit::read_under_tag-returns t c =
+pub explicit::read_within-returns : goal.explicit::read_within-returns
+explicit::read_within-returns t c =
     let octets = c.args.octets.now in
     let type = Shape.explicit c.args.tag (ty_view c.args.ty.now) in
-    let inside = c.in_ok-inside.inside in
+    let inside = c.args.inside.now in
     let used = c.in_ok-used.used in
     let v = c.read_tagged.new.value in
     let come = explicit_contents (c.args.levels - 1) c.args.tag (ty_view c.args.ty.now) inside.octets.now v used c.in_ok-used.ensures in
     both_of (λ n. n ≤ length octets) (λ n. (tag : Tag) → IsOpened tag octets inside → IsConstructed ber tag (take used inside.octets.now) (take n octets)) (λ n. IsRead c.args.levels type octets v n)
     c.close.result c.close.ensures.there c.close.ensures.value
-    (λ n there whole. constructed_read c.args.levels c.args.tag type octets inside.octets.now v used n c.requires (search rules) refl come there (whole c.args.tag c.in_ok-inside.ensures))
+    (λ n there whole. constructed_read c.args.levels c.args.tag type octets inside.octets.now v used n c.requires.good (search rules) refl come there (whole c.args.tag c.requires.opened))
