@@ -2,7 +2,7 @@
 use Rattle.std.specs.List.{AllByRecursion, concat}
 use Rattle.std.proofs.Common.{◌≡◌, ◌≢◌, ◌+◌, ◌-◌, ◌<◌, ◌≤◌, ℕ, zero, suc, List, [], ◌∷◌, ◌++◌, Option, Some, None, Box, Vec, Global, IfSome, refl, sym, ap, ◌∙◌, subst, subst₂, arith, set, take, drop, map, option_map, length, get_or, append-nil, append_assoc, drop-drop}
 use Rattle.std.proofs.Math.Seq.{take-add}
-use Rattle.std.proofs.lemmas.List.{map_push, map_more, length-drop, take_all, take_rest}
+use Rattle.std.proofs.lemmas.List.{map_push, map_more, length-drop, take_all, take_rest, take_more_set}
 use Rattle.octets.specs.declared.tag.Tag.{Tag}
 use Rattle.octets.specs.Rule.{ber}
 use Rattle.types.specs.declared.value.Value.{Value}
@@ -54,16 +54,17 @@ pub explicit_contents : (levels : ℕ) (tag : Tag) (type : Shape) (inside : List
 explicit_contents levels tag type inside v used h = record { there = h.0; parts = Parts.explicit type (Some (value_view v)); of = refl; come = h.1; value = refl }
 
 -- components are those of a SEQUENCE
-pub sequence_contents : (levels : ℕ) (tag : Tag) (fields : List Field) (inside : List ℕ) (slots : Vec (Option Value) Global) (used : ℕ) → AreComponentsRead levels (map field_view fields) inside slots.items used → AreContentsRead levels (Shape.sequence tag (components_view fields)) inside (value.Fields slots) used
-sequence_contents levels tag fields inside slots used h =
+pub sequence_contents : (levels : ℕ) (tag : Tag) (fields : List Field) (inside : List ℕ) (v : Value) (slots : List (Option Value)) (used : ℕ) → value_view v ≡ Val.fields (slots_of (map (option_map value_view) slots))
+    → AreComponentsRead levels (map field_view fields) inside slots used → AreContentsRead levels (Shape.sequence tag (components_view fields)) inside v used
+sequence_contents levels tag fields inside v slots used viewed h =
     let cs = map field_view fields in
-    let views = map (option_map value_view) slots.items in
+    let views = map (option_map value_view) slots in
     record {
       there = h.there;
       parts = Parts.sequence cs views [];
       of = ap components_of (sym (append-nil cs));
       come = h.come;
-      value = (tt, value-Fields slots ∙ ap (λ l. Val.fields (slots_of l)) (sym (append-nil views)));
+      value = (tt, viewed ∙ ap (λ l. Val.fields (slots_of l)) (sym (append-nil views)));
     }
 
 -- around items, a SEQUENCE OF
@@ -175,11 +176,54 @@ component_stands levels f octets v slot used h is =
     let come : IsCome levels c (option_map value_view slot) (Some part) = subst (λ (d : ComponentView). IsCome levels d (option_map value_view slot) (Some part)) (sym same) (slot_come levels f.name (ty_view f.ty) (requirement_view f.presence) (value_view v) (option_map value_view slot) part is h.1) in
     record { there = h.0; encoding = Some part; come = come; joined = sym (append-nil part) }
 
+-- a value has one count of components
+pub same_count : (slots others : Vec (Option Value) Global) → value.Fields others ≡ value.Fields slots → length slots.items ≡ length others.items
+same_count slots others is =
+    let same : Val.fields (slots_of (map (option_map value_view) others.items)) ≡ Val.fields (slots_of (map (option_map value_view) slots.items)) = sym (value-Fields others) ∙ (ap value_view is ∙ value-Fields slots) in
+    let held : slots_of (map (option_map value_view) others.items) ≡ slots_of (map (option_map value_view) slots.items) = cc same in
+    count slots.items others.items held
+  where
+    count : (xs ys : List (Option Value)) → slots_of (map (option_map value_view) ys) ≡ slots_of (map (option_map value_view) xs) → length xs ≡ length ys
+    count [] [] is = refl
+    count [] (None ∷ ys) is = cc is
+    count [] (Some y ∷ ys) is = cc is
+    count (None ∷ xs) [] is = cc is
+    count (Some x ∷ xs) [] is = cc is
+    count (None ∷ xs) (None ∷ ys) is = let rest : slots_of (map (option_map value_view) ys) ≡ slots_of (map (option_map value_view) xs) = cc is in ap suc (count xs ys rest)
+    count (None ∷ xs) (Some y ∷ ys) is = cc is
+    count (Some x ∷ xs) (None ∷ ys) is = cc is
+    count (Some x ∷ xs) (Some y ∷ ys) is = let rest : slots_of (map (option_map value_view) ys) ≡ slots_of (map (option_map value_view) xs) = cc is in ap suc (count xs ys rest)
+
 -- all of the components
 pub all_components : (levels : ℕ) (fields : List Field) (i : ℕ) (octets : List ℕ) (slots : List (Option Value)) (at : ℕ) → length fields ≤ i → length slots ≡ length fields
     → AreComponentsRead levels (map field_view (take i fields)) octets (take i slots) at → AreComponentsRead levels (map field_view fields) octets slots at
 all_components levels fields i octets slots at past many read =
     subst₂ (λ xs ys. AreComponentsRead levels (map field_view xs) octets ys at) (take_all i fields past) (take_all i slots (omega (arith, past, many))) read
+
+-- the components that stand in front of those octets that are left
+pub record AreComponentsBefore (levels : ℕ) (components : List ComponentView) (octets rest : List ℕ) (slots : List (Option Value)) : Type 0 where
+  pub at : ℕ
+  pub left : rest ≡ drop at octets
+  pub read : AreComponentsRead levels components octets slots at
+
+pub no_components_before : (levels : ℕ) (octets : List ℕ) (slots : List (Option Value)) → slots ≡ [] → AreComponentsBefore levels [] octets octets slots
+no_components_before levels octets slots none = record { at = 0; left = refl; read = no_components levels octets slots none }
+
+pub one_component_before : (levels : ℕ) (fields : List Field) (i : ℕ) (f : Field) (octets rest : List ℕ) (slots : List (Option Value)) (slot : Option Value) (used : ℕ) → i < length fields → f ≡ get_or fields i f → i < length slots
+    → AreComponentsBefore levels (map field_view (take i fields)) octets rest (take i slots) → IsComponentRead levels (field_view f) rest slot used
+    → AreComponentsBefore levels (map field_view (take (i + 1) fields)) octets (take (length rest - used) (drop used rest)) (take (i + 1) (set slots i slot))
+one_component_before levels fields i f octets rest slots slot used below is room h one = record {
+  at = h.at + used;
+  left = take_rest rest used ∙ (ap (drop used) h.left ∙ drop-drop used h.at octets);
+  read = subst (λ l. AreComponentsRead levels (map field_view (take (i + 1) fields)) octets l (h.at + used)) (sym (take_more_set slots i slot room))
+      (component_read levels fields i f octets (take i slots) slot h.at used below is h.read (subst (λ o. IsComponentRead levels (field_view f) o slot used) h.left one));
+}
+
+-- they have as many octets as are not left
+pub components_before : (levels : ℕ) (components : List ComponentView) (octets rest : List ℕ) (slots : List (Option Value)) (count : ℕ) → AreComponentsBefore levels components octets rest slots → count ≡ length octets - length rest → AreComponentsRead levels components octets slots count
+components_before levels components octets rest slots count h is =
+    let same : h.at ≡ count = omega (arith, is, ap length h.left, length-drop h.at octets, h.read.there) in
+    subst (AreComponentsRead levels components octets slots) same h.read
 
 -- the components of a good SEQUENCE
 pub good_components : (tag : Tag) (fields : List Field) → IsGoodType (Shape.sequence tag (components_view fields)) → AllByRecursion IsGoodComponent (map field_view fields)

@@ -1,8 +1,10 @@
 -- Values that have been read at the front of some octets.
-use Rattle.std.specs.Prelude.{◌≡◌, ◌≤◌, ℕ, List, [], ◌∷◌, ◌++◌, Option, length, take, map, option_map}
+use Rattle.std.specs.Prelude.{◌≡◌, ◌≤◌, ℕ, List, [], ◌∷◌, ◌++◌, Option, Vec, length, take, map, option_map}
+use Rattle.std.specs.Global.{Global}
 use Rattle.std.specs.List.{concat}
 use Rattle.octets.specs.declared.tag.Tag.{Tag}
 use Rattle.types.specs.declared.value.Value.{Value}
+use Rattle.types.specs.declared.value.Value.TheVariants as value
 use Rattle.types.specs.Shape.{Val, Shape}
 use Rattle.types.specs.View.{ComponentView, value_view, components_of}
 use Rattle.types.specs.Encoding.{standing}
@@ -31,6 +33,10 @@ pub record IsComponentRead (levels : ℕ) (component : ComponentView) (octets : 
 pub record AreComponentsRead (levels : ℕ) (components : List ComponentView) (octets : List ℕ) (slots : List (Option Value)) (used : ℕ) : Type 0 where
   pub there : used ≤ length octets
   pub come : Holds levels (Parts.sequence components (map (option_map value_view) slots) []) (take used octets)
+
+-- whatever components the value has, they are so many
+abbrev pub HasSlots : ℕ → Value → Type 0
+HasSlots count v = (slots : Vec (Option Value) Global) → v ≡ value.Fields slots → length slots.items ≡ count
 
 -- so many are encodings of the items
 pub record AreItemsRead (levels : ℕ) (type : Shape) (octets : List ℕ) (items : List Value) (used : ℕ) : Type 0 where

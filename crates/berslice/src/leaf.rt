@@ -39,7 +39,7 @@ pub fn read_leaf(
 // Whether an encoding under the tag may stand at the front, of either form. Where no short leaf was read, mostly that of
 // another component stands there, or nothing.
 #[inline(always)]
-fn may_begin(tag: Tag, octets: &[u8]) -> bool {
+pub fn may_begin(tag: Tag, octets: &[u8]) -> bool {
     tag.number >= 31 || (!octets.is_empty() && is_identifier(tag, false, octets[0] & 0xDF))
 }
 

@@ -1,9 +1,10 @@
-use Rattle.std.proofs.Common.{rules, IfSome, Some, ◌≡◌, ◌+◌, ◌-◌, ◌<◌, ◌≤◌, [], ◌∷◌, ◌++◌, set, refl, sym, ap, ◌∙◌, subst, arith, take, drop, map, length}
-use Rattle.std.proofs.lemmas.List.{take_rest, take_more_set, length-set, length-drop}
+use Rattle.std.proofs.Common.{rules, IfSome, Option, Some, Vec, Global, ◌≡◌, ◌-◌, ◌<◌, ◌≤◌, [], set, refl, sym, ap, ◌∙◌, subst, arith, take, map, length}
+use Rattle.std.proofs.lemmas.List.{take_rest, length-set, length-drop}
 use Rattle.octets.specs.declared.tag.Tag.{Tag}
 use Rattle.octets.specs.Rule.{ber}
 use Rattle.types.specs.declared.ty.Ty as node
 use Rattle.types.specs.declared.value.Value as value
+use Rattle.types.specs.declared.value.Value.{Value}
 use Rattle.types.specs.declared.ty.Alternative as alternative
 use Rattle.types.specs.declared.ty.Field as field
 use Rattle.types.specs.declared.ty.Field.{Field}
@@ -14,11 +15,11 @@ use Rattle.types.proofs.ViewLemmas.{ty-Sequence, ty-Set}
 use Rattle.encoding_parts.specs.Parts.{Parts, IsGoodType}
 use Rattle.encoding_parts.specs.HeldParts.{members_view}
 use Rattle.berslice.specs.Heads.{IsOpened}
-use Rattle.berslice.specs.Reading.{IsRead, AreContentsRead, IsComponentRead, AreComponentsRead, AreMoreItemsRead, IsMemberRead}
+use Rattle.berslice.specs.Reading.{IsRead, AreContentsRead, AreMoreItemsRead, IsMemberRead}
 use Rattle.berslice.specs.RenewedSet.{renewed_view, slots_view}
 use Rattle.berslice.proofs.RenewedSetLemmas.{due_good, filled_come, IsFilledWith, renewed_come}
 use Rattle.encoding_parts.specs.Renewed.{new_items}
-use Rattle.berslice.proofs.ReadingLemmas.{both_of, IfSome-map, explicit_contents, sequence_contents, constructed_read, sequence_of_read, set_of_read, no_items_before, one_more_before, items_before, fewer_left, all_items, no_components, component_read, all_components, component_stands, good_components, good_component, good_alternative, place_chosen, chosen_read, no_members_before, one_member_before, members_before, member_some, field_type, set_contents, good_members, due_field}
+use Rattle.berslice.proofs.ReadingLemmas.{both_of, IfSome-map, explicit_contents, sequence_contents, constructed_read, sequence_of_read, set_of_read, no_items_before, one_more_before, items_before, fewer_left, all_items, no_components_before, one_component_before, components_before, all_components, component_stands, good_components, good_component, good_alternative, place_chosen, chosen_read, no_members_before, one_member_before, members_before, member_some, field_type, set_contents, good_members, due_field}
 use Rattle.berslice.proofs.+reading.Goals as goal
 use Rattle.berslice.proofs.+reading.Goals.{items::read_list-in-Some, items::read_list-in-None}
 
@@ -45,51 +46,49 @@ reading::read_alternative-returns t c =
 
 pub components::read_component-returns-in-Some-read_one : goal.components::read_component-returns-in-Some-read_one
 components::read_component-returns-in-Some-read_one t c =
-    component_stands c.args.levels c.args.field.now c.args.octets.now c.read_one.new.value c.drop_default.new.slot c.in-Some-read_one.used c.in-Some-read_one.ensures c.drop_default.ensures
+    component_stands c.args.levels c.args.field.now c.args.octets.now c.read_one.new.value c.settle.new.slot c.in-Some-read_one.used c.in-Some-read_one.ensures c.settle.ensures
 
-pub components::read_components-loop-place-init : goal.components::read_components-loop-place-init
-components::read_components-loop-place-init t c = (no_components c.args.levels c.args.octets.now [] refl, c.in-Ok.ensures)
+pub components::read_components-read_slots-requires : goal.components::read_components-read_slots-requires
+components::read_components-read_slots-requires t c =
+    let many = ap (λ (slots : Vec (Option Value) Global). length slots.items) c.in-Fields.slots-is ∙ c.hold_slots.ensures c.if-not-hold_slots.false c.in-Fields.slots c.in-Fields.is in
+    (search rules, (c.requires, many))
 
-pub components::read_components-slice_bounds-read_component-count :
-    goal.components::read_components-slice_bounds-read_component-count
-components::read_components-slice_bounds-read_component-count t c = c.loop-place.invariant.0.there
+pub components::read_components-returns : goal.components::read_components-returns
+unfolding value.out-Value denote.Hole.Carrier.out
+components::read_components-returns t c =
+    let fields = c.args.fields.now in
+    IfSome-map c.read_slots.result _ (λ used. (tag : Tag) → AreContentsRead c.args.levels (Shape.sequence tag (components_view fields)) c.args.octets.now _ used)
+    (λ used h. λ tag. sequence_contents c.args.levels tag fields c.args.octets.now _ c.read_slots.new.slots.items used (search (rules, value.the_lemmas)) h) c.read_slots.ensures
 
-pub components::read_components-slice_bounds-read_component-start :
-    goal.components::read_components-slice_bounds-read_component-start
-components::read_components-slice_bounds-read_component-start t c = c.loop-place.invariant.0.there
+pub components::read_each-loop-place-init : goal.components::read_each-loop-place-init
+components::read_each-loop-place-init t c = (no_components_before c.args.levels c.args.octets.now [] refl, c.requires.slots)
 
-pub components::read_components-read_component-requires : goal.components::read_components-read_component-requires
-components::read_components-read_component-requires t c =
+pub components::read_each-read_component-requires : goal.components::read_each-read_component-requires
+components::read_each-read_component-requires t c =
     let fields = c.args.fields.now in
     let bound : c.loop-place.place < length fields = c.loop-place-test.true in
     let is = c.index-fields-place.is in
-    (search (rules, node.the_lemmas, field.the_lemmas, bound, is), good_component fields c.loop-place.place c.index-fields-place.result bound is c.requires)
+    (search (rules, node.the_lemmas, field.the_lemmas, bound, is), good_component fields c.loop-place.place c.index-fields-place.result bound is c.requires.good)
 
-pub components::read_components-loop-place-preserved : goal.components::read_components-loop-place-preserved
-components::read_components-loop-place-preserved t c =
+pub components::read_each-loop-place-preserved : goal.components::read_each-loop-place-preserved
+components::read_each-loop-place-preserved t c =
     let fields = c.args.fields.now in
-    let octets = c.args.octets.now in
     let i = c.loop-place.place in
-    let f = c.index-fields-place.result in
     let bound : i < length fields = c.loop-place-test.true in
-    let at = c.loop-place.at in
-    let used = c.in_ok-at.field-0 in
-    let slots = c.loop-place.slots.items in
+    let slots = c.loop-place.slots in
     let slot = c.read_component.new.slot in
-    let one : IsComponentRead c.args.levels (field_view f) (drop at octets) slot used = subst (λ o. IsComponentRead c.args.levels (field_view f) o slot used) (take_rest octets at) c.in_ok-at.ensures in
-    let more = component_read c.args.levels fields i f octets (take i slots) slot at used bound c.index-fields-place.is c.loop-place.invariant.0 one in
-    let filled : take (i + 1) (set slots i slot) ≡ take i slots ++ (slot ∷ []) = take_more_set slots i slot (omega (arith, bound, c.loop-place.invariant.1)) in
-    (subst (λ l. AreComponentsRead c.args.levels (map field_view (take (i + 1) fields)) octets l (at + used)) (sym filled) more, length-set slots i slot ∙ c.loop-place.invariant.1)
+    (one_component_before c.args.levels fields i c.index-fields-place.result c.args.octets.now c.loop-place.rest.now slots slot c.in_ok-used.used bound c.index-fields-place.is (omega (arith, bound, c.loop-place.invariant.1)) c.loop-place.invariant.0 c.in_ok-used.ensures, length-set slots i slot ∙ c.loop-place.invariant.1)
 
-pub components::read_components-returns : goal.components::read_components-returns
-components::read_components-returns t c = λ tag.
+pub components::read_each-returns : goal.components::read_each-returns
+components::read_each-returns t c =
     let levels = c.args.levels in
     let fields = c.args.fields.now in
     let octets = c.args.octets.now in
+    let i = c.loop-place.place in
     let slots = c.loop-place.slots in
-    let at = c.loop-place.at in
-    let read = all_components levels fields c.loop-place.place octets slots.items at c.loop-place-test.false c.loop-place.invariant.1 c.loop-place.invariant.0 in
-    sequence_contents levels tag fields octets slots at read
+    let rest = c.loop-place.rest.now in
+    let used = length octets - length rest in
+    all_components levels fields i octets slots used c.loop-place-test.false c.loop-place.invariant.1 (components_before levels (map field_view (take i fields)) octets rest (take i slots) used c.loop-place.invariant.0 refl)
 
 pub reading::read_constructed-returns : goal.reading::read_constructed-returns
 reading::read_constructed-returns t c =

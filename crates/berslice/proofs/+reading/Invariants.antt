@@ -2,15 +2,14 @@ use Rattle.std.proofs.Common.{◌≡◌, length, map, take}
 use Rattle.types.specs.View.{ty_view, field_view}
 use Rattle.berslice.specs.RenewedSet.{renewed_view, IsFilled, IsRoomy}
 use Rattle.encoding_parts.specs.Parts.{Parts}
-use Rattle.berslice.specs.Reading.{AreComponentsRead}
-use Rattle.berslice.proofs.ReadingLemmas.{AreItemsBefore, AreMembersBefore}
+use Rattle.berslice.proofs.ReadingLemmas.{AreComponentsBefore, AreItemsBefore, AreMembersBefore}
 use Rattle.encoding_parts.specs.Renewed.{new_items}
 use Rattle.berslice.proofs.+reading.Given as goal
 
-abbrev pub invariant-components::read_components-loop-place : goal.invariant-components::read_components-loop-place
-invariant-components::read_components-loop-place l =
-    AreComponentsRead l.levels (map field_view (take l.place l.fields)) l.octets (take l.place l.slots.items) l.at
-    × (length l.slots.items ≡ length l.fields)
+abbrev pub invariant-components::read_each-loop-place : goal.invariant-components::read_each-loop-place
+invariant-components::read_each-loop-place l =
+    AreComponentsBefore l.levels (map field_view (take l.place l.fields)) l.octets l.rest (take l.place l.slots)
+    × (length l.slots ≡ length l.fields)
 
 abbrev pub invariant-items::read_items-loop-alloc : goal.invariant-items::read_items-loop-alloc
 invariant-items::read_items-loop-alloc l = AreItemsBefore l.levels (ty_view l.inner) l.octets l.rest (new_items l.initial.list) (new_items l.list)
