@@ -115,6 +115,14 @@ fn fill_oid(alloc: Global, tag: Tag, contents: &[u8], value: &mut Value) -> bool
     if let Value::Oid(arcs) = value {
         return read_oid_into(contents, arcs).is_ok();
     }
+    fill_new_oid(alloc, tag, contents, value)
+}
+
+// Makes the value a new OBJECT IDENTIFIER. A call of its own, so that arcs that have room go through registers alone.
+#[inline(never)]
+fn fill_new_oid(alloc: Global, tag: Tag, contents: &[u8], value: &mut Value) -> bool
+    ensures { IsTrue result → HoldsValue ber (Shape.simple tag SimpleType.oid) (value_view value.new) contents.now }
+{
     // So many arcs at most, so that the vector grows once.
     let most = contents.len().min(MAX_SUBIDENTIFIERS) + 1;
     let mut arcs = Vec::new(alloc);
