@@ -3,7 +3,7 @@ use Rattle.std.proofs.Common.{◌≡◌, ℕ, ◌+◌, ◌≤◌, List, [], ◌-
 use Rattle.std.specs.Prelude.{IfOk, IfErr}
 use Rattle.std.specs.List.{concat}
 use Rattle.std.proofs.lemmas.List.{append_cancel_right, take_all, drop-drop}
-use Rattle.octets.specs.Rule.{Rule}
+use Rattle.octets.specs.Rule.{Rule, ber}
 use Rattle.types.specs.declared.refusal.Refusal.{Refusal}
 use Rattle.types.specs.Encoding.{Meaning}
 use Rattle.types.specs.Shape.{Shape}
@@ -12,9 +12,10 @@ use Rattle.devices.proofs.DeviceLemmas.{appends_none, appends_more}
 use Rattle.engine.specs.declared.any_reader.AnyReader.{AnyReader}
 use Rattle.engine.specs.AnyReader.{read_rule}
 use Rattle.engine.specs.Feeding.{IsUnfinished}
-use Rattle.engine.specs.Passing.{Gathers, HasGathered, HasNotPassed, HasPassed, StopsGathering, Writes}
+use Rattle.engine.specs.Passing.{Gathers, IsCopied, HasGathered, HasNotPassed, HasPassed, StopsGathering, Writes}
 use Rattle.engine.proofs.FeedingLemmas.{cut_piece}
-use Rattle.engine.proofs.PassingLemmas.{writes_none, writes_on}
+use Rattle.engine.proofs.PassingLemmas.{gathers_more, writes_none, writes_on}
+use Rattle.engine.proofs.StrictReaderLemmas.{some_taken}
 
 -- octets behind those that were gathered, not yet looked at
 pub gathers_before : (rule : Rule) (shape : Shape) (Stands : Meaning) (octets rest more batch lengths : List ℕ) → Gathers rule shape Stands octets rest batch lengths → Gathers rule shape Stands (octets ++ more) (rest ++ more) batch lengths
@@ -169,3 +170,22 @@ not_passed_on shape Stands CanBeTooLong old mid before now done refusal front mo
   long = q.long;
   numbers = rw p.same_rule at q.numbers;
 }
+
+-- what is gathered goes on behind a value that stands as it is written
+pub gathers_copied : (shape : Shape) (Stands : Meaning) (stream front octets octets_new lengths lengths_new : List ℕ) (used : ℕ) → IsCopied shape Stands front octets octets_new lengths lengths_new used
+    → Gathers ber shape Stands stream front octets lengths → Gathers ber shape Stands stream (drop used front) octets_new lengths_new
+gathers_copied shape Stands stream front octets octets_new lengths lengths_new used copied g =
+    gathers_more ber shape Stands copied.value stream front octets lengths (take used front) (drop used front) copied.added.part octets_new lengths_new g
+    (sym (take-append-drop used front)) copied.read copied.added.stands copied.added.octets_are copied.added.lengths_are
+
+-- at least one octet is taken for each
+pub copied_some : (shape : Shape) (Stands : Meaning) (front octets octets_new lengths lengths_new : List ℕ) (used : ℕ) → IsCopied shape Stands front octets octets_new lengths lengths_new used → 1 ≤ used
+copied_some shape Stands front octets octets_new lengths lengths_new used copied = some_taken ber shape copied.value used front copied.read
+
+-- what was added of BER goes on behind what was gathered by it
+pub gathered_by_ber : (rule : Rule) (shape : Shape) (Stands : Meaning) (stream behind rest octets octets_new lengths lengths_new : List ℕ) (used : ℕ) → rule ≡ ber → rest ≡ drop used behind
+    → (Gathers ber shape Stands stream behind octets lengths → Gathers ber shape Stands stream (drop used behind) octets_new lengths_new)
+    → Gathers rule shape Stands stream behind octets lengths → Gathers rule shape Stands stream rest octets_new lengths_new
+gathered_by_ber rule shape Stands stream behind rest octets octets_new lengths lengths_new used by_ber rest_is goes_on g =
+    subst (λ left. Gathers rule shape Stands stream left octets_new lengths_new) (sym rest_is)
+    (subst (λ r. Gathers r shape Stands stream (drop used behind) octets_new lengths_new) (sym by_ber) (goes_on (subst (λ r. Gathers r shape Stands stream behind octets lengths) by_ber g)))

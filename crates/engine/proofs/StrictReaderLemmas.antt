@@ -19,6 +19,7 @@ use Rattle.strict.proofs.StrictLemmas.{as_ber}
 use Rattle.berreader.specs.declared.pieces.Pieces.{Pieces}
 use Rattle.engine.specs.declared.strict_reader.StrictReader.{StrictReader}
 use Rattle.engine.specs.Feeding.{IsFed, IsOfFeeding, StandsOpen}
+use Rattle.engine.specs.Putting.{IsWritten}
 use Rattle.engine.specs.StrictReader.{IsOfJudging, StandsStrictly}
 use Rattle.engine.proofs.FeedingLemmas.{cut_piece}
 use Rattle.engine.proofs.PassingLemmas.{other}
@@ -68,7 +69,8 @@ none_read rule shape octets refusal numbers truncated never memory h =
       ]
     ]
 
-some_taken : (rule : Rule) (shape : Shape) (v : Val) (n : ℕ) (octets : List ℕ) → IsAccepted rule shape v (take n octets) → 1 ≤ n
+-- no value has an encoding of no octets
+pub some_taken : (rule : Rule) (shape : Shape) (v : Val) (n : ℕ) (octets : List ℕ) → IsAccepted rule shape v (take n octets) → 1 ≤ n
 some_taken rule shape v zero octets read = absurd (of_no_octets rule shape v read.encoding)
 some_taken rule shape v (suc n) octets read = omega arith
 
@@ -159,3 +161,10 @@ strict_error rule shape old new_reader before piece refusal slot canonical s fed
   record { number = fed.0.number; strict = λ _. canonical; by_ber = fed.0.by_ber },
   λ final more f. fed.1 final more (front_by_ber rule shape ((before ++ piece) ++ more) s.well_formed canonical f),
 )
+
+-- what a canonical rule takes at the front is what it writes for its value, and BER takes it
+pub strict_is_written : (rule : Rule) (shape : Shape) (slot : Option Value) (octets : List ℕ) (used : ℕ) → IsWellFormed shape → IsCanonical rule → used ≤ length octets
+    → MatchOption slot ⊥ (λ value. IsAccepted rule shape (value_view value) (take used octets)) → IsWritten (IsAccepted rule shape) shape slot octets used
+strict_is_written rule shape None octets used well canonical there read = absurd read
+strict_is_written rule shape (Some value) octets used well canonical there read =
+    record { there = there; stands = read; read = as_ber rule shape (value_view value) (take used octets) well canonical read }

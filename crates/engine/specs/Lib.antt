@@ -9,3 +9,4 @@ pub mod Feeding
 pub mod Given
 pub mod StrictReader
 pub mod AnyReader
+pub mod Putting

@@ -1,9 +1,9 @@
 -- A stream passed on piece by piece: what stands between two reads, and behind each piece. `StandsAt` is what is
 -- said of a reader and the octets that it took since it was fresh.
-use Rattle.std.specs.Prelude.{◌≡◌, ◌≤◌, ◌+◌, ℕ, List, [], ◌∷◌, ◌++◌, length, map, Bool, IsTrue, Option}
+use Rattle.std.specs.Prelude.{◌≡◌, ◌≤◌, ◌+◌, ℕ, List, [], ◌∷◌, ◌++◌, length, map, take, drop, Bool, IsTrue, Option}
 use Rattle.std.specs.Io.KnownBytes.{Appends, Consumes}
 use Rattle.std.specs.List.{AllZip, concat}
-use Rattle.octets.specs.Rule.{Rule}
+use Rattle.octets.specs.Rule.{Rule, ber}
 use Rattle.types.specs.declared.refusal.Refusal.{Refusal}
 use Rattle.types.specs.declared.refusal.Refusal.TheVariants.{OutputTooLong}
 use Rattle.types.specs.Encoding.{Meaning, IsAccepted}
@@ -33,6 +33,19 @@ pub record IsAdded (Stands : List ℕ → Type 0) (octets octets_new lengths len
   pub stands : Stands part
   pub octets_are : octets_new ≡ octets ++ part
   pub lengths_are : lengths_new ≡ lengths ++ length part ∷ []
+
+-- so many octets at the front encode a value in BER, and what stands for it is added
+pub record IsCopied (shape : Shape) (Stands : Meaning) (front octets octets_new lengths lengths_new : List ℕ) (used : ℕ) : Type 0 where
+  pub value : Val
+  pub there : used ≤ length front
+  pub read : IsAccepted ber shape value (take used front)
+  pub added : IsAdded (Stands value) octets octets_new lengths lengths_new
+
+-- so do all of so many octets at the front, and what is gathered goes on behind them
+pub record AreCopied (shape : Shape) (Stands : Meaning) (front octets octets_new lengths lengths_new : List ℕ) (used : ℕ) : Type 0 where
+  pub there : used ≤ length front
+  pub gathered : (stream : List ℕ) → Gathers ber shape Stands stream front octets lengths → Gathers ber shape Stands stream (drop used front) octets_new lengths_new
+  pub few : length lengths_new ≤ length lengths + used
 
 -- nothing is added for the value, for a refusal
 pub record IsNotAdded (Stands : List ℕ → Type 0) (CanBeTooLong : Type 0) (refusal : Refusal) : Type 0 where

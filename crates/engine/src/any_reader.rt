@@ -1,6 +1,7 @@
 //! A reader by the rule that is asked for, which is given octets piece by piece.
 
-ghost use Rattle.std.specs.Prelude.{◌≡◌, ◌≤◌, ℕ, List, [], OnOk, IfOk, length};
+ghost use Rattle.std.specs.Prelude.{◌≡◌, ◌≤◌, ℕ, List, [], IsTrue, OnOk, IfOk, length};
+ghost use Rattle.octets.specs.Rule.{ber};
 ghost use Rattle.types.specs.Shape.{Shape};
 ghost use Rattle.types.specs.View.{ty_view};
 ghost use Rattle.types.specs.WellFormed.{IsWellFormed};
@@ -51,6 +52,14 @@ impl<'a> AnyReader<'a> {
             AnyReader::Ber(reader) => reader.feed_into(piece, slot),
             AnyReader::Strict(reader) => reader.feed(piece, slot),
         }
+    }
+
+    /// Whether it reads by BER.
+    #[inline(always)]
+    pub(crate) fn reads_ber(&self) -> bool
+        ensures { IsTrue result → read_rule self.now ≡ ber }
+    {
+        matches!(self, AnyReader::Ber(_))
     }
 
     /// Tells whether no value is begun.

@@ -1,6 +1,6 @@
 //! What stands for the values that a piece completes, gathered.
 
-ghost use Rattle.std.specs.Prelude.{◌≡◌, ◌≢◌, ◌≤◌, ℕ, List, [], ◌++◌, length, take, IsTrue, OnOk, OnErr, IfOk, IfErr, IfSome, MatchResult};
+ghost use Rattle.std.specs.Prelude.{◌≡◌, ◌≢◌, ◌≤◌, ℕ, List, [], ◌++◌, length, take, None, IsTrue, OnOk, OnErr, IfOk, IfErr, IfSome, MatchResult};
 ghost use Rattle.types.specs.Conforms.{Conforms};
 ghost use Rattle.types.specs.Encoding.{IsAccepted};
 ghost use Rattle.types.specs.Shape.{Val};
@@ -8,7 +8,7 @@ ghost use Rattle.types.specs.View.{value_view};
 ghost use Rattle.octets.specs.Front.{Appends};
 ghost use Rattle.engine.specs.AnyReader.{read_rule, StandsBy};
 ghost use Rattle.engine.specs.Feeding.{IsUnfinished};
-ghost use Rattle.engine.specs.Passing.{IsAdded, IsNotAdded, HasGathered, StopsGathering};
+ghost use Rattle.engine.specs.Passing.{IsAdded, IsCopied, AreCopied, IsNotAdded, HasGathered, StopsGathering};
 ghost use Rattle.engine.specs.Refusal.{IsOfGathering};
 
 use crate::any_reader::AnyReader;
@@ -48,6 +48,7 @@ impl Batch {
     }
 
     // Adds what stands for a value: these octets, if there are any. Returns whether the batch is to be written now.
+    #[inline(always)]
     fn add<P: Put>(
         &mut self,
         writer: &P,
@@ -72,6 +73,46 @@ impl Batch {
                 self.octets.truncate(before);
                 Err(Refusal::NoMemory)
             }
+        }
+    }
+
+    // Adds the values at the front whose encodings are what is written for them, up to the first of another encoding, and
+    // returns how many octets they have.
+    #[inline(never)]
+    fn copy_written<P: Put>(&mut self, writer: &P, octets: &[u8], slot: &mut Option<Value>) -> usize
+        ensures copies { self.new.copies ≡ self.old.copies }
+        ensures copied { AreCopied (P.shape writer.now) (P.stands writer.now) octets.now
+            self.old.octets.items self.new.octets.items self.old.lengths.items self.new.lengths.items result }
+    {
+        let mut rest = octets;
+        while let Some(used) = self.copy_first(writer, rest, slot) {
+            rest = &rest[used..];
+        }
+        octets.len() - rest.len()
+    }
+
+    // Adds the value at the front, where its encoding is what is written for it, and returns how many octets it has.
+    #[inline(always)]
+    fn copy_first<P: Put>(
+        &mut self,
+        writer: &P,
+        octets: &[u8],
+        slot: &mut Option<Value>,
+    ) -> Option<usize>
+        ensures copies { self.new.copies ≡ self.old.copies }
+        ensures copied { IfSome result (IsCopied (P.shape writer.now) (P.stands writer.now) octets.now
+            self.old.octets.items self.new.octets.items self.old.lengths.items self.new.lengths.items) }
+        ensures octets { result ≡ None → self.new.octets.items ≡ self.old.octets.items }
+        ensures lengths { result ≡ None → self.new.lengths.items ≡ self.old.lengths.items }
+    {
+        let used = writer.read_written(octets, slot)?;
+        let Some(value) = slot else {
+            return None;
+        };
+        let (front, _) = octets.split_at(used);
+        match self.add(writer, value, Some(front)) {
+            Ok(_) => Some(used),
+            Err(_) => None,
         }
     }
 
@@ -107,6 +148,8 @@ impl Batch {
     {
         self.octets.clear();
         self.lengths.clear();
+        // What is written for a value may be its encoding in BER. It is looked for behind one value of each piece.
+        let mut looks = reader.reads_ber();
         let mut rest = piece;
         while !rest.is_empty() {
             let is_copied = self.copies && reader.finish().is_ok();
@@ -120,12 +163,18 @@ impl Batch {
                 return Ok(piece.len() - behind.len());
             }
             rest = behind;
+            if looks {
+                looks = false;
+                let copied = self.copy_written(writer, rest, slot);
+                rest = &rest[copied..];
+            }
         }
         Ok(piece.len())
     }
 }
 
 // Appends what stands for a value: these octets, if there are any.
+#[inline(always)]
 fn put<P: Put>(
     writer: &P,
     value: &Value,

@@ -27,6 +27,10 @@ impl Put for Lines<'_> {
         true
     }
 
+    fn read_written(&self, _octets: &[u8], _slot: &mut Option<Value>) -> Option<usize> {
+        None
+    }
+
     fn put(&self, value: &Value, room: &mut String, out: &mut Vec<u8>) -> Result<(), Refusal> {
         room.clear();
         put_shown(self.alloc, self.ty, value, room)?;

@@ -1,17 +1,19 @@
 //! What is written for values.
 
-ghost use Rattle.std.specs.Prelude.{◌≡◌, ⊤, ℕ, List, [], OnOk, OnErr, IfErr};
+ghost use Rattle.std.specs.Prelude.{◌≡◌, ⊤, ℕ, List, [], OnOk, OnErr, IfErr, IfSome};
 ghost use Rattle.octets.specs.Front.{Appends};
 ghost use Rattle.types.specs.Conforms.{Conforms};
 ghost use Rattle.types.specs.Refusal.{IsOfWriting};
 ghost use Rattle.types.specs.Shape.{Shape, Val};
 ghost use Rattle.types.specs.View.{ty_view, value_view};
 ghost use Rattle.types.specs.Encoding.{IsAccepted};
+ghost use Rattle.engine.specs.Putting.{IsWritten};
 ghost use Rattle.engine.specs.Rule.{canonical_rule_of};
 
 use crate::Canonical;
 use canon::{Canon, Cer, Der};
 use std::alloc::Global;
+use strict::read_into;
 use types::{Refusal, Value, WellTyped};
 
 /// A writer of values of one type.
@@ -27,6 +29,11 @@ pub trait Put {
 
     /// Whether what stands for a value can be far longer than its encodings, as a text by the names of the type.
     fn can_outgrow(&self) -> bool;
+
+    /// Reads the octets at the front that stand for a value, and are an encoding of it in BER, into the slot, and returns
+    /// how many they are. Returns None where they are not found: the slot may then hold anything.
+    fn read_written(&self, octets: &[u8], slot: &mut Option<Value>) -> Option<usize>
+        ensures { IfSome result (IsWritten (stands self.now) (shape self.now) slot.new octets.now) };
 
     /// Appends what stands for a value. What is in `room` is lost: a writer may use its memory.
     fn put(&self, value: &Value, room: &mut String, out: &mut Vec<u8>) -> Result<(), Refusal>
@@ -59,6 +66,14 @@ impl Put for Encodings<'_> {
         false
     }
 
+    #[inline(never)]
+    fn read_written(&self, octets: &[u8], slot: &mut Option<Value>) -> Option<usize> {
+        match read_into(self.alloc, self.to, self.ty, octets, slot) {
+            Ok(used) => Some(used),
+            Err(_) => None,
+        }
+    }
+
     fn put(&self, value: &Value, _room: &mut String, out: &mut Vec<u8>) -> Result<(), Refusal> {
         match self.to {
             Canonical::Cer => Cer.put(self.alloc, self.ty, value, out),
@@ -82,6 +97,10 @@ impl Put for Nothing<'_> {
 
     fn can_outgrow(&self) -> bool {
         false
+    }
+
+    fn read_written(&self, _octets: &[u8], _slot: &mut Option<Value>) -> Option<usize> {
+        None
     }
 
     fn put(&self, _value: &Value, _room: &mut String, _out: &mut Vec<u8>) -> Result<(), Refusal> {

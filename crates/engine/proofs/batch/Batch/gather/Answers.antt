@@ -1,6 +1,6 @@
-use Rattle.std.proofs.Common.{rules, ◌≡◌, ◌++◌, [], length, take, drop, refl, sym, subst, ap, ◌∙◌, arith, length-drop}
+use Rattle.std.proofs.Common.{rules, ◌≡◌, ◌≤◌, ◌+◌, ◌++◌, [], length, take, drop, refl, sym, subst, ap, ◌∙◌, arith, length-drop}
 use Rattle.std.proofs.lemmas.Bool.{true≢false}
-use Rattle.std.proofs.lemmas.List.{length_push}
+use Rattle.std.proofs.lemmas.List.{length_push, take_rest}
 use Rattle.types.specs.View.{value_view}
 use Rattle.types.proofs.EncodedLemmas.{encoded_conforms}
 use Rattle.engine.specs.AnyReader.{read_rule}
@@ -8,7 +8,7 @@ use Rattle.engine.proofs.PassingLemmas.{gathers_none, gathers_more}
 use Rattle.types.specs.Encoding.{IsAccepted}
 use Rattle.octets.proofs.ResultLemmas.{IfErr-from}
 use Rattle.engine.proofs.FeedingLemmas.{none_begun, cut_piece, finished_none, gathered_all, feed_refused, add_refused}
-use Rattle.engine.proofs.BatchLemmas.{gathered_front, gathered_whole, left_further, left_whole}
+use Rattle.engine.proofs.BatchLemmas.{gathered_by_ber, gathered_front, gathered_whole, left_further, left_whole}
 use Rattle.engine.proofs.batch.Batch.gather.Goals as goal
 use Rattle.engine.proofs.batch.Batch.gather.Goals.{then-is_copied, else-is_copied, then-self, else-self}
 
@@ -17,6 +17,7 @@ loop-rest-init g c = record {
   copies = refl;
   same_rule = refl;
   gathers = λ old unfinished. (old, unfinished, gathers_none (read_rule c.args.reader.now) (g.P.Put.shape c.args.writer.now) (g.P.Put.stands c.args.writer.now) (old ++ c.args.piece.now) _ _ c.clear.ensures.items c.clear-2.ensures.items);
+  by_ber = c.reads_ber-looks.ensures;
   joined = left_whole c.args.piece.now;
   few = omega (arith, ap length c.clear-2.ensures.items);
 }
@@ -71,8 +72,44 @@ loop-rest-preserved g c =
             gathers_more rule shape Stands v _ (i.0 ++ left) _ _ (i.0 ++ take used left) c.split_at.result.1.now added.part _ _ i.2
                 (cut_piece i.0 left c.split_at.result.1.now used c.split_at.ensures.back) f.0.accepted added.stands added.octets_are added.lengths_are,
           );
+      by_ber = c.loop-rest.invariant.by_ber;
       joined = left_further c.args.piece.now left c.split_at.result.1.now used c.loop-rest.invariant.joined (omega (arith, c.loop-rest.invariant.few)) done.there c.split_at.ensures.back;
       few = omega (arith, ap length added.lengths_are, length_push c.loop-rest.self.lengths.items (length added.part), c.loop-rest.invariant.few, done.some, done.there, ap length c.split_at.ensures.back, length-drop used left);
+    }
+
+pub loop-rest-preserved-then-looks : goal.loop-rest-preserved-then-looks
+loop-rest-preserved-then-looks g c =
+    let rule = read_rule c.args.reader.now in
+    let shape = g.P.Put.shape c.args.writer.now in
+    let Stands = g.P.Put.stands c.args.writer.now in
+    let v = value_view c.in-Some.value in
+    let left = c.loop-rest.rest.now in
+    let used = c.in_ok-used.used in
+    let fed = rw c.loop-rest.invariant.same_rule at (rw c.in-Some.is at c.in_ok-used.ensures.fed) in
+    let here = c.loop-rest.invariant.gathers c.requires.stands.0 c.requires.stands.1 in
+    let done = (fed shape here.0 here.1.stands).0 in
+    let added = c.in_ok-add.ensures.added in
+    let behind = c.split_at.result.1.now in
+    let copies = c.copy_written-copied in
+    let rest_is = take_rest behind copies.result in
+    let behind_is = left_further c.args.piece.now left behind used c.loop-rest.invariant.joined (omega (arith, c.loop-rest.invariant.few)) done.there c.split_at.ensures.back in
+    let counted : length c.add.new.self.lengths.items + length behind ≤ length c.args.piece.now =
+    omega (arith, ap length added.lengths_are, length_push c.loop-rest.self.lengths.items (length added.part), c.loop-rest.invariant.few, done.some, done.there, ap length c.split_at.ensures.back, length-drop used left) in
+    record {
+      copies = copies.ensures.copies ∙ c.in_ok-add.ensures.copies ∙ c.loop-rest.invariant.copies;
+      same_rule = c.in_ok-used.ensures.rule_stays ∙ c.loop-rest.invariant.same_rule;
+      gathers = λ old unfinished.
+          let i = c.loop-rest.invariant.gathers old unfinished in
+          let f = fed shape i.0 i.1.stands in (
+            [],
+            record { stands = f.1; none = none_begun rule shape },
+            gathered_by_ber rule shape Stands (old ++ c.args.piece.now) behind _ _ _ _ _ copies.result (c.loop-rest.invariant.by_ber c.if-looks.true) rest_is (copies.ensures.copied.gathered (old ++ c.args.piece.now))
+                (gathers_more rule shape Stands v _ (i.0 ++ left) _ _ (i.0 ++ take used left) behind added.part _ _ i.2
+                (cut_piece i.0 left behind used c.split_at.ensures.back) f.0.accepted added.stands added.octets_are added.lengths_are),
+          );
+      by_ber = λ none. absurd (cc none);
+      joined = left_further c.args.piece.now behind _ copies.result behind_is (omega (arith, counted)) copies.ensures.copied.there rest_is;
+      few = omega (arith, counted, copies.ensures.copied.few, copies.ensures.copied.there, ap length rest_is, length-drop copies.result behind);
     }
 
 pub returns-in_err-add-clause-refused : goal.returns-in_err-add-clause-refused
