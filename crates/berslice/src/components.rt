@@ -37,7 +37,7 @@ pub fn read_components(
     read_slots(alloc, fields, levels, octets, slots)
 }
 
-// Reads them into the slots, of which there is one for each.
+// Reads the encodings of components into the slots, of which there is one for each.
 #[cycle(reading)]
 #[inline(always)]
 fn read_slots(
@@ -54,7 +54,8 @@ fn read_slots(
     read_each(alloc, fields, levels, octets, slots)
 }
 
-// Reads them into the slots. The slots, and what is left of the octets, are slices, which stay in registers.
+// Reads the encodings of components into their slots. These, and what is left of the octets, are slices, which stay in
+// registers.
 #[cycle(reading)]
 #[inline(always)]
 fn read_each(

@@ -35,8 +35,8 @@ pub fn read_under_tag(
     read_under_long_tag(alloc, tag, ty, levels, octets, value)
 }
 
-// Reads one of which more than two octets stand before the contents octets. A call of its own, so that what mostly comes
-// does not go through memory.
+// Reads an encoding under a tag that has more than two octets before the contents octets. A call of its own, so that
+// what mostly comes does not go through memory.
 #[cycle(reading)]
 #[inline(never)]
 fn read_under_long_tag(
@@ -54,7 +54,7 @@ fn read_under_long_tag(
     read_within(alloc, tag, ty, levels, &inside, octets, value)
 }
 
-// Reads one of which what stands before the contents octets has been read.
+// Reads an encoding under a tag behind what stands before its contents octets.
 #[cycle(reading)]
 #[inline(always)]
 fn read_within(

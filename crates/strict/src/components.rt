@@ -130,7 +130,7 @@ fn read_component(
     }
 }
 
-// Empties the slot. It is empty where the component was left out the last time.
+// Empties the slot of a component that is left out. It is empty where that was left out the last time.
 #[inline(always)]
 fn leave_out(slot: &mut Option<Value>)
     ensures { slot.new ≡ None }
@@ -185,7 +185,7 @@ pub fn read_present(
     }
 }
 
-// Reads it, as `read_present` does, with no look at it before.
+// Reads the component at the front, as `read_present` does, with no look at it before.
 #[cycle(reading)]
 #[inline(always)]
 fn read_wholly_present(
