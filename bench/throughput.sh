@@ -32,9 +32,10 @@
 # item is a slot of 48 octets and a box of 64, and in lists of a thousand items one takes half the time.
 #
 # What is written is converted and checked again. From DER to DER, and from CER to CER, records may take 3 times what
-# floor takes and 0.8 times the time that the same octets take from BER, and `check` 1.1 times.
+# floor takes and 1.1 times the time that the same octets take from BER, of which most are copied too; so may `check`.
 #
-# Of each, CER may take 1.5 times the time that DER takes, `check` no more than it, and `show` 3 times it.
+# Of each, CER may take 1.5 times the time that DER takes, `check` no more than it, and `show` 3 times it, or what floor
+# takes where that is more.
 # A run over one NULL may take 1.5 ms. At most 3 MiB may be resident over values of at most 4 KiB, and 30 MiB over
 # a string, a SEQUENCE OF NULL, a SET OF INTEGER or, from BER and from DER, a SEQUENCE OF a CHOICE of 1 MiB; a list of
 # values that have parts takes more.
@@ -104,7 +105,7 @@ row() {
     measure $runs "$program" check "${input[@]}"
     hold "  check over convert" 100 "$took" "$der"
     measure $runs "$program" show "${input[@]}"
-    hold "  show over convert" 300 "$took" "$der"
+    hold "  show over convert, or floor" 300 "$took" $((der > theirs ? der : theirs))
 }
 
 # Measures the strict reader of a rule on what the last work becomes under it, beside floor and the reader of BER.
@@ -118,7 +119,7 @@ strict_row() {
     ber=$took
     measure $runs "$program" convert "${again[@]}" --from "$rule" --to "$rule"
     hold "  from $rule to it over floor" 300 "$took" "$theirs"
-    hold "  from $rule to it over from BER" 80 "$took" "$ber"
+    hold "  from $rule to it over from BER" 110 "$took" "$ber"
     measure $runs "$program" check "${again[@]}"
     ber=$took
     measure $runs "$program" check "${again[@]}" --from "$rule"

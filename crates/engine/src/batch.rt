@@ -105,6 +105,9 @@ impl Batch {
         ensures octets { result ≡ None → self.new.octets.items ≡ self.old.octets.items }
         ensures lengths { result ≡ None → self.new.lengths.items ≡ self.old.lengths.items }
     {
+        if !self.may_be_whole(octets) {
+            return None;
+        }
         let used = writer.read_written(octets, slot)?;
         let Some(value) = slot else {
             return None;
@@ -113,6 +116,16 @@ impl Batch {
         match self.add(writer, value, Some(front)) {
             Ok(_) => Some(used),
             Err(_) => None,
+        }
+    }
+
+    // Whether the octets may have a whole value as long as the last one. What is cut would be read twice, and the room of
+    // its lists lost.
+    #[inline(always)]
+    fn may_be_whole(&self, octets: &[u8]) -> bool {
+        match self.lengths.last() {
+            Some(length) => *length <= octets.len(),
+            None => false,
         }
     }
 
@@ -148,7 +161,8 @@ impl Batch {
     {
         self.octets.clear();
         self.lengths.clear();
-        // What is written for a value may be its encoding in BER. It is looked for behind one value of each piece.
+        // Values that come from BER as they are written are mostly followed by more of them. These are copied, which is
+        // tried once in each piece.
         let mut looks = reader.reads_ber();
         let mut rest = piece;
         while !rest.is_empty() {
@@ -163,7 +177,7 @@ impl Batch {
                 return Ok(piece.len() - behind.len());
             }
             rest = behind;
-            if looks {
+            if looks && self.octets.ends_with(front) {
                 looks = false;
                 let copied = self.copy_written(writer, rest, slot);
                 rest = &rest[copied..];

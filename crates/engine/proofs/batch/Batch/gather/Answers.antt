@@ -77,8 +77,8 @@ loop-rest-preserved g c =
       few = omega (arith, ap length added.lengths_are, length_push c.loop-rest.self.lengths.items (length added.part), c.loop-rest.invariant.few, done.some, done.there, ap length c.split_at.ensures.back, length-drop used left);
     }
 
-pub loop-rest-preserved-then-looks : goal.loop-rest-preserved-then-looks
-loop-rest-preserved-then-looks g c =
+pub loop-rest-preserved-then-ends_with : goal.loop-rest-preserved-then-ends_with
+loop-rest-preserved-then-ends_with g c =
     let rule = read_rule c.args.reader.now in
     let shape = g.P.Put.shape c.args.writer.now in
     let Stands = g.P.Put.stands c.args.writer.now in
