@@ -1,6 +1,6 @@
 //! SEQUENCE OF and SET OF (X.690 8.10, 8.12 and 11.6).
 
-ghost use Rattle.std.specs.Prelude.{◌≡◌, ◌≤◌, [], false, vec_len, IsTrue, IfOk, IfErr};
+ghost use Rattle.std.specs.Prelude.{◌≡◌, ◌-◌, ◌≤◌, ℕ, [], false, drop, vec_len, IsTrue, IfOk, IfErr};
 ghost use Rattle.std.specs.Ordering.{nat_cmp, is_lt};
 ghost use Rattle.std.specs.Cmp.Lexicographic.{slice_cmp};
 ghost use Rattle.octets.specs.declared.TheConstants.{MAX_ENCODING};
@@ -10,9 +10,9 @@ ghost use Rattle.types.specs.View.{ty_view};
 ghost use Rattle.encoding_parts.specs.Parts.{IsGoodType};
 ghost use Rattle.encoding_parts.specs.Renewed.{new_items};
 ghost use Rattle.strict.specs.Bars.{RefusesStrictly};
-ghost use Rattle.strict.specs.Head.{AreFewer};
+ghost use Rattle.strict.specs.Head.{AreFewer, EndsHere};
 ghost use Rattle.strict.specs.Inside.{IsInsideRead, list_of};
-ghost use Rattle.strict.specs.Items.{HasItems, IsItemRead};
+ghost use Rattle.strict.specs.Items.{HasItems, IsItemRead, AreItemsRead};
 ghost use Rattle.strict.specs.Reading.{RefusesPart};
 
 use crate::ends::ends;
@@ -28,7 +28,8 @@ use types::{Refusal, Ty, Value};
 const FEW: usize = 8;
 
 // Reads the encodings of items up to the end into the value, and returns how many octets they have. Where they are to
-// be `ordered`, as those of a SET OF, none may come before the one that it follows.
+// be `ordered`, as those of a SET OF, none may come before the one that it follows. Where they are refused, the value
+// keeps the list, with all that is in it: the next one is read into its room.
 #[cycle(reading)]
 #[inline(always)]
 pub fn read_items(
@@ -46,18 +47,44 @@ pub fn read_items(
     ensures refused { IfErr result (RefusesStrictly (HasItems (rule_of rule) (ty_view inner.now) ordered inside.now.definite inside.now.room []) (AreFewer inside.now.definite inside.now.room) octets.now) }
 {
     let mut list = Renewed::over(alloc, value);
+    let read = read_listed(alloc, rule, inner, ordered, inside, octets, &mut list);
+    *value = Value::Items(match read {
+        Ok(_) => list.into_items(),
+        Err(_) => list.items,
+    });
+    read
+}
+
+// Reads the encodings of items up to the end into the list, in which none is new yet, as `read_items` does.
+#[cycle(reading)]
+#[inline(always)]
+fn read_listed(
+    alloc: Global,
+    rule: Canonical,
+    inner: &Ty,
+    ordered: bool,
+    inside: &Inside,
+    octets: &[u8],
+    list: &mut Renewed,
+) -> Result<usize, Refusal>
+    requires good { IsGoodType (ty_view inner.now) }
+    requires room { inside.now.room ≤ MAX_ENCODING }
+    requires fresh { new_items list.old ≡ [] }
+    ensures value { IfOk result (λ used. (before : ℕ) × AreItemsRead (rule_of rule) (ty_view inner.now) ordered inside.now.definite inside.now.room octets.now (new_items list.new) before used
+        × EndsHere inside.now.definite (inside.now.room - used) (drop used octets.now)) }
+    ensures refused { IfErr result (RefusesStrictly (HasItems (rule_of rule) (ty_view inner.now) ordered inside.now.definite inside.now.room []) (AreFewer inside.now.definite inside.now.room) octets.now) }
+{
     let mut at = 0;
     let mut before = 0;
     while !ends(inside.definite, inside.room - at, &octets[at..])? {
         let room = inside.room - at;
-        let used = read_item(alloc, rule, inner, room, &octets[at..], &mut list)?;
+        let used = read_item(alloc, rule, inner, room, &octets[at..], list)?;
         if is_out_of_order(ordered, &octets[at..at + used], &octets[before..at]) {
             return Err(Refusal::NotCanonical);
         }
         before = at;
         at += used;
     }
-    *value = Value::Items(list.into_items());
     Ok(at)
 }
 

@@ -1,7 +1,8 @@
-use Rattle.std.proofs.Common.{rules, ◌≡◌, ◌+◌, ◌-◌, ◌≤◌, ◌<◌, inl, inr, ◌++◌, ◌∷◌, ℕ, List, [], Option, Some, None, Err, length, map, take, drop, set, MatchOption, true, false, sym, ap, ◌∙◌, subst, subst₂, arith, refl}
+use Rattle.std.proofs.Common.{rules, ◌≡◌, ◌+◌, ◌-◌, ◌≤◌, ◌<◌, inl, inr, ◌++◌, ◌∷◌, ℕ, List, [], Option, Some, None, Err, length, map, take, drop, set, MatchOption, IfOk, true, false, sym, ap, ◌∙◌, subst, subst₂, arith, refl}
 use Rattle.std.specs.Ordering.{nat_cmp, is_lt}
 use Rattle.std.specs.Cmp.Lexicographic.{slice_cmp}
 use Rattle.std.proofs.lemmas.List.{take_rest, take_more_set, length-set, length-drop}
+use Rattle.octets.specs.declared.tag.Tag.{Tag}
 use Rattle.octets.specs.Rule.{rule_of}
 use Rattle.types.specs.Shape.{Shape, Val}
 use Rattle.types.specs.View.{ty_view, value_view, field_view, components_view, alternative_view, alternatives_view}
@@ -21,7 +22,7 @@ use Rattle.strict.specs.Head.{EndsHere, IsEndKnown, AreFewer}
 use Rattle.strict.specs.Reading.{IsRead, HasPart, RefusesPart}
 use Rattle.strict.specs.Components.{IsFront, HasComponents, AreComponentsRead, HasComponentFirst}
 use Rattle.strict.specs.Bars.{RefusesStrictly}
-use Rattle.strict.specs.Inside.{HasInside, IsInsideRead}
+use Rattle.strict.specs.Inside.{HasInside, IsInsideRead, list_of}
 use Rattle.strict.specs.Items.{AreItemsRead, between}
 use Rattle.strict.proofs.BarsLemmas.{refused_of, refused_for_good, refused_by, refused_behind, refused_named, refused_through}
 use Rattle.strict.proofs.PartLemmas.{read_some, read_in_front}
@@ -36,37 +37,54 @@ use Rattle.strict.proofs.ChosenLemmas.{tag_of_part, choice_of_part, this_at, non
 use Rattle.strict.proofs.AloneLemmas.{alone_inside, ends_alone, explicit_read, part_alone}
 use Rattle.strict.proofs.EndingLemmas.{fewer_behind, begun_short, item_behind, begun_constructed, begun_around, begun_chosen}
 use Rattle.strict.proofs.+reading.Goals as goal
-use Rattle.strict.proofs.+reading.Goals.{components::read_components-in-Some, components::read_components-in-None+in_ok-at-in-None, components::read_component-else-may_be_absent-via-then-may_be_absent+in_ok-stands_next+else-not-branch, components::read_component-else-may_be_absent-via-else-may_be_absent}
+use Rattle.strict.proofs.+reading.Goals.{components::read_components-in-Some, components::read_components-in-None+in_ok-at-in-None, components::read_component-else-may_be_absent-via-then-may_be_absent+in_ok-stands_next+else-not-branch, components::read_component-else-may_be_absent-via-else-may_be_absent, items::read_items-in-Ok, items::read_items-in-Err}
 use Rattle.strict.proofs.SetLemmas.{members_inside, good_members}
 use Rattle.strict.proofs.+reading.Answers.Members as set
 mod Members
 
-pub items::read_items-loop-list-init : goal.items::read_items-loop-list-init
-items::read_items-loop-list-init t c = no_items (rule_of c.args.rule) (ty_view c.args.inner.now) c.args.ordered c.args.inside.now.definite c.args.inside.now.room c.args.octets.now (new_items c.over-list.result) c.over-list.ensures
+pub items::read_items-returns-clause-value : goal.items::read_items-returns-clause-value
+items::read_items-returns-clause-value t c = elim c.match-read.branch [
+  | items::read_items-in-Ok w ↦
+      let rule = c.args.rule in
+      let ordered = c.args.ordered in
+      let type = ty_view c.args.inner.now in
+      let d = c.args.inside.now.definite in
+      let room = c.args.inside.now.room in
+      let octets = c.args.octets.now in
+      let items = w.into_items.result in
+      subst (λ held. IfOk c.read_listed-read.result (λ used. (tag : Tag) → IsInsideRead (rule_of rule) (list_of ordered tag type) d room octets (value.Items held) used)) (sym w.t-22-is)
+      (IfOk-map c.read_listed-read.result _ (λ used. (tag : Tag) → IsInsideRead (rule_of rule) (list_of ordered tag type) d room octets (value.Items items) used)
+      (λ used h tag. list_read rule ordered tag type d room octets items h.0 used (subst (λ l. AreItemsRead (rule_of rule) type ordered d room octets l h.0 used) (sym w.into_items.ensures) h.1) h.2)
+      c.read_listed-read.ensures.value)
+  | items::read_items-in-Err w ↦ search (rules, w.in-Err.is)
+]
 
-pub items::read_items-returns-in_err-ends-clause-refused : goal.items::read_items-returns-in_err-ends-clause-refused
-items::read_items-returns-in_err-ends-clause-refused t c =
+pub items::read_listed-loop-room-init : goal.items::read_listed-loop-room-init
+items::read_listed-loop-room-init t c = no_items (rule_of c.args.rule) (ty_view c.args.inner.now) c.args.ordered c.args.inside.now.definite c.args.inside.now.room c.args.octets.now (new_items c.args.list.now) c.requires.fresh
+
+pub items::read_listed-returns-in_err-ends-clause-refused : goal.items::read_listed-returns-in_err-ends-clause-refused
+items::read_listed-returns-in_err-ends-clause-refused t c =
     let octets = c.args.octets.now in
     let rule = rule_of c.args.rule in
     let type = ty_view c.args.inner.now in
     let d = c.args.inside.now.definite in
     let room = c.args.inside.now.room in
-    let at = c.loop-list.at in
-    let read = c.loop-list.invariant in
-    let last = between octets c.loop-list.before at in
+    let at = c.loop-room.at in
+    let read = c.loop-room.invariant in
+    let last = between octets c.loop-room.before at in
     refused_through c.from_residual.result c.from_residual.ensures.1
     (refused_behind at c.in_err-ends.ensures.refused (λ more h. item_or_end rule type c.args.ordered d (room - at) last (drop at octets ++ more) c.requires.good (read.forth more h)) (λ k. fewer_behind d room at octets read.within read.there k))
 
-pub items::read_items-returns-in_err-used-clause-refused : goal.items::read_items-returns-in_err-used-clause-refused
-items::read_items-returns-in_err-used-clause-refused t c =
+pub items::read_listed-returns-in_err-used-clause-refused : goal.items::read_listed-returns-in_err-used-clause-refused
+items::read_listed-returns-in_err-used-clause-refused t c =
     let octets = c.args.octets.now in
     let rule = rule_of c.args.rule in
     let type = ty_view c.args.inner.now in
     let d = c.args.inside.now.definite in
     let room = c.args.inside.now.room in
-    let at = c.loop-list.at in
-    let read = c.loop-list.invariant in
-    let last = between octets c.loop-list.before at in
+    let at = c.loop-room.at in
+    let read = c.loop-room.invariant in
+    let last = between octets c.loop-room.before at in
     let inner = take (length octets - at) (drop at octets) in
     let off : c.in_ok-ends.field-0 ≡ false = search rules in
     let known : IsEndKnown false d (room - at) inner = subst (λ b. IsEndKnown b d (room - at) inner) off c.in_ok-ends.ensures.value in
@@ -76,61 +94,59 @@ items::read_items-returns-in_err-used-clause-refused t c =
     item_stands rule type c.args.ordered d (room - at) last (drop at octets ++ more) goes (read.forth more h))
     (λ k. item_behind c.args.rule type d room at octets read.within read.there k))
 
-pub items::read_items-returns-then-is_out_of_order-clause-refused : goal.items::read_items-returns-then-is_out_of_order-clause-refused
-items::read_items-returns-then-is_out_of_order-clause-refused t c = refused_for_good (tt, tt) (λ more h.
+pub items::read_listed-returns-then-is_out_of_order-clause-refused : goal.items::read_listed-returns-then-is_out_of_order-clause-refused
+items::read_listed-returns-then-is_out_of_order-clause-refused t c = refused_for_good (tt, tt) (λ more h.
     let octets = c.args.octets.now in
     let rule = rule_of c.args.rule in
     let type = ty_view c.args.inner.now in
     let d = c.args.inside.now.definite in
     let room = c.args.inside.now.room in
-    let at = c.loop-list.at in
-    let before = c.loop-list.before in
+    let at = c.loop-room.at in
+    let before = c.loop-room.before in
     let used = c.in_ok-used.used in
     let item = c.in_ok-used.ensures.value in
     let read = subst (λ x. IsRead rule type (room - at) x item.0 used) (take_rest octets at) item.2 in
     let size : (at + used) - at ≡ used = omega arith in
     let told = subst (λ n. c.is_out_of_order.result ≡ true → (c.args.ordered ≡ true) × (is_lt (slice_cmp nat_cmp (take n (drop at octets)) (between octets before at)) ≡ true)) size c.is_out_of_order.ensures.0 c.if-is_out_of_order.true in
-    none_out_of_order rule type c.args.ordered d room octets more (new_items c.loop-list.list) item.0 before at used c.requires.good c.loop-list.invariant read told.0 told.1 h)
+    none_out_of_order rule type c.args.ordered d room octets more (new_items c.loop-room.list) item.0 before at used c.requires.good c.loop-room.invariant read told.0 told.1 h)
 
-pub items::read_items-loop-list-smaller : goal.items::read_items-loop-list-smaller
-items::read_items-loop-list-smaller t c =
+pub items::read_listed-loop-room-smaller : goal.items::read_listed-loop-room-smaller
+items::read_listed-loop-room-smaller t c =
     let octets = c.args.octets.now in
     let rule = rule_of c.args.rule in
     let type = ty_view c.args.inner.now in
     let room = c.args.inside.now.room in
-    let at = c.loop-list.at in
+    let at = c.loop-room.at in
     let item = c.in_ok-used.ensures.value in
     let read = subst (λ x. IsRead rule type (room - at) x item.0 c.in_ok-used.used) (take_rest octets at) item.2 in
     let some = read_some rule type (room - at) (drop at octets) item.0 c.in_ok-used.used c.requires.good read in
-    omega (arith, some, read.0, length-drop at octets, c.loop-list.invariant.there)
+    omega (arith, some, read.0, length-drop at octets, c.loop-room.invariant.there)
 
-pub items::read_items-loop-list-preserved : goal.items::read_items-loop-list-preserved
-items::read_items-loop-list-preserved t c =
+pub items::read_listed-loop-room-preserved : goal.items::read_listed-loop-room-preserved
+items::read_listed-loop-room-preserved t c =
     let octets = c.args.octets.now in
     let rule = rule_of c.args.rule in
     let type = ty_view c.args.inner.now in
     let d = c.args.inside.now.definite in
     let room = c.args.inside.now.room in
-    let at = c.loop-list.at in
-    let before = c.loop-list.before in
+    let at = c.loop-room.at in
+    let before = c.loop-room.before in
     let used = c.in_ok-used.used in
     let item = c.in_ok-used.ensures.value in
     let read = subst (λ x. IsRead rule type (room - at) x item.0 used) (take_rest octets at) item.2 in
     let size : (at + used) - at ≡ used = omega arith in
     let told = subst (λ n. c.is_out_of_order.result ≡ false → c.args.ordered ≡ true → is_lt (slice_cmp nat_cmp (take n (drop at octets)) (between octets before at)) ≡ false) size c.is_out_of_order.ensures.1 c.if-is_out_of_order.false in
-    let more = item_read rule type c.args.ordered d room octets (new_items c.loop-list.list) item.0 before at used c.requires.good c.loop-list.invariant read told in
+    let more = item_read rule type c.args.ordered d room octets (new_items c.loop-room.list) item.0 before at used c.requires.good c.loop-room.invariant read told in
     subst (λ l. AreItemsRead rule type c.args.ordered d room octets l at (at + used)) (sym item.1) more
 
-pub items::read_items-returns-clause-value : goal.items::read_items-returns-clause-value
-items::read_items-returns-clause-value t c = λ tag.
-    let octets = c.args.octets.now in
+pub items::read_listed-returns-clause-value : goal.items::read_listed-returns-clause-value
+items::read_listed-returns-clause-value t c =
     let d = c.args.inside.now.definite in
     let room = c.args.inside.now.room in
-    let at = c.loop-list.at in
+    let at = c.loop-room.at in
     let on : c.in_ok-ends.field-0 ≡ true = search rules in
-    let ends : EndsHere d (room - at) (drop at octets) = subst₂ (λ b x. IsEndKnown b d (room - at) x) on (take_rest octets at) c.in_ok-ends.ensures.value in
-    list_read c.args.rule c.args.ordered tag (ty_view c.args.inner.now) d room octets c.into_items.result c.loop-list.before at
-    (subst (λ l. AreItemsRead (rule_of c.args.rule) (ty_view c.args.inner.now) c.args.ordered d room octets l c.loop-list.before at) (sym c.into_items.ensures) c.loop-list.invariant) ends
+    let ends : EndsHere d (room - at) (drop at c.args.octets.now) = subst₂ (λ b x. IsEndKnown b d (room - at) x) on (take_rest c.args.octets.now at) c.in_ok-ends.ensures.value in
+    (c.loop-room.before, c.loop-room.invariant, ends)
 
 pub parts::read_chosen-returns-in_err-tag-clause-refused : goal.parts::read_chosen-returns-in_err-tag-clause-refused
 parts::read_chosen-returns-in_err-tag-clause-refused t c =

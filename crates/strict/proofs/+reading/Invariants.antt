@@ -12,11 +12,11 @@ invariant-components::read_components-loop-place l =
     AreComponentsRead (rule_of l.rule) (map field_view (take l.place l.fields)) (map field_view (drop l.place l.fields)) l.inside.definite l.inside.room l.octets (take l.place l.slots.items) l.at
     × (length l.slots.items ≡ length l.fields)
 
-abbrev pub invariant-items::read_items-loop-list : goal.invariant-items::read_items-loop-list
-invariant-items::read_items-loop-list l = AreItemsRead (rule_of l.rule) (ty_view l.inner) l.ordered l.inside.definite l.inside.room l.octets (new_items l.list) l.before l.at
+abbrev pub invariant-items::read_listed-loop-room : goal.invariant-items::read_listed-loop-room
+invariant-items::read_listed-loop-room l = AreItemsRead (rule_of l.rule) (ty_view l.inner) l.ordered l.inside.definite l.inside.room l.octets (new_items l.list) l.before l.at
 
-abbrev pub decreases-items::read_items-loop-list : goal.decreases-items::read_items-loop-list
-decreases-items::read_items-loop-list l = length l.octets - l.at
+abbrev pub decreases-items::read_listed-loop-room : goal.decreases-items::read_listed-loop-room
+decreases-items::read_listed-loop-room l = length l.octets - l.at
 
 abbrev pub invariant-members::read_members-loop-set_components : goal.invariant-members::read_members-loop-set_components
 invariant-members::read_members-loop-set_components l =
