@@ -1,7 +1,7 @@
 -- Lemmas on parts, one after another: each that was read is the one that stands there.
 use Rattle.std.proofs.Common.{◌≡◌, ℕ, ◌+◌, ◌-◌, ◌<◌, ◌≤◌, List, [], ◌∷◌, ◌++◌, Bool, true, false, length, take, drop, refl, sym, ◌∙◌, ap, subst, arith, append_assoc, append-nil, length-append}
 use Rattle.std.specs.List.{AllZip, concat}
-use Rattle.std.proofs.lemmas.List.{length-take-le, length-drop, take-take, take_rest, drop-take, append_cancel_left}
+use Rattle.std.proofs.lemmas.List.{length-take-le, length-drop, take-take, drop-take, append_cancel_left}
 use Rattle.octets.specs.Rule.{Rule}
 use Rattle.types.specs.declared.value.Value.{Value}
 use Rattle.types.specs.Shape.{Shape, Val}
@@ -72,8 +72,8 @@ read_in_front rule type room n octets v used fits there h =
 
 -- and what was read behind some octets of the front, of all that stand behind them
 pub read_behind_in_front : (rule : Rule) (type : Shape) (room n at : ℕ) (octets : List ℕ) (v : Value) (used : ℕ) → at ≤ n → n ≤ room → n ≤ length octets
-    → IsRead rule type (length (take (length (take n octets) - at) (drop at (take n octets)))) (take (length (take n octets) - at) (drop at (take n octets))) v used → IsRead rule type (room - at) (drop at octets) v used
+    → IsRead rule type (length (drop at (take n octets))) (drop at (take n octets)) v used → IsRead rule type (room - at) (drop at octets) v used
 read_behind_in_front rule type room n at octets v used below fits there h =
     let size : n ≡ at + (n - at) = omega (arith, below) in
-    let same = take_rest (take n octets) at ∙ (ap (λ m. drop at (take m octets)) size ∙ drop-take at (n - at) octets) in
+    let same = ap (λ m. drop at (take m octets)) size ∙ drop-take at (n - at) octets in
     read_in_front rule type (room - at) (n - at) (drop at octets) v used (omega (arith, fits, below)) (omega (arith, there, below, length-drop at octets)) (subst (λ o. IsRead rule type (length o) o v used) same h)

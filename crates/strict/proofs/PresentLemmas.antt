@@ -1,5 +1,6 @@
 -- Lemmas on a component that stands, which is not its default.
-use Rattle.std.proofs.Common.{◌≡◌, ℕ, ◌-◌, ◌<◌, ◌≤◌, List, ◌++◌, Option, Some, None, length, take, drop, sym, ◌∙◌, subst}
+use Rattle.std.proofs.Common.{◌≡◌, ℕ, ◌+◌, ◌-◌, ◌<◌, ◌≤◌, min, List, ◌++◌, Option, Some, None, length, take, drop, sym, ap, ◌∙◌, subst, arith}
+use Rattle.std.proofs.lemmas.List.{drop-drop, length-drop, length-take-le, take_rest}
 use Rattle.octets.specs.Rule.{Rule}
 use Rattle.octets.proofs.FrontLemmas.{front_of_more}
 use Rattle.types.specs.declared.value.Value.{Value}
@@ -35,11 +36,31 @@ pub present_some : (rule : Rule) (c : ComponentView) (room : ℕ) (octets : List
 present_some rule c room octets None used good read = absurd read
 present_some rule c room octets (Some v) used good read = (read_some rule c.type room octets v used good read.0, read.0.0)
 
--- what was read behind some octets of the front, was read of all that stand behind them
-pub present_in_front : (rule : Rule) (c : ComponentView) (room n at : ℕ) (octets : List ℕ) (slot : Option Value) (used : ℕ) → at ≤ n → n ≤ room → n ≤ length octets
-    → IsPresentRead rule c (length (take (length (take n octets) - at) (drop at (take n octets)))) (take (length (take n octets) - at) (drop at (take n octets))) slot used → IsPresentRead rule c (room - at) (drop at octets) slot used
-present_in_front rule c room n at octets None used below fits there read = absurd read
-present_in_front rule c room n at octets (Some v) used below fits there read = (read_behind_in_front rule c.type room n at octets v used below fits there read.0, read.1)
+-- what is left of the front of so many octets is no more than they
+pub front_within : (n : ℕ) (octets front : List ℕ) → n ≤ length octets → front ≡ drop (n - length front) (take n octets) → length front ≤ n
+front_within n octets front there is = omega (arith, ap length is, length-drop (n - length front) (take n octets), length-take-le n octets there)
+
+-- what was read behind that is within it
+pub used_in_front : (room n used : ℕ) (octets front : List ℕ) → n ≡ min (length octets) room → front ≡ drop (n - length front) (take n octets) → used ≤ room - (n - length front) → used ≤ length (drop (n - length front) octets) → used ≤ length front
+used_in_front room n used octets front least is within there =
+    let whole : n ≤ length octets = omega (arith, least) in
+    omega (arith, least, within, there, length-drop (n - length front) octets, front_within n octets front whole is)
+
+-- and less is left then
+pub front_size : (n used : ℕ) (octets front : List ℕ) → n ≤ length octets → used ≤ length front → front ≡ drop (n - length front) (take n octets) → (n - length front) + used ≡ n - length (take (length front - used) (drop used front))
+front_size n used octets front there below is = omega (arith, below, front_within n octets front there is, ap length (take_rest front used), length-drop used front)
+
+pub front_behind : (n used : ℕ) (octets front : List ℕ) → n ≤ length octets → used ≤ length front → front ≡ drop (n - length front) (take n octets)
+    → take (length front - used) (drop used front) ≡ drop (n - length (take (length front - used) (drop used front))) (take n octets)
+front_behind n used octets front there below is =
+    take_rest front used ∙ (ap (λ o. drop used o) is ∙ (drop-drop used (n - length front) (take n octets) ∙ ap (λ k. drop k (take n octets)) (front_size n used octets front there below is)))
+
+-- what was read of what is left of the front, was read of all that stand behind what is not
+pub present_in_front : (rule : Rule) (c : ComponentView) (room n : ℕ) (octets front : List ℕ) (slot : Option Value) (used : ℕ) → n ≤ room → n ≤ length octets → front ≡ drop (n - length front) (take n octets)
+    → IsPresentRead rule c (length front) front slot used → IsPresentRead rule c (room - (n - length front)) (drop (n - length front) octets) slot used
+present_in_front rule c room n octets front None used fits there is read = absurd read
+present_in_front rule c room n octets front (Some v) used fits there is read =
+    (read_behind_in_front rule c.type room n (n - length front) octets v used (omega arith) fits there (subst (λ o. IsRead rule c.type (length o) o v used) is read.0), read.1)
 
 -- the same at the front of all of them
 pub present_at_front : (rule : Rule) (c : ComponentView) (room n : ℕ) (octets : List ℕ) (slot : Option Value) (used : ℕ) → n ≤ room → n ≤ length octets → IsPresentRead rule c (length (take n octets)) (take n octets) slot used → IsPresentRead rule c room octets slot used

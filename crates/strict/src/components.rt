@@ -1,6 +1,6 @@
 //! SEQUENCEs: components in order of declaration (X.690 8.9 and 11.5).
 
-ghost use Rattle.std.specs.Prelude.{◌≡◌, ◌<◌, ◌≤◌, None, length, map, IfOk, IfErr, IfSome};
+ghost use Rattle.std.specs.Prelude.{◌≡◌, ◌<◌, ◌≤◌, [], None, length, map, IfOk, IfErr, IfSome};
 ghost use Rattle.std.specs.List.{AllByRecursion};
 ghost use Rattle.octets.specs.declared.canonical.Canonical.{Canonical};
 ghost use Rattle.octets.specs.declared.TheConstants.{MAX_ENCODING};
@@ -13,7 +13,7 @@ ghost use Rattle.encoding_parts.specs.Parts.{IsGoodComponent};
 ghost use Rattle.strict.specs.Bars.{RefusesStrictly};
 ghost use Rattle.strict.specs.Head.{AreFewer};
 ghost use Rattle.strict.specs.Inside.{IsInsideRead};
-ghost use Rattle.strict.specs.Components.{HasPresent, IsPresentRead, HasComponents, IsComponentRead, HasComponentFirst};
+ghost use Rattle.strict.specs.Components.{HasPresent, IsPresentRead, HasComponents, AreComponentsRead, IsComponentRead, HasComponentFirst};
 
 use crate::filling::fill_canonical;
 use crate::fronts::{front_tag, left_over, stands_next, why_not_read};
@@ -48,29 +48,81 @@ pub fn read_components(
     if slots.len() != fields.len() {
         return Err(Refusal::NoMemory);
     }
-    let front = &octets[..octets.len().min(inside.room)];
-    let mut at = 0;
+    let used = read_slots(alloc, rule, fields, inside, octets, slots)?;
+    match front_tag(inside.definite, inside.room - used, &octets[used..])? {
+        Some(tag) => Err(left_over(tag, slots.as_slice())),
+        None => Ok(used),
+    }
+}
+
+// Reads the encodings of components at the front into the slots, of which there is one for each, and returns how many
+// octets they have.
+#[cycle(reading)]
+#[inline(always)]
+fn read_slots(
+    alloc: Global,
+    rule: Canonical,
+    fields: &[Field],
+    inside: &Inside,
+    octets: &[u8],
+    slots: &mut Vec<Option<Value>>,
+) -> Result<usize, Refusal>
+    requires good { AllByRecursion IsGoodComponent (map field_view fields.now) }
+    requires runs { RunsAreDistinct (components_view fields.now) }
+    requires room { inside.now.room ≤ MAX_ENCODING }
+    requires slots { length slots.old.items ≡ length fields.now }
+    ensures value { IfOk result (λ used. AreComponentsRead (rule_of rule) (map field_view fields.now) [] inside.now.definite inside.now.room octets.now slots.new.items used) }
+    ensures refused { IfErr result (RefusesStrictly (HasComponents (rule_of rule) (map field_view fields.now) inside.now.definite inside.now.room) (AreFewer inside.now.definite inside.now.room) octets.now) }
+{
+    read_each(alloc, rule, fields, inside, octets, slots)
+}
+
+// Reads the encodings of components at the front into their slots, and returns how many octets they have. The slots,
+// and what is left of the octets that the components may have, are slices, which stay in registers. A component that
+// one look does not read is read from all octets that are left.
+#[cycle(reading)]
+#[inline(always)]
+fn read_each(
+    alloc: Global,
+    rule: Canonical,
+    fields: &[Field],
+    inside: &Inside,
+    octets: &[u8],
+    slots: &mut [Option<Value>],
+) -> Result<usize, Refusal>
+    requires good { AllByRecursion IsGoodComponent (map field_view fields.now) }
+    requires runs { RunsAreDistinct (components_view fields.now) }
+    requires room { inside.now.room ≤ MAX_ENCODING }
+    requires slots { length slots.old ≡ length fields.now }
+    ensures value { IfOk result (λ used. AreComponentsRead (rule_of rule) (map field_view fields.now) [] inside.now.definite inside.now.room octets.now slots.new used) }
+    ensures refused { IfErr result (RefusesStrictly (HasComponents (rule_of rule) (map field_view fields.now) inside.now.definite inside.now.room) (AreFewer inside.now.definite inside.now.room) octets.now) }
+{
+    let whole = octets.len().min(inside.room);
+    let mut front = &octets[..whole];
     for (place, field) in fields.iter().enumerate() {
         let slot = &mut slots[place];
-        at += match read_shortly_present(alloc, field, &front[at..], slot) {
+        let used = match read_shortly_present(alloc, field, front, slot) {
             Some(used) => used,
-            None => read_component(
-                alloc,
-                rule,
-                field,
-                fields,
-                place,
-                inside.definite,
-                inside.room - at,
-                &octets[at..],
-                slot,
-            )?,
+            None => {
+                let at = whole - front.len();
+                let room = inside.room - at;
+                let rest = &octets[at..];
+                read_component(
+                    alloc,
+                    rule,
+                    field,
+                    fields,
+                    place,
+                    inside.definite,
+                    room,
+                    rest,
+                    slot,
+                )?
+            }
         };
+        front = &front[used..];
     }
-    match front_tag(inside.definite, inside.room - at, &octets[at..])? {
-        Some(tag) => Err(left_over(tag, slots.as_slice())),
-        None => Ok(at),
-    }
+    Ok(whole - front.len())
 }
 
 // Gives the value a slot for each component, unless it has as many or memory runs out. What it has stays where it is.

@@ -1,7 +1,7 @@
 use Rattle.std.proofs.Common.{rules, ◌≡◌, ◌+◌, ◌-◌, ◌≤◌, ◌<◌, inl, inr, ◌++◌, ◌∷◌, ℕ, List, [], Option, Some, None, Err, length, map, take, drop, set, MatchOption, IfOk, true, false, sym, ap, ◌∙◌, subst, subst₂, arith, refl}
 use Rattle.std.specs.Ordering.{nat_cmp, is_lt}
 use Rattle.std.specs.Cmp.Lexicographic.{slice_cmp}
-use Rattle.std.proofs.lemmas.List.{take_rest, take_more_set, length-set, length-drop}
+use Rattle.std.proofs.lemmas.List.{take_rest, take_more_set, length-set, length-drop, length-take-le}
 use Rattle.octets.specs.declared.tag.Tag.{Tag}
 use Rattle.octets.specs.Rule.{rule_of}
 use Rattle.types.specs.Shape.{Shape, Val}
@@ -28,7 +28,7 @@ use Rattle.strict.proofs.BarsLemmas.{refused_of, refused_for_good, refused_by, r
 use Rattle.strict.proofs.PartLemmas.{read_some, read_in_front}
 use Rattle.strict.proofs.FieldLemmas.{field_type, field_requirement, run_at, first_of, whole_of}
 use Rattle.strict.proofs.FrontLemmas.{IsStandingKnown, front_known}
-use Rattle.strict.proofs.PresentLemmas.{part_of_present, present_in_front, present_at_front, none_spelt_out}
+use Rattle.strict.proofs.PresentLemmas.{part_of_present, present_some, front_within, used_in_front, front_size, front_behind, present_in_front, present_at_front, none_spelt_out}
 use Rattle.strict.proofs.ComponentLemmas.{ends_or_begins}
 use Rattle.strict.proofs.SequenceLemmas.{absent_read, stands_read, present_first, none_read, component_more, good_components, components_inside, all_read, ends_behind_all, sequence_read}
 use Rattle.strict.proofs.ItemLemmas.{item_or_end, item_stands, no_items, item_read, none_out_of_order, list_read, items_inside}
@@ -37,7 +37,7 @@ use Rattle.strict.proofs.ChosenLemmas.{tag_of_part, choice_of_part, this_at, non
 use Rattle.strict.proofs.AloneLemmas.{alone_inside, ends_alone, explicit_read, part_alone}
 use Rattle.strict.proofs.EndingLemmas.{fewer_behind, begun_short, item_behind, begun_constructed, begun_around, begun_chosen}
 use Rattle.strict.proofs.+reading.Goals as goal
-use Rattle.strict.proofs.+reading.Goals.{components::read_components-in-Some, components::read_components-in-None+in_ok-at-in-None, components::read_component-else-may_be_absent-via-then-may_be_absent+in_ok-stands_next+else-not-branch, components::read_component-else-may_be_absent-via-else-may_be_absent, items::read_items-in-Ok, items::read_items-in-Err}
+use Rattle.strict.proofs.+reading.Goals.{components::read_each-in-Some, components::read_each-in-None+in_ok-used-in-None, components::read_component-else-may_be_absent-via-then-may_be_absent+in_ok-stands_next+else-not-branch, components::read_component-else-may_be_absent-via-else-may_be_absent, items::read_items-in-Ok, items::read_items-in-Err}
 use Rattle.strict.proofs.SetLemmas.{members_inside, good_members}
 use Rattle.strict.proofs.+reading.Answers.Members as set
 mod Members
@@ -237,12 +237,22 @@ parts::read_alone-returns-in-Some-clause-refused t c = refused_for_good (tt, tt)
     let front : IsFront (Some c.in-Some.field-0) d (room - used) inner = subst (λ f. IsFront f d (room - used) inner) c.in-Some.is c.in_ok-front_tag.ensures.value in
     front.1 more (subst (λ x. EndsHere d (room - used) (x ++ more)) (sym (take_rest octets used)) (ends_alone rule type d room octets more c.read_one.new.value used c.requires.good c.in_ok-used.ensures.value h)))
 
-pub components::read_components-loop-place-init : goal.components::read_components-loop-place-init
-components::read_components-loop-place-init t c =
-    (none_read (rule_of c.args.rule) (map field_view c.args.fields.now) c.args.inside.now.definite c.args.inside.now.room c.args.octets.now [] refl, search rules)
+pub components::read_each-loop-place-init : goal.components::read_each-loop-place-init
+components::read_each-loop-place-init t c =
+    let octets = c.args.octets.now in
+    let rule = rule_of c.args.rule in
+    let fields = map field_view c.args.fields.now in
+    let d = c.args.inside.now.definite in
+    let room = c.args.inside.now.room in
+    let n = c.min-whole.result in
+    let start : 0 ≡ n - length (take n octets) = omega (arith, length-take-le n octets (omega (arith, c.min-whole.ensures))) in
+    (subst (AreComponentsRead rule [] fields d room octets []) start (none_read rule fields d room octets [] refl), c.requires.slots, ap (λ k. drop k (take n octets)) start)
 
-pub components::read_components-read_component-requires : goal.components::read_components-read_component-requires
-components::read_components-read_component-requires t c =
+pub components::read_each-overflow_sub-at : goal.components::read_each-overflow_sub-at
+components::read_each-overflow_sub-at t c = front_within c.min-whole.result c.args.octets.now c.loop-place.front.now (omega (arith, c.min-whole.ensures)) c.loop-place.invariant.2
+
+pub components::read_each-read_component-requires : goal.components::read_each-read_component-requires
+components::read_each-read_component-requires t c =
     let fields = c.args.fields.now in
     let i = c.loop-place.place in
     let f = c.index-fields-place.result in
@@ -251,8 +261,8 @@ components::read_components-read_component-requires t c =
     let run = run_at fields i f bound is c.requires.good c.requires.runs in
     (search (rules, node.the_lemmas, field.the_lemmas, bound, is), (run.good, (omega (arith, c.requires.room), bound)))
 
-pub components::read_components-returns-in_err-at-in-None-clause-refused : goal.components::read_components-returns-in_err-at-in-None-clause-refused
-components::read_components-returns-in_err-at-in-None-clause-refused t c =
+pub components::read_each-returns-in_err-used-in-None-clause-refused : goal.components::read_each-returns-in_err-used-in-None-clause-refused
+components::read_each-returns-in_err-used-in-None-clause-refused t c =
     let octets = c.args.octets.now in
     let rule = rule_of c.args.rule in
     let fields = c.args.fields.now in
@@ -263,17 +273,43 @@ components::read_components-returns-in_err-at-in-None-clause-refused t c =
     let bound : i < length fields = c.loop-place-test.true in
     let is = c.index-fields-place.is in
     let run = run_at fields i f bound is c.requires.good c.requires.runs in
-    let at = c.loop-place.at in
+    let at = c.min-whole.result - length c.loop-place.front.now in
     let others = map field_view (drop (i + 1) fields) in
-    let so_far = subst (λ l. AreComponentsRead rule (map field_view (take i fields)) l d room octets (take i c.loop-place.slots.items) at) run.here c.loop-place.invariant.0 in
     let first = c.loop-place.invariant.0 in
+    let so_far = subst (λ l. AreComponentsRead rule (map field_view (take i fields)) l d room octets (take i c.loop-place.slots) at) run.here first in
     refused_through c.from_residual.result c.from_residual.ensures.1
-    (refused_behind at c.in_err-at-in-None.ensures.refused (λ more h. (others, run.runs, run.goods, so_far.forth more (subst (λ l. HasComponents rule l d room (octets ++ more)) (whole_of fields i f bound is) h)))
+    (refused_behind at c.in_err-used-in-None.ensures.refused (λ more h. (others, run.runs, run.goods, so_far.forth more (subst (λ l. HasComponents rule l d room (octets ++ more)) (whole_of fields i f bound is) h)))
     (λ k. fewer_behind d room at octets first.within first.there k))
 
+-- the octets of the component that was read are within what is left of the front
+used_at : (t : ℕ) (c : goal.components::read_each-After-row_known-1 t) → c.match-read_shortly_present.used ≤ length c.loop-place.front.now
+used_at t c =
+    let octets = c.args.octets.now in
+    let rule = rule_of c.args.rule in
+    let fields = c.args.fields.now in
+    let f = c.index-fields-place.result in
+    let run = run_at fields c.loop-place.place f c.loop-place-test.true c.index-fields-place.is c.requires.good c.requires.runs in
+    let n = c.min-whole.result in
+    let front = c.loop-place.front.now in
+    elim c.match-read_shortly_present.branch [
+      | components::read_each-in-Some w ↦
+          subst (λ k. k ≤ length front) (sym w.used-is) (present_some rule (field_view f) (length front) front c.read_shortly_present.new.slot w.in-Some.used run.good.type (w.in-Some.ensures c.args.rule)).1
+      | components::read_each-in-None+in_ok-used-in-None w ↦
+          let used = w.in_ok-used-in-None.used in
+          let one = w.in_ok-used-in-None.ensures.value (map field_view (drop (c.loop-place.place + 1) fields)) run.runs run.goods in
+          let there = subst (λ x. used ≤ length x) (take_rest octets (n - length front)) one.there in
+          subst (λ k. k ≤ length front) (sym w.used-is) (used_in_front c.args.inside.now.room n used octets front c.min-whole.ensures c.loop-place.invariant.2 one.within there)
+    ]
+
+pub components::read_each-slice_bounds-front-count : goal.components::read_each-slice_bounds-front-count
+components::read_each-slice_bounds-front-count t c = used_at t c
+
+pub components::read_each-slice_bounds-front-start : goal.components::read_each-slice_bounds-front-start
+components::read_each-slice_bounds-front-start t c = used_at t c
+
 -- the component that was read, at once or not
-component_at : (t : ℕ) (c : goal.components::read_components-After-row_known-1 t) → (slot : Option Value) × (c.match-read_shortly_present.slots.items ≡ set c.loop-place.slots.items c.loop-place.place slot)
-    × AreComponentsRead (rule_of c.args.rule) (field_view c.index-fields-place.result ∷ []) (map field_view (drop (c.loop-place.place + 1) c.args.fields.now)) c.args.inside.now.definite (c.args.inside.now.room - c.loop-place.at) (drop c.loop-place.at c.args.octets.now) (slot ∷ []) c.match-read_shortly_present.at
+component_at : (t : ℕ) (c : goal.components::read_each-After-front-1 t) → (slot : Option Value) × (c.match-read_shortly_present.slots ≡ set c.loop-place.slots c.loop-place.place slot)
+    × AreComponentsRead (rule_of c.args.rule) (field_view c.index-fields-place.result ∷ []) (map field_view (drop (c.loop-place.place + 1) c.args.fields.now)) c.args.inside.now.definite (c.args.inside.now.room - (c.min-whole.result - length c.loop-place.front.now)) (drop (c.min-whole.result - length c.loop-place.front.now) c.args.octets.now) (slot ∷ []) c.match-read_shortly_present.used
 component_at t c =
     let octets = c.args.octets.now in
     let rule = rule_of c.args.rule in
@@ -284,28 +320,24 @@ component_at t c =
     let f = c.index-fields-place.result in
     let view = field_view f in
     let run = run_at fields i f c.loop-place-test.true c.index-fields-place.is c.requires.good c.requires.runs in
-    let at = c.loop-place.at in
-    let so_far = c.loop-place.invariant.0 in
-    let n = c.min.result in
+    let n = c.min-whole.result in
+    let front = c.loop-place.front.now in
+    let at = n - length front in
     let others = map field_view (drop (i + 1) fields) in
     elim c.match-read_shortly_present.branch [
-      | components::read_components-in-Some w ↦
+      | components::read_each-in-Some w ↦
           let slot = c.read_shortly_present.new.slot in
           let used = w.in-Some.used in
-          let present = w.in-Some.ensures c.args.rule in
-          let read = present_in_front rule view room n at octets slot used (omega (arith, c.min.ensures, so_far.there, so_far.within)) (omega (arith, c.min.ensures)) (omega (arith, c.min.ensures)) present in
-          (slot, ap (λ v. v.items) w.slots-is, subst (AreComponentsRead rule (view ∷ []) others d (room - at) (drop at octets) (slot ∷ [])) (sym w.at-is) (stands_read c.args.rule view others d (room - at) (drop at octets) slot used run.good.type run.runs run.goods read))
-      | components::read_components-in-None+in_ok-at-in-None w ↦
+          let read = present_in_front rule view room n octets front slot used (omega (arith, c.min-whole.ensures)) (omega (arith, c.min-whole.ensures)) c.loop-place.invariant.2 (w.in-Some.ensures c.args.rule) in
+          (slot, w.slots-is, subst (AreComponentsRead rule (view ∷ []) others d (room - at) (drop at octets) (slot ∷ [])) (sym w.used-is) (stands_read c.args.rule view others d (room - at) (drop at octets) slot used run.good.type run.runs run.goods read))
+      | components::read_each-in-None+in_ok-used-in-None w ↦
           let slot = w.read_component.new.slot in
-          let read = subst (λ x. AreComponentsRead rule (view ∷ []) others d (room - at) x (slot ∷ []) w.in_ok-at-in-None.field-0) (take_rest octets at) (w.in_ok-at-in-None.ensures.value others run.runs run.goods) in
-          (slot, ap (λ v. v.items) w.slots-is, subst (AreComponentsRead rule (view ∷ []) others d (room - at) (drop at octets) (slot ∷ [])) (sym w.at-is) read)
+          let read = subst (λ x. AreComponentsRead rule (view ∷ []) others d (room - at) x (slot ∷ []) w.in_ok-used-in-None.used) (take_rest octets at) (w.in_ok-used-in-None.ensures.value others run.runs run.goods) in
+          (slot, w.slots-is, subst (AreComponentsRead rule (view ∷ []) others d (room - at) (drop at octets) (slot ∷ [])) (sym w.used-is) read)
     ]
 
-pub components::read_components-overflow_add-at : goal.components::read_components-overflow_add-at
-components::read_components-overflow_add-at t c = let one = (component_at t c).2 in omega (arith, one.within, c.requires.room, c.loop-place.invariant.0.within)
-
-pub components::read_components-loop-place-preserved : goal.components::read_components-loop-place-preserved
-components::read_components-loop-place-preserved t c =
+pub components::read_each-loop-place-preserved : goal.components::read_each-loop-place-preserved
+components::read_each-loop-place-preserved t c =
     let octets = c.args.octets.now in
     let rule = rule_of c.args.rule in
     let fields = c.args.fields.now in
@@ -316,54 +348,60 @@ components::read_components-loop-place-preserved t c =
     let bound : i < length fields = c.loop-place-test.true in
     let is = c.index-fields-place.is in
     let run = run_at fields i f bound is c.requires.good c.requires.runs in
-    let at = c.loop-place.at in
+    let n = c.min-whole.result in
+    let there : n ≤ length octets = omega (arith, c.min-whole.ensures) in
+    let front = c.loop-place.front.now in
+    let at = n - length front in
     let others = map field_view (drop (i + 1) fields) in
-    let slots = c.loop-place.slots.items in
+    let slots = c.loop-place.slots in
     let so_far = subst (λ l. AreComponentsRead rule (map field_view (take i fields)) l d room octets (take i slots) at) run.here c.loop-place.invariant.0 in
-    let used = c.match-read_shortly_present.at in
+    let used = c.match-read_shortly_present.used in
     let one = component_at t c in
     let slot = one.0 in
-    let more = component_more rule (map field_view (take i fields)) (field_view f) others d room octets (take i slots) slot at used so_far one.2 in
+    let below = used_in_front room n used octets front c.min-whole.ensures c.loop-place.invariant.2 one.2.within one.2.there in
+    let size = front_size n used octets front there below c.loop-place.invariant.2 in
+    let more = subst (AreComponentsRead rule (map field_view (take i fields) ++ (field_view f ∷ [])) others d room octets (take i slots ++ (slot ∷ []))) size (component_more rule (map field_view (take i fields)) (field_view f) others d room octets (take i slots) slot at used so_far one.2) in
     let filled : take (i + 1) (set slots i slot) ≡ take i slots ++ (slot ∷ []) = take_more_set slots i slot (omega (arith, bound, c.loop-place.invariant.1)) in (
-      subst₂ (λ first l. AreComponentsRead rule first others d room octets l (at + used)) (sym (first_of fields i f bound is)) (sym (ap (take (i + 1)) one.1 ∙ filled)) more,
+      subst₂ (λ first l. AreComponentsRead rule first others d room octets l (n - length (take (length front - used) (drop used front)))) (sym (first_of fields i f bound is)) (sym (ap (take (i + 1)) one.1 ∙ filled)) more,
       ap length one.1 ∙ (length-set slots i slot ∙ c.loop-place.invariant.1),
+      front_behind n used octets front there below c.loop-place.invariant.2,
     )
+
+pub components::read_each-overflow_sub-result : goal.components::read_each-overflow_sub-result
+components::read_each-overflow_sub-result t c = front_within c.min-whole.result c.args.octets.now c.loop-place.front.now (omega (arith, c.min-whole.ensures)) c.loop-place.invariant.2
+
+pub components::read_each-returns-clause-value : goal.components::read_each-returns-clause-value
+components::read_each-returns-clause-value t c =
+    all_read (rule_of c.args.rule) c.args.fields.now c.loop-place.place c.args.inside.now.definite c.args.inside.now.room c.args.octets.now c.loop-place.slots (c.min-whole.result - length c.loop-place.front.now) c.loop-place-test.false c.loop-place.invariant.1 c.loop-place.invariant.0
 
 pub components::read_components-returns-in_err-tag-clause-refused : goal.components::read_components-returns-in_err-tag-clause-refused
 components::read_components-returns-in_err-tag-clause-refused t c =
     let octets = c.args.octets.now in
-    let rule = rule_of c.args.rule in
-    let fields = c.args.fields.now in
     let d = c.args.inside.now.definite in
     let room = c.args.inside.now.room in
-    let at = c.loop-place.at in
-    let read = all_read rule fields c.loop-place.place d room octets c.loop-place.slots.items at c.loop-place-test.false c.loop-place.invariant.1 c.loop-place.invariant.0 in
-    let first = c.loop-place.invariant.0 in
+    let at = c.in_ok-used.used in
+    let read = c.in_ok-used.ensures.value in
     refused_through c.from_residual-in_err-tag.result c.from_residual-in_err-tag.ensures.1
-    (refused_behind at c.in_err-tag.ensures.refused (λ more h. inl (ends_behind_all rule (map field_view fields) d room octets more c.loop-place.slots.items at read h)) (λ k. fewer_behind d room at octets first.within first.there k))
+    (refused_behind at c.in_err-tag.ensures.refused (λ more h. inl (ends_behind_all (rule_of c.args.rule) (map field_view c.args.fields.now) d room octets more c.read_slots.new.slots.items at read h)) (λ k. fewer_behind d room at octets read.within read.there k))
 
-pub components::read_components-returns-in-Some-2-clause-refused : goal.components::read_components-returns-in-Some-2-clause-refused
-components::read_components-returns-in-Some-2-clause-refused t c = refused_for_good (c.left_over.ensures.never, c.left_over.ensures.numbers) (λ more h.
+pub components::read_components-returns-in-Some-clause-refused : goal.components::read_components-returns-in-Some-clause-refused
+components::read_components-returns-in-Some-clause-refused t c = refused_for_good (c.left_over.ensures.never, c.left_over.ensures.numbers) (λ more h.
     let octets = c.args.octets.now in
-    let rule = rule_of c.args.rule in
-    let fields = c.args.fields.now in
     let d = c.args.inside.now.definite in
     let room = c.args.inside.now.room in
-    let at = c.loop-place.at in
-    let read = all_read rule fields c.loop-place.place d room octets c.loop-place.slots.items at c.loop-place-test.false c.loop-place.invariant.1 c.loop-place.invariant.0 in
-    let front : IsFront (Some c.in-Some-2.tag) d (room - at) (drop at octets) = subst₂ (λ f x. IsFront f d (room - at) x) c.in-Some-2.is (take_rest octets at) c.in_ok-tag.ensures.value in
-    front.1 more (ends_behind_all rule (map field_view fields) d room octets more c.loop-place.slots.items at read h))
+    let at = c.in_ok-used.used in
+    let front : IsFront (Some c.in-Some.tag) d (room - at) (drop at octets) = subst₂ (λ f x. IsFront f d (room - at) x) c.in-Some.is (take_rest octets at) c.in_ok-tag.ensures.value in
+    front.1 more (ends_behind_all (rule_of c.args.rule) (map field_view c.args.fields.now) d room octets more c.read_slots.new.slots.items at c.in_ok-used.ensures.value h))
 
-pub components::read_components-returns-in-None-2-clause-value : goal.components::read_components-returns-in-None-2-clause-value
+pub components::read_components-returns-in-None-clause-value : goal.components::read_components-returns-in-None-clause-value
 unfolding value.out-Value denote.Hole.Carrier.out
-components::read_components-returns-in-None-2-clause-value t c =
+components::read_components-returns-in-None-clause-value t c =
     let octets = c.args.octets.now in
     let d = c.args.inside.now.definite in
     let room = c.args.inside.now.room in
-    let at = c.loop-place.at in
-    let ends : EndsHere d (room - at) (drop at octets) = subst₂ (λ f x. IsFront f d (room - at) x) c.in-None-2.is (take_rest octets at) c.in_ok-tag.ensures.value in
-    let read = all_read (rule_of c.args.rule) c.args.fields.now c.loop-place.place d room octets c.loop-place.slots.items at c.loop-place-test.false c.loop-place.invariant.1 c.loop-place.invariant.0 in
-    λ tag. sequence_read (rule_of c.args.rule) tag c.args.fields.now d room octets c.loop-place.slots _ at read ends (search (rules, value.the_lemmas))
+    let at = c.in_ok-used.used in
+    let ends : EndsHere d (room - at) (drop at octets) = subst₂ (λ f x. IsFront f d (room - at) x) c.in-None.is (take_rest octets at) c.in_ok-tag.ensures.value in
+    λ tag. sequence_read (rule_of c.args.rule) tag c.args.fields.now d room octets c.read_slots.new.slots _ at c.in_ok-used.ensures.value ends (search (rules, value.the_lemmas))
 
 pub components::read_component-returns-in_err-stands_next-clause-refused : goal.components::read_component-returns-in_err-stands_next-clause-refused
 components::read_component-returns-in_err-stands_next-clause-refused t c =

@@ -7,10 +7,11 @@ use Rattle.strict.specs.Components.{AreComponentsRead}
 use Rattle.strict.specs.Members.{AreMembersRead}
 use Rattle.strict.proofs.+reading.Given as goal
 
-abbrev pub invariant-components::read_components-loop-place : goal.invariant-components::read_components-loop-place
-invariant-components::read_components-loop-place l =
-    AreComponentsRead (rule_of l.rule) (map field_view (take l.place l.fields)) (map field_view (drop l.place l.fields)) l.inside.definite l.inside.room l.octets (take l.place l.slots.items) l.at
-    × (length l.slots.items ≡ length l.fields)
+abbrev pub invariant-components::read_each-loop-place : goal.invariant-components::read_each-loop-place
+invariant-components::read_each-loop-place l =
+    AreComponentsRead (rule_of l.rule) (map field_view (take l.place l.fields)) (map field_view (drop l.place l.fields)) l.inside.definite l.inside.room l.octets (take l.place l.slots) (l.whole - length l.front)
+    × (length l.slots ≡ length l.fields)
+    × (l.front ≡ drop (l.whole - length l.front) (take l.whole l.octets))
 
 abbrev pub invariant-items::read_listed-loop-room : goal.invariant-items::read_listed-loop-room
 invariant-items::read_listed-loop-room l = AreItemsRead (rule_of l.rule) (ty_view l.inner) l.ordered l.inside.definite l.inside.room l.octets (new_items l.list) l.before l.at
