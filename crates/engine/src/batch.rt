@@ -76,8 +76,8 @@ impl Batch {
         }
     }
 
-    // Adds the values at the front whose encodings are what is written for them, up to the first of another encoding, and
-    // returns how many octets they have.
+    // Adds the values at the front whose encodings are what is written for them, up to the first that has another one or
+    // may be cut, and returns how many octets they have.
     #[inline(never)]
     fn copy_written<P: Put>(&mut self, writer: &P, octets: &[u8], slot: &mut Option<Value>) -> usize
         ensures copies { self.new.copies ≡ self.old.copies }
@@ -91,7 +91,8 @@ impl Batch {
         octets.len() - rest.len()
     }
 
-    // Adds the value at the front, where its encoding is what is written for it, and returns how many octets it has.
+    // Adds the value at the front, where its encoding is whole and what is written for it, and returns how many octets it
+    // has.
     #[inline(always)]
     fn copy_first<P: Put>(
         &mut self,
@@ -119,8 +120,7 @@ impl Batch {
         }
     }
 
-    // Whether the octets may have a whole value as long as the last one. What is cut would be read twice, and the room of
-    // its lists lost.
+    // Whether the octets may have a whole value as long as the last one: what is cut would be read in vain.
     #[inline(always)]
     fn may_be_whole(&self, octets: &[u8]) -> bool {
         match self.lengths.last() {
