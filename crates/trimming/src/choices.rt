@@ -170,8 +170,8 @@ fn first_of(is_automatic: bool, section: Section, root: usize) -> Option<usize> 
     }
 }
 
-// Whether the type of an alternative is written with a tag (X.680 29.2).
-fn has_tag(alternatives: &[Written]) -> bool {
+/// Whether the type of an alternative is written with a tag (X.680 29.2).
+pub fn has_tag(alternatives: &[Written]) -> bool {
     alternatives
         .iter()
         .any(|alternative| is_tagged(&alternative.body))

@@ -5,6 +5,7 @@ mod bits;
 mod choices;
 mod defaults;
 mod drafting;
+mod giving;
 mod including;
 mod items;
 mod leaving;

@@ -22,11 +22,11 @@ impl<'a> Trimmer<'a> {
         let Some(given) = self.request.given.get(at) else {
             return self.refuse(alloc, place, cause);
         };
-        if let Some(simple) = self.simple_given(&given.ty) {
+        if let Some(simple) = self.simple_given(self.work.module, &given.ty) {
             return Ok(Draft::whole(Expr::Simple(simple)));
         }
         let name = given.ty.name.as_str();
-        let Some(spot) = self.spot_of(at, &given.ty) else {
+        let Some(spot) = self.spot_of(self.work.module, at, &given.ty) else {
             return self.refuse(alloc, place, Cause::NoSubstitute(name));
         };
         match self.reach(alloc, spot)? {
@@ -66,10 +66,10 @@ impl<'a> Trimmer<'a> {
         let Some(given) = self.request.given.get(place) else {
             return Ok(Root::Field);
         };
-        if self.simple_given(&given.ty).is_some() {
+        if self.simple_given(self.work.module, &given.ty).is_some() {
             return Ok(Root::Other);
         }
-        let Some(spot) = self.spot_of(place, &given.ty) else {
+        let Some(spot) = self.spot_of(self.work.module, place, &given.ty) else {
             return Ok(Root::Field);
         };
         match self.reach(alloc, spot)? {
@@ -78,14 +78,14 @@ impl<'a> Trimmer<'a> {
         }
     }
 
-    // The type that reserved words name which the request gives. None: it gives another, or the module assigns
-    // another one to the word.
-    fn simple_given(&self, ty: &'a Substitute) -> Option<Simple> {
+    /// The type that reserved words name which the request gives to a place in this module. None: it gives another, or
+    /// the module assigns another one to the word.
+    pub fn simple_given(&self, module: usize, ty: &'a Substitute) -> Option<Simple> {
         if ty.module.is_some() {
             return None;
         }
         let words = ty.name.as_str();
-        match self.sources.assigned_for_word(self.work.module, words) {
+        match self.sources.assigned_for_word(module, words) {
             Ok(None) => simple_of_words(words),
             Ok(Some(_)) | Err(_) => None,
         }
@@ -105,12 +105,12 @@ impl<'a> Trimmer<'a> {
     // What the request gives to the place that is being made: how many stand before it.
     fn given_here(&self, alloc: Global) -> Result<Option<usize>, AllocError> {
         let path = self.path(alloc)?;
-        Ok(self.given_at(path.as_str()))
+        Ok(self.given_at(self.work.module, path.as_str()))
     }
 
-    // What the request gives to the place of this path: how many stand before it.
-    fn given_at(&self, path: &str) -> Option<usize> {
-        let module = self.sources.module_at(self.work.module)?;
+    /// What the request gives to the place of this path in this module: how many stand before it.
+    pub fn given_at(&self, module: usize, path: &str) -> Option<usize> {
+        let module = self.sources.module_at(module)?;
         let module = module.name.name.as_str();
         self.request.given.iter().position(|given| {
             let is_there = match &given.module {
@@ -121,14 +121,14 @@ impl<'a> Trimmer<'a> {
         })
     }
 
-    // Where the type is assigned that the request gives behind so many: in the module that is given, or in that
-    // of the place, or else in the only one that assigns the name.
-    fn spot_of(&self, at: usize, ty: &'a Substitute) -> Option<Spot> {
+    /// Where the type is assigned that the request gives behind so many, to a place in this module: in the module
+    /// that is given, or in that of the place, or else in the only one that assigns the name.
+    pub fn spot_of(&self, from: usize, at: usize, ty: &'a Substitute) -> Option<Spot> {
         let name = ty.name.as_str();
         if let Some(module) = &ty.module {
             return self.sources.find_in(module.as_str(), name).ok();
         }
-        if let Ok(spot) = self.sources.find_from(self.work.module, name) {
+        if let Ok(spot) = self.sources.find_from(from, name) {
             return Some(spot);
         }
         match self.alone.get(at) {

@@ -1,7 +1,10 @@
 //! Parts of a list that share a tag, so that a value of one could be taken for the other.
 
+use crate::giving::Front;
 use crate::trimmer::Trimmer;
-use published::{Alternative, Alternatives, Component, Components, Form, Group, Presence, Type};
+use published::{
+    Alternative, Alternatives, Body, Component, Components, Form, Group, Presence, Type,
+};
 use std::alloc::{AllocError, Global};
 use std::collections::BTreeMap;
 use trim_rules::{MAX_PARTS, Section};
@@ -19,6 +22,8 @@ struct Part<'a> {
     section: Section,
     /// The module that it is written in.
     module: usize,
+    /// The name of the type that it is written in, where COMPONENTS OF stands for it.
+    owner: Option<&'a str>,
     /// The component.
     written: &'a Component,
 }
@@ -116,11 +121,15 @@ impl<'a> Trimmer<'a> {
         sharing: &mut Sharing<'a>,
     ) -> Result<(), AllocError> {
         let written = part.written;
-        if written.name.is_none() {
+        let Some(word) = &written.name else {
             self.tags_left = self.tags_left.saturating_sub(1);
             return self.have_included_wait(part, sharing);
-        }
-        let tags = self.tags_at(alloc, part.module, &written.body)?;
+        };
+        let base = Base {
+            module: part.module,
+            ty: &written.body,
+        };
+        let tags = self.tags_at(alloc, base, part.owner, word.name.as_str())?;
         sharing.enter(part.place, &tags)?;
         if part.section != Section::Root {
             sharing.has_unknown |= !tags.are_all;
@@ -144,15 +153,23 @@ impl<'a> Trimmer<'a> {
         let Ok(spot) = self.sources.find(part.module, reference) else {
             return Ok(());
         };
-        match self.sources.type_at(spot) {
-            Some(
+        let Some(assignment) = self.sources.assignment_at(spot) else {
+            return Ok(());
+        };
+        match &assignment.body {
+            Body::Type(
                 Type {
                     form: Form::List(_, components),
                     ..
                 },
             ) => {
-                sharing.have_included(part, spot.module, &components.tail)?;
-                sharing.have_included(part, spot.module, &components.root)
+                let part = Part {
+                    module: spot.module,
+                    owner: Some(assignment.name.name.as_str()),
+                    ..part
+                };
+                sharing.have_included(part, &components.tail)?;
+                sharing.have_included(part, &components.root)
             }
             _ => Ok(()),
         }
@@ -167,22 +184,38 @@ impl<'a> Trimmer<'a> {
         sharing: &mut Sharing<'a>,
     ) -> Result<(), AllocError> {
         for (at, written) in alternatives.iter().enumerate() {
-            let tags = self.tags_at(alloc, self.work.module, &written.body)?;
+            let base = Base {
+                module: self.work.module,
+                ty: &written.body,
+            };
+            let tags = self.tags_at(alloc, base, None, written.name.name.as_str())?;
             sharing.enter(before.saturating_add(at), &tags)?;
         }
         Ok(())
     }
 
-    // The tags of a type that is written in this module.
+    // The tags of the part of this name, those of types that the request gives among them. It is written in its
+    // owner, or else in what is being made.
     fn tags_at(
         &mut self,
         alloc: Global,
-        module: usize,
-        ty: &'a Type,
+        base: Base<'a>,
+        owner: Option<&'a str>,
+        name: &'a str,
     ) -> Result<Tags<'a>, AllocError> {
-        let base = Base { module, ty };
-        self.sources
-            .tags_of(alloc, base, &mut self.tags_left, &mut self.budget)
+        let mut tags = self
+            .sources
+            .tags_of(alloc, base, &mut self.tags_left, &mut self.budget)?;
+        if !tags.are_all && !self.request.given.is_empty() {
+            let mut path = Vec::new(alloc);
+            match owner {
+                Some(owner) => path.push(owner)?,
+                None => path.extend_from_slice(self.work.path.as_slice())?,
+            }
+            path.push(name)?;
+            self.add_given_tags(alloc, Front { base, path }, &mut tags)?;
+        }
+        Ok(tags)
     }
 }
 
@@ -212,29 +245,24 @@ impl<'a> Sharing<'a> {
                 place: before.saturating_add(at),
                 section,
                 module,
+                owner: None,
                 written,
             })?;
         }
         Ok(())
     }
 
-    // Has components wait that stand in another module, in place of this one. A list of too many is not taken itself.
+    // Has components wait in place of this one, that stand where it says. A list of too many is not taken itself.
     fn have_included(
         &mut self,
         part: Part<'a>,
-        module: usize,
         components: &'a [Component],
     ) -> Result<(), AllocError> {
         if components.len() > MAX_PARTS {
             return Ok(());
         }
         for written in components.iter().rev() {
-            self.waiting.push(Part {
-                place: part.place,
-                section: part.section,
-                module,
-                written,
-            })?;
+            self.waiting.push(Part { written, ..part })?;
         }
         Ok(())
     }

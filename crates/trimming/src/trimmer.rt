@@ -152,17 +152,7 @@ impl<'a> Trimmer<'a> {
 
     /// The name of the type that is being made, with those of components, as far as they are not too long.
     pub fn path(&self, alloc: Global) -> Result<String, AllocError> {
-        let mut path = String::new(alloc);
-        for name in &self.work.path {
-            if path.len().saturating_add(name.len()) > MAX_PATH {
-                break;
-            }
-            if !path.is_empty() {
-                path.push('.')?;
-            }
-            path.push_str(name)?;
-        }
-        Ok(path)
+        path_of(alloc, self.work.path.as_slice())
     }
 
     /// Counts a fault or a message that is told. Whether there were not too many.
@@ -234,4 +224,19 @@ impl<'a> Trimmer<'a> {
         }
         Ok(())
     }
+}
+
+/// These names with points between, as far as they are not too long.
+pub fn path_of(alloc: Global, names: &[&str]) -> Result<String, AllocError> {
+    let mut path = String::new(alloc);
+    for name in names {
+        if path.len().saturating_add(name.len()) > MAX_PATH {
+            break;
+        }
+        if !path.is_empty() {
+            path.push('.')?;
+        }
+        path.push_str(name)?;
+    }
+    Ok(path)
 }

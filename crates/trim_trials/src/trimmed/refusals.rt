@@ -88,6 +88,20 @@ T --narrow; T ::= CHOICE { a [0] REAL, b [0] NULL }; m.asn:2:22: refused: REAL a
 T --narrow; T ::= CHOICE { a CHOICE { x [0] REAL, y NULL }, b [0] BOOLEAN }; m.asn:2:18: refused: a CHOICE without all of its alternatives, beside a part with one of their tags at T.a
 T --narrow; T ::= SEQUENCE { a [0] REAL OPTIONAL, COMPONENTS OF U } U ::= SEQUENCE { b [0] NULL }; m.asn:2:24: refused: REAL at T.a
 T --narrow; T ::= SEQUENCE { a [0] NULL OPTIONAL, COMPONENTS OF U } U ::= SEQUENCE { COMPONENTS OF V, c NULL } V ::= SEQUENCE { b [0] REAL OPTIONAL }; m.asn:2:53: refused: COMPONENTS OF a list without all of its parts, beside a part with one of their tags at T; write the components out
+T --narrow --as T.b=U; T ::= SEQUENCE { a [0] REAL OPTIONAL, b K.&Type OPTIONAL } U ::= [0] BOOLEAN; m.asn:2:24: refused: REAL at T.a
+T --narrow --as T.b=U; T ::= SEQUENCE { a [0] REAL OPTIONAL, b K.&id } K ::= CLASS { &id INTEGER } U ::= V V ::= [0] INTEGER; m.asn:2:24: refused: REAL at T.a
+T --narrow --as T.a=U; T ::= SEQUENCE { a ANY OPTIONAL, ..., b [0] REAL } U ::= [0] NULL; m.asn:2:45: refused: REAL at T.b
+T --narrow --as T.b=NULL; T ::= SEQUENCE { a NULL DEFAULT NULL, ..., b ANY }; m.asn:2:33: refused: a DEFAULT of a kind that asn1x does not take at T.a
+T --narrow --as T.b=U; T ::= SET { a [0] REAL OPTIONAL, b ANY } U ::= [0] NULL; m.asn:2:19: refused: REAL at T.a
+T --narrow --as T.b=U; T ::= CHOICE { a [0] REAL, b ANY } U ::= [0] NULL; m.asn:2:22: refused: REAL at T.a
+T --narrow --as V.y=W; T ::= SEQUENCE { a [0] REAL OPTIONAL, b U OPTIONAL } U ::= V V ::= CHOICE { x NULL, y ANY } W ::= CHOICE { z [0] BOOLEAN }; m.asn:2:24: refused: REAL at T.a
+T --narrow --as T.s.b.c=U; T ::= SEQUENCE { s SET OF SEQUENCE { a [0] REAL OPTIONAL, b CHOICE { c ANY } OPTIONAL } } U ::= [0] NULL; m.asn:2:44: refused: REAL at T.s.a
+T --narrow --as T.b=C --as C.x=U; T ::= SEQUENCE { a [0] REAL OPTIONAL, b ANY OPTIONAL } C ::= CHOICE { x ANY, y NULL } U ::= [0] NULL; m.asn:2:24: refused: REAL at T.a
+T --narrow --as T.b=BMPString; T ::= SEQUENCE { a [0] REAL OPTIONAL, b ANY OPTIONAL } BMPString ::= [0] NULL; m.asn:2:24: refused: REAL at T.a
+T --narrow --as T.b=U; T ::= SEQUENCE { a CHOICE { x [0] REAL, y NULL } OPTIONAL, b ANY OPTIONAL } U ::= [0] BOOLEAN; m.asn:2:20: refused: a CHOICE without all of its alternatives, beside a part with one of their tags at T.a
+T --narrow --as U.b=V; T ::= SEQUENCE { a [0] REAL OPTIONAL, COMPONENTS OF U } U ::= SEQUENCE { b ANY OPTIONAL } V ::= [0] BOOLEAN; m.asn:2:24: refused: REAL at T.a
+M.T --narrow --as T.b=N.U; T ::= SEQUENCE { a [0] REAL OPTIONAL, b ANY OPTIONAL } END N DEFINITIONS AUTOMATIC TAGS ::= BEGIN U ::= CHOICE { x NULL }; m.asn:2:24: refused: REAL at T.a
+T --narrow --as T.b=NULL; T ::= SEQUENCE { a [0] REAL OPTIONAL, b [0] ANY OPTIONAL }; m.asn:2:24: refused: REAL at T.a
 T --as T.a=NULL; T ::= SEQUENCE { a [0] K.&id } K ::= CLASS { &id N.&Type }; m.asn:2:20: refused: a tag without a keyword in front of a field of a class at T.a; write EXPLICIT or IMPLICIT behind the tag
 M.T; IMPORTS U FROM N U FROM P;T ::= SEQUENCE { a U } END N DEFINITIONS ::= BEGIN U ::= NULL END P DEFINITIONS ::= BEGIN U ::= BOOLEAN; m.asn:2:46: refused: U is imported from more than one module at T.a
 ";
