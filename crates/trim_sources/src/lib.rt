@@ -21,7 +21,9 @@ pub use messages::{Kind, Message};
 pub use naming::{Naming, identifier, spelled};
 pub use printing::put_expr;
 pub use request::{Given, Request, Substitute, given_of, with_module};
-pub use simple::{in_profile, is_left_out_string, name_of_left_out, simple_of_words};
+pub use simple::{
+    in_profile, is_left_out_string, name_of_left_out, simple_of_words, universal_number,
+};
 pub use sources::{MAX_STEPS, Sources, Spot};
 pub use tags::Tags;
 pub use values::{Base, Budget, ValueOf};

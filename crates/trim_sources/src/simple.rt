@@ -71,33 +71,42 @@ pub fn name_of_left_out(simple: Simple) -> &'static str {
 
 /// The type that these reserved words name in the profile.
 pub fn simple_of_words(words: &str) -> Option<syntax::Simple> {
-    let (_, simple) = WORDS.iter().find(|row| row.0 == words)?;
+    let (_, simple, _) = PROFILE.iter().find(|row| row.0 == words)?;
     Some(*simple)
 }
 
-// The words of each type of the profile that is named by reserved words alone.
-static WORDS: [(&str, syntax::Simple); 15] = [
-    ("BOOLEAN", syntax::Simple::Boolean),
-    ("INTEGER", syntax::Simple::Integer),
-    ("NULL", syntax::Simple::Null),
-    ("BIT STRING", syntax::Simple::BitString),
-    ("OCTET STRING", syntax::Simple::OctetString),
-    ("OBJECT IDENTIFIER", syntax::Simple::ObjectIdentifier),
-    ("RELATIVE-OID", syntax::Simple::RelativeOid),
-    ("UTF8String", syntax::Simple::Utf8String),
-    ("NumericString", syntax::Simple::NumericString),
-    ("PrintableString", syntax::Simple::PrintableString),
-    ("IA5String", syntax::Simple::Ia5String),
-    ("VisibleString", syntax::Simple::VisibleString),
-    ("BMPString", syntax::Simple::BmpString),
-    ("UTCTime", syntax::Simple::UtcTime),
-    ("GeneralizedTime", syntax::Simple::GeneralizedTime),
+// The words of each type of the profile that is named by reserved words alone, and the number of its universal tag
+// (X.680 table 1).
+static PROFILE: [(&str, syntax::Simple, u128); 15] = [
+    ("BOOLEAN", syntax::Simple::Boolean, 1),
+    ("INTEGER", syntax::Simple::Integer, 2),
+    ("BIT STRING", syntax::Simple::BitString, 3),
+    ("OCTET STRING", syntax::Simple::OctetString, 4),
+    ("NULL", syntax::Simple::Null, 5),
+    ("OBJECT IDENTIFIER", syntax::Simple::ObjectIdentifier, 6),
+    ("UTF8String", syntax::Simple::Utf8String, 12),
+    ("RELATIVE-OID", syntax::Simple::RelativeOid, 13),
+    ("NumericString", syntax::Simple::NumericString, 18),
+    ("PrintableString", syntax::Simple::PrintableString, 19),
+    ("IA5String", syntax::Simple::Ia5String, 22),
+    ("UTCTime", syntax::Simple::UtcTime, 23),
+    ("GeneralizedTime", syntax::Simple::GeneralizedTime, 24),
+    ("VisibleString", syntax::Simple::VisibleString, 26),
+    ("BMPString", syntax::Simple::BmpString, 30),
 ];
 
 /// The words that name a type of the profile.
 pub fn words_of(simple: syntax::Simple) -> &'static str {
-    match WORDS.iter().find(|row| row.1 == simple) {
-        Some((words, _)) => words,
+    match PROFILE.iter().find(|row| row.1 == simple) {
+        Some((words, _, _)) => words,
         None => "NULL",
+    }
+}
+
+/// The number of the universal tag of a type of the profile.
+pub fn universal_number(simple: syntax::Simple) -> u128 {
+    match PROFILE.iter().find(|row| row.1 == simple) {
+        Some((_, _, number)) => *number,
+        None => 5,
     }
 }

@@ -1,5 +1,6 @@
 //! Tags that values of a type begin with (X.680 clause 8).
 
+use crate::simple::{in_profile, universal_number};
 use crate::sources::Sources;
 use crate::values::{Base, Budget};
 use published::{Alternative, Alternatives, Form, Group, Reference, Simple, Tag, TagClass};
@@ -96,7 +97,7 @@ impl<'a> Sources<'a> {
         tags: &mut Tags<'a>,
     ) -> Result<(), AllocError> {
         match self.assigned_for(module, simple) {
-            Ok(None) => tags.add(Some((0, universal_number(simple)))),
+            Ok(None) => tags.add(Some((0, own_number(simple)))),
             Ok(Some(spot)) => {
                 let module = spot.module;
                 tags.wait_for(self.type_at(spot).map(|ty| Base { module, ty }))
@@ -198,46 +199,32 @@ fn tag_of_group(group: Group) -> ClassAndNumber {
 }
 
 // The number of the type's own tag (X.680 table 1).
-fn universal_number(simple: Simple) -> u128 {
+fn own_number(simple: Simple) -> u128 {
+    match in_profile(simple) {
+        Some(simple) => universal_number(simple),
+        None => number_of_left_out(simple),
+    }
+}
+
+// That of a type that the profile does not have: the last is RELATIVE-OID-IRI.
+fn number_of_left_out(simple: Simple) -> u128 {
     match simple {
-        Simple::Boolean => 1,
-        Simple::Integer => 2,
-        Simple::BitString => 3,
-        Simple::OctetString => 4,
-        Simple::Null => 5,
-        Simple::ObjectIdentifier => 6,
         Simple::ObjectDescriptor => 7,
         Simple::External => 8,
         Simple::Real => 9,
         Simple::EmbeddedPdv => 11,
-        Simple::Utf8String => 12,
-        Simple::RelativeOid => 13,
         Simple::Time => 14,
+        Simple::TeletexString => 20,
+        Simple::VideotexString => 21,
+        Simple::GraphicString => 25,
+        Simple::GeneralString => 27,
+        Simple::UniversalString => 28,
+        Simple::CharacterString => 29,
         Simple::Date => 31,
         Simple::TimeOfDay => 32,
         Simple::DateTime => 33,
         Simple::Duration => 34,
         Simple::OidIri => 35,
-        Simple::RelativeOidIri => 36,
-        _ => number_of_string(simple),
-    }
-}
-
-// That of the others, which are strings and times.
-fn number_of_string(simple: Simple) -> u128 {
-    match simple {
-        Simple::NumericString => 18,
-        Simple::PrintableString => 19,
-        Simple::TeletexString => 20,
-        Simple::VideotexString => 21,
-        Simple::Ia5String => 22,
-        Simple::UtcTime => 23,
-        Simple::GeneralizedTime => 24,
-        Simple::GraphicString => 25,
-        Simple::VisibleString => 26,
-        Simple::GeneralString => 27,
-        Simple::UniversalString => 28,
-        Simple::CharacterString => 29,
-        _ => 30,
+        _ => 36,
     }
 }

@@ -4,9 +4,8 @@ use crate::choices::has_tag;
 use crate::trimmer::{Trimmer, path_of};
 use published::{Alternative, Alternatives, Form};
 use std::alloc::{AllocError, Global};
-use syntax::Simple;
 use trim_rules::is_automatic;
-use trim_sources::{Base, Spot, Tags};
+use trim_sources::{Base, Spot, Tags, universal_number};
 
 /// A type that values of a part may begin with, at its place.
 #[derive(Drop)]
@@ -178,26 +177,5 @@ impl<'a> Front<'a> {
             })?;
         }
         Ok(())
-    }
-}
-
-// The number of the type's own tag (X.680 table 1).
-fn universal_number(simple: Simple) -> u128 {
-    match simple {
-        Simple::Boolean => 1,
-        Simple::Integer => 2,
-        Simple::BitString => 3,
-        Simple::OctetString => 4,
-        Simple::Null => 5,
-        Simple::ObjectIdentifier => 6,
-        Simple::Utf8String => 12,
-        Simple::RelativeOid => 13,
-        Simple::NumericString => 18,
-        Simple::PrintableString => 19,
-        Simple::Ia5String => 22,
-        Simple::UtcTime => 23,
-        Simple::GeneralizedTime => 24,
-        Simple::VisibleString => 26,
-        Simple::BmpString => 30,
     }
 }
