@@ -1,9 +1,12 @@
 -- Lemmas on identifier octets and length octets at the front of some octets.
-use Rattle.std.proofs.Common.{◌≡◌, inl, inr, ℕ, zero, suc, ◌+◌, ◌<◌, ◌≤◌, List, [], ◌∷◌, ◌++◌, Bool, true, false, Bor, length, take, drop, get_or, refl, sym, ◌∙◌, ap, subst, subst₂, arith, append_assoc, append-nil, length-append}
+use Rattle.std.proofs.Common.{◌≡◌, inl, inr, ℕ, zero, suc, ◌+◌, ◌/◌, ◌%◌, ◌<◌, ◌≤◌, List, [], ◌∷◌, ◌++◌, Bool, true, false, Bor, length, take, drop, get_or, refl, sym, ◌∙◌, ap, subst, subst₂, arith, append_assoc, append-nil, length-append}
 use Rattle.std.specs.Prelude.{slice_range}
 use Rattle.std.proofs.Math.Seq.{take-add, take-append_seam}
 use Rattle.std.proofs.lemmas.List.{take-append-drop, length-take-le, length-drop, take_all}
+use Rattle.std.proofs.lemmas.List.Elements.{All-nil, All-cons}
 use Rattle.octets.specs.declared.tag.Tag.{Tag}
+use Rattle.octets.specs.Base128.{IsBase128}
+use Rattle.octets.proofs.Base128Lemmas.{base_128-pair}
 use Rattle.octets.specs.Identifier.{class_bits, form_bit, IsIdentifier}
 use Rattle.octets.specs.Length.{IsLength}
 use Rattle.octets.specs.Rule.{ber}
@@ -20,6 +23,50 @@ octet_at (suc i) (a ∷ octets) there = octet_at i octets (omega (arith, there))
 -- one identifier octet
 pub low_identifier : (tag : Tag) (constructed : Bool) (octets : List ℕ) → tag.number < 31 → 0 < length octets → get_or octets 0 0 ≡ class_bits tag.class + form_bit constructed + tag.number → IsIdentifier tag constructed (take 1 octets)
 low_identifier tag constructed octets low there is = inl record { low = omega (arith, low); spelt = octet_at 0 octets there ∙ ap (λ octet. octet ∷ []) is }
+
+-- the first of some octets
+two_octets : (octets : List ℕ) → 2 ≤ length octets → take 2 octets ≡ get_or octets 0 0 ∷ get_or octets 1 0 ∷ []
+two_octets [] there = absurd (omega (arith, there))
+two_octets (a ∷ []) there = absurd (omega (arith, there))
+two_octets (a ∷ b ∷ octets) there = refl
+
+three_octets : (octets : List ℕ) → 3 ≤ length octets → take 3 octets ≡ get_or octets 0 0 ∷ get_or octets 1 0 ∷ get_or octets 2 0 ∷ []
+three_octets [] there = absurd (omega (arith, there))
+three_octets (a ∷ []) there = absurd (omega (arith, there))
+three_octets (a ∷ b ∷ []) there = absurd (omega (arith, there))
+three_octets (a ∷ b ∷ c ∷ octets) there = refl
+
+-- a number of one digit
+base_128-digit : (n : ℕ) → n < 128 → IsBase128 n (n ∷ [])
+base_128-digit n few = record {
+  digits = n ∷ [];
+  below_128 = All-cons (λ d. d < 128) n [] few (All-nil (λ d. d < 128));
+  at_least_one = omega arith;
+  no_leading_zero = λ two. absurd (omega arith);
+  value = omega arith;
+  spelt = refl;
+}
+
+-- a leading octet, and one digit behind it
+pub pair_identifier : (tag : Tag) (constructed : Bool) (octets : List ℕ) → 31 ≤ tag.number → tag.number < 128 → 2 ≤ length octets
+    → get_or octets 0 0 ≡ class_bits tag.class + form_bit constructed + 31 → get_or octets 1 0 ≡ tag.number → IsIdentifier tag constructed (take 2 octets)
+pair_identifier tag constructed octets high few there first second = inr record {
+  high = high;
+  following = tag.number ∷ [];
+  number = base_128-digit tag.number few;
+  spelt = let front = two_octets octets there in cc;
+}
+
+-- and two digits
+pub triple_identifier : (tag : Tag) (constructed : Bool) (octets : List ℕ) → 128 ≤ tag.number → tag.number < 16384 → 3 ≤ length octets
+    → get_or octets 0 0 ≡ class_bits tag.class + form_bit constructed + 31 → get_or octets 1 0 ≡ 128 + tag.number / 128 → get_or octets 2 0 ≡ tag.number % 128
+    → IsIdentifier tag constructed (take 3 octets)
+triple_identifier tag constructed octets high few there first second third = inr record {
+  high = omega (arith, high);
+  following = (128 + tag.number / 128) ∷ (tag.number % 128) ∷ [];
+  number = base_128-pair tag.number high few;
+  spelt = let front = three_octets octets there in cc;
+}
 
 -- one length octet
 pub short_length : (n i : ℕ) (octets : List ℕ) → i < length octets → get_or octets i 0 < 128 → n ≡ get_or octets i 0 → IsLength n (take 1 (drop i octets))

@@ -129,36 +129,43 @@ below_last place stop below other = omega (arith, below, other)
 behind_first : (place first : ℕ) → first ≤ place → ¬ (place ≡ first) → first + 1 ≤ place
 behind_first place first from other = omega (arith, from, other)
 
--- the last of those that have not come
-pub next_last : (old : RenewedSet) (f : Field) → IsRoomy old → old.first < old.stop → f ≡ get_or old.set_components.fields.now (old.stop - 1) f
-    → IsNext old (record { set_components = old.set_components; first = old.first; stop = old.stop - 1; has_passed = old.has_passed }) (old.stop - 1) (ty_view f.ty)
-next_last old f roomy some at =
-    let slots = old.set_components.slots.items in
-    record {
-      vacant = vacant_without old.set_components.fields.now slots old.first (old.stop - old.first) (old.stop - 1) f (omega (arith, roomy.fields, some)) (omega (arith, roomy.slots, some)) (omega (arith, some)) (omega (arith, some)) at;
-      fields = refl;
-      there = omega (arith, roomy.slots, some);
-      put = λ slot. put_last old.first old.stop (old.stop - 1) slots slot some (omega (arith, some));
-      left = λ passed. (passed, λ place from to other. (from, below_last place old.stop to other));
-    }
-
--- the first of them
-pub next_first : (old : RenewedSet) (f : Field) → IsRoomy old → old.first < old.stop → f ≡ get_or old.set_components.fields.now old.first f
-    → IsNext old (record { set_components = old.set_components; first = old.first + 1; stop = old.stop; has_passed = old.has_passed }) old.first (ty_view f.ty)
-next_first old f roomy some at =
-    let slots = old.set_components.slots.items in
-    record {
-      vacant = vacant_without old.set_components.fields.now slots old.first (old.stop - old.first) old.first f (omega (arith, roomy.fields, some)) (omega (arith, roomy.slots, some)) (omega arith) (omega (arith, some)) at;
-      fields = refl;
-      there = omega (arith, roomy.slots, some);
-      put = λ slot. put_first old.first old.stop (old.first + 1) slots slot some refl;
-      left = λ passed. (passed, λ place from to other. (behind_first place old.first from other, to));
-    }
-
 pub field_at : (fields : List Field) (i : ℕ) → i < length fields → (f : Field) × (f ≡ get_or fields i f)
 field_at [] i below = absurd (omega (arith, below))
 field_at (f ∷ fields) zero below = (f, refl)
 field_at (f ∷ fields) (suc i) below = field_at fields i (omega (arith, below))
+
+-- the last of those that have not come, which has this type
+pub next_last : (old : RenewedSet) (which : ℕ) (type : Shape) → IsRoomy old → old.first < old.stop → which ≡ old.stop - 1 → ((f : Field) → f ≡ get_or old.set_components.fields.now (old.stop - 1) f → type ≡ ty_view f.ty)
+    → IsNext old (record { set_components = old.set_components; first = old.first; stop = old.stop - 1; has_passed = old.has_passed }) which type
+next_last old which type roomy some is its =
+    let fields = old.set_components.fields.now in
+    let slots = old.set_components.slots.items in
+    let last = old.stop - 1 in
+    let found = field_at fields last (omega (arith, roomy.fields, some)) in
+    let new : RenewedSet = record { set_components = old.set_components; first = old.first; stop = last; has_passed = old.has_passed } in
+    subst₂ (IsNext old new) (sym is) (sym (its found.0 found.1)) (record {
+      vacant = vacant_without fields slots old.first (old.stop - old.first) last found.0 (omega (arith, roomy.fields, some)) (omega (arith, roomy.slots, some)) (omega (arith, some)) (omega (arith, some)) found.1;
+      fields = refl;
+      there = omega (arith, roomy.slots, some);
+      put = λ slot. put_last old.first old.stop last slots slot some (omega (arith, some));
+      left = λ passed. (passed, λ place from to other. (from, below_last place old.stop to other));
+    })
+
+-- the first of them
+pub next_first : (old : RenewedSet) (which : ℕ) (type : Shape) → IsRoomy old → old.first < old.stop → which ≡ old.first → ((f : Field) → f ≡ get_or old.set_components.fields.now old.first f → type ≡ ty_view f.ty)
+    → IsNext old (record { set_components = old.set_components; first = old.first + 1; stop = old.stop; has_passed = old.has_passed }) which type
+next_first old which type roomy some is its =
+    let fields = old.set_components.fields.now in
+    let slots = old.set_components.slots.items in
+    let found = field_at fields old.first (omega (arith, roomy.fields, some)) in
+    let new : RenewedSet = record { set_components = old.set_components; first = old.first + 1; stop = old.stop; has_passed = old.has_passed } in
+    subst₂ (IsNext old new) (sym is) (sym (its found.0 found.1)) (record {
+      vacant = vacant_without fields slots old.first (old.stop - old.first) old.first found.0 (omega (arith, roomy.fields, some)) (omega (arith, roomy.slots, some)) (omega arith) (omega (arith, some)) found.1;
+      fields = refl;
+      there = omega (arith, roomy.slots, some);
+      put = λ slot. put_first old.first old.stop (old.first + 1) slots slot some refl;
+      left = λ passed. (passed, λ place from to other. (behind_first place old.first from other, to));
+    })
 
 -- the one before which slots are emptied
 pub next_ahead : (place : ℕ) (old mid : RenewedSet) → IsEmptied place old mid → place < mid.stop

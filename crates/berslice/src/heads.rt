@@ -1,13 +1,13 @@
 //! Where the contents octets of an encoding under a known tag begin and end (X.690 8.1).
 
-ghost use Rattle.std.specs.Prelude.{◌↔◌, ◌<◌, ◌≤◌, length, take, IsTrue, IfSome};
+ghost use Rattle.std.specs.Prelude.{◌≡◌, ◌↔◌, ◌<◌, ◌≤◌, length, take, IsTrue, IfSome};
 ghost use Rattle.octets.specs.declared.tag.Tag.{Tag};
-ghost use Rattle.octets.specs.Identifier.{IsIdentifier};
+ghost use Rattle.octets.specs.Identifier.{form_bit, IsIdentifier};
 ghost use Rattle.octets.specs.Rule.{ber};
 ghost use Rattle.types.specs.Form.{IsConstructed};
 ghost use Rattle.berslice.specs.Heads.{IsIdentifierOf, IsOpened, IsPrimitiveAt, StartsWithEnd};
 
-use octets::{Head, Length, Tag, leading_octet, read_identifier, read_length};
+use octets::{Head, Length, Tag, class_octet, leading_octet, read_identifier, read_length};
 
 /// A constructed encoding of which the identifier octets and length octets have been read.
 #[derive(Clone, Copy)]
@@ -48,6 +48,23 @@ pub fn identifier_of(octets: &[u8]) -> Option<Identifier>
         }),
         Head::More | Head::Bad => None,
     }
+}
+
+// The identifier octets at the front, if they are those of a primitive encoding under the tag. Of a tag that has more
+// than three nothing is said here.
+#[inline(always)]
+pub fn identifier_under(tag: Tag, octets: &[u8]) -> Option<Identifier>
+    ensures tag { IfSome result (λ found. found.tag ≡ tag) }
+    ensures front { IfSome result (λ found. IsIdentifierOf found octets.now) }
+{
+    if tag.number >= 0x4000 {
+        return None;
+    }
+    Some(Identifier {
+        tag,
+        constructed: false,
+        octets: begun(tag, false, octets)?,
+    })
 }
 
 // The contents octets of the encoding at the front, of which these are the identifier octets, if it is primitive and
@@ -160,22 +177,58 @@ pub fn long_opened(tag: Tag, octets: &[u8]) -> Option<Inside<'_>>
     }
 }
 
-// How many identifier octets the encoding at the front has, if they are those of the tag and the form: mostly one.
+// How many identifier octets the encoding at the front has, if they are those of the tag and the form: mostly one, and
+// seldom more than three.
 #[inline(always)]
 pub fn begun(tag: Tag, constructed: bool, octets: &[u8]) -> Option<usize>
     ensures { IfSome result (λ used. (used ≤ length octets.now) × IsIdentifier tag constructed (take used octets.now)) }
 {
-    if tag.number >= 31 {
-        return long_begun(tag, constructed, octets);
+    if tag.number < 31 {
+        return low_begun(tag, constructed, octets);
     }
-    let form = if constructed { 0x20 } else { 0x00 };
-    if octets.is_empty() || octets[0] != leading_octet(tag) + form {
+    if tag.number < 0x4000 && octets.len() >= 3 {
+        return high_begun(tag, constructed, octets);
+    }
+    long_begun(tag, constructed, octets)
+}
+
+// How many it has, of a tag of a number that stands in the leading octet (X.690 8.1.2.2).
+#[inline(always)]
+fn low_begun(tag: Tag, constructed: bool, octets: &[u8]) -> Option<usize>
+    requires { tag.number < 31 }
+    ensures { IfSome result (λ used. (used ≤ length octets.now) × IsIdentifier tag constructed (take used octets.now)) }
+{
+    if octets.is_empty() || octets[0] != leading_octet(tag) + form_octet(constructed) {
         return None;
     }
     Some(1)
 }
 
-// How many identifier octets it has, of any tag.
+// How many it has, of a tag of a number that one or two octets behind the leading one say (X.690 8.1.2.4).
+#[inline(always)]
+fn high_begun(tag: Tag, constructed: bool, octets: &[u8]) -> Option<usize>
+    requires number { (31 ≤ tag.number) × (tag.number < 0x4000) }
+    requires there { 3 ≤ length octets.now }
+    ensures { IfSome result (λ used. (used ≤ length octets.now) × IsIdentifier tag constructed (take used octets.now)) }
+{
+    if octets[0] != class_octet(tag.class) + form_octet(constructed) + 31 {
+        return None;
+    }
+    let (second, third) = (u32::from(octets[1]), u32::from(octets[2]));
+    if tag.number < 0x80 {
+        if second != tag.number {
+            return None;
+        }
+        return Some(2);
+    }
+    if second != 0x80 + tag.number / 0x80 || third != tag.number % 0x80 {
+        return None;
+    }
+    Some(3)
+}
+
+// How many it has, of any tag.
+#[inline(never)]
 fn long_begun(tag: Tag, constructed: bool, octets: &[u8]) -> Option<usize>
     ensures { IfSome result (λ used. (used ≤ length octets.now) × IsIdentifier tag constructed (take used octets.now)) }
 {
@@ -187,6 +240,14 @@ fn long_begun(tag: Tag, constructed: bool, octets: &[u8]) -> Option<usize>
         } if found == tag && form == constructed => Some(used),
         Head::Done { .. } | Head::More | Head::Bad => None,
     }
+}
+
+// Bit 6 of a leading octet, which says the form (X.690 8.1.2.5), and zeros.
+#[inline(always)]
+fn form_octet(constructed: bool) -> u8
+    ensures { result ≡ form_bit constructed }
+{
+    if constructed { 0x20 } else { 0x00 }
 }
 
 impl<'a> Inside<'a> {

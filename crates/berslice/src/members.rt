@@ -32,6 +32,13 @@ pub fn read_members(
 {
     let mut set = RenewedSet::over(alloc, fields, value)?;
     let mut rest = octets;
+    // Those that come in reverse or in order, as far as they do, and have no parts.
+    while let Some(awaited) = set.awaited(rest) {
+        let slot = &mut set.set_components.slots[awaited.place];
+        let value = slot.get_or_insert_with(|| Value::Null);
+        let used = read_leaf_behind(alloc, awaited.ty, awaited.identifier, levels, rest, value)?;
+        rest = &rest[used..];
+    }
     while !ends_at(rest, definite) {
         let used = read_member(alloc, fields, levels, rest, &mut set)?;
         rest = &rest[used..];

@@ -1,11 +1,14 @@
 //! Components of a SET that are read over the values of the one before.
 
-ghost use Rattle.std.specs.Prelude.{◌≡◌, ◌<◌, ◌≤◌, None, map, length, get_or, IsTrue, IfSome, MatchOption};
+ghost use Rattle.std.specs.Prelude.{◌≡◌, ◌<◌, ◌≤◌, None, map, length, get_or, IsNone, IsTrue, IfSome, MatchOption};
+ghost use Rattle.types.specs.Leaf.{tag_of, IsLeaf};
 ghost use Rattle.types.specs.View.{field_view, ty_view, value_view};
 ghost use Rattle.encoding_parts.specs.HeldParts.{members_view};
 ghost use Rattle.encoding_parts.specs.Parts.{IsValueOf, Parts};
+ghost use Rattle.berslice.specs.Heads.{IsIdentifierOf};
 ghost use Rattle.berslice.specs.RenewedSet.{renewed_view, IsEmptied, IsFilled, IsLeafOf, IsNext, IsNextAt, IsRoomy};
 
+use crate::heads::{Identifier, identifier_under};
 use encoding_parts::{SetComponents, begins, can_begin, take_slots};
 use octets::Tag;
 use std::alloc::Global;
@@ -37,6 +40,17 @@ pub struct Due<'a> {
     pub is_leaf: bool,
 }
 
+/// A component without parts, of which a primitive encoding stands at the front.
+#[derive(Clone, Copy)]
+pub struct Awaited<'a> {
+    /// Its place.
+    pub place: usize,
+    /// Its type.
+    pub ty: &'a Ty,
+    /// The identifier octets of the encoding.
+    pub identifier: Identifier,
+}
+
 impl<'a> RenewedSet<'a> {
     // A SET of which nothing has come, in the room of the one that the value holds.
     pub fn over(alloc: Global, fields: &'a [Field], value: &mut Value) -> Option<RenewedSet<'a>>
@@ -60,6 +74,32 @@ impl<'a> RenewedSet<'a> {
             stop: fields.len(),
             has_passed: false,
         })
+    }
+
+    // The last component of the range, or else the first one, if it has no parts and a primitive encoding of it stands
+    // at the front. It counts as come from now on, with what is put into its slot. Nothing changes where neither does.
+    #[inline(always)]
+    pub fn awaited(&mut self, octets: &[u8]) -> Option<Awaited<'a>>
+        requires { IsRoomy self.old }
+        ensures roomy { IsRoomy self.new }
+        ensures next { IfSome result (λ awaited. IsNext self.old self.new awaited.place (ty_view awaited.ty.now)) }
+        ensures leaf { IfSome result (λ awaited. IsLeaf (ty_view awaited.ty.now)) }
+        ensures tag { IfSome result (λ awaited. tag_of (ty_view awaited.ty.now) ≡ awaited.identifier.tag) }
+        ensures front { IfSome result (λ awaited. IsIdentifierOf awaited.identifier octets.now) }
+        ensures unchanged { IsNone result → self.new ≡ self.old }
+    {
+        if self.first >= self.stop {
+            return None;
+        }
+        let fields = self.set_components.fields;
+        let last = self.stop - 1;
+        if let Some(awaited) = Awaited::at(fields, last, octets) {
+            self.stop = last;
+            return Some(awaited);
+        }
+        let awaited = Awaited::at(fields, self.first, octets)?;
+        self.first += 1;
+        Some(awaited)
     }
 
     // The component that has not come and begins with the tag. It counts as come from now on, with what is put into its
@@ -185,5 +225,25 @@ impl<'a> Due<'a> {
             None => false,
         };
         Due { place, ty, is_leaf }
+    }
+}
+
+impl<'a> Awaited<'a> {
+    // The component at the place, if it has no parts and a primitive encoding of it stands at the front.
+    #[inline(always)]
+    fn at(fields: &'a [Field], place: usize, octets: &[u8]) -> Option<Awaited<'a>>
+        requires { place < length fields.now }
+        ensures same { IfSome result (λ awaited. (awaited.place ≡ place) × ((f : Field) → f ≡ get_or fields.now place f → awaited.ty.now ≡ f.ty)) }
+        ensures leaf { IfSome result (λ awaited. IsLeaf (ty_view awaited.ty.now)) }
+        ensures tag { IfSome result (λ awaited. tag_of (ty_view awaited.ty.now) ≡ awaited.identifier.tag) }
+        ensures front { IfSome result (λ awaited. IsIdentifierOf awaited.identifier octets.now) }
+    {
+        let ty = &fields[place].ty;
+        let identifier = identifier_under(ty.leaf_tag()?, octets)?;
+        Some(Awaited {
+            place,
+            ty,
+            identifier,
+        })
     }
 }

@@ -283,21 +283,52 @@ members::read_member-returns-clause-read t c =
 pub members::read_members-loop-alloc-smaller : goal.members::read_members-loop-alloc-smaller
 members::read_members-loop-alloc-smaller t c =
     let rest = c.loop-alloc.rest.now in
-    let used = c.in_ok-used.used in
-    let read = c.in_ok-used.ensures.read in
+    let used = c.in_ok-used-2.used in
+    let read = c.in_ok-used-2.ensures.read in
     let some = member_some c.args.levels rest (Parts.set (renewed_view c.loop-alloc.set)) (Parts.set (renewed_view c.read_member.new.set)) used read in
     omega (arith, some, read.there, ap length (take_rest rest used), length-drop used rest)
 
 pub members::read_members-loop-alloc-preserved : goal.members::read_members-loop-alloc-preserved
 members::read_members-loop-alloc-preserved t c =
     let so_far = c.loop-alloc.invariant in
-    let come = c.in_ok-used.ensures in
-    (one_member_before c.args.levels (map field_view c.args.fields.now) c.args.octets.now c.loop-alloc.rest.now (Parts.set (renewed_view c.loop-alloc.set)) (Parts.set (renewed_view c.read_member.new.set)) c.in_ok-used.used so_far.0 come.read, come.fields.0, come.filled, come.fields.1)
+    let come = c.in_ok-used-2.ensures in
+    (one_member_before c.args.levels (map field_view c.args.fields.now) c.args.octets.now c.loop-alloc.rest.now (Parts.set (renewed_view c.loop-alloc.set)) (Parts.set (renewed_view c.read_member.new.set)) c.in_ok-used-2.used so_far.0 come.read, come.fields.0, come.filled, come.fields.1)
 
-pub members::read_members-loop-alloc-init : goal.members::read_members-loop-alloc-init
-members::read_members-loop-alloc-init t c =
+pub members::read_members-loop-awaited-init : goal.members::read_members-loop-awaited-init
+members::read_members-loop-awaited-init t c =
     let made = c.in_ok-set.ensures in
     (no_members_before c.args.levels c.args.fields.now c.args.octets.now _ made.none, made.roomy, made.filled, made.fields)
+
+pub members::read_members-read_leaf_behind-requires-clause-good : goal.members::read_members-read_leaf_behind-requires-clause-good
+members::read_members-read_leaf_behind-requires-clause-good t c =
+    let awaited = c.in-Some.awaited in
+    due_good awaited.identifier.tag c.args.fields.now (renewed_view c.loop-awaited.set) awaited.place (ty_view awaited.ty.now) c.requires (search rules) c.in-Some.ensures.next.vacant
+
+pub members::read_members-loop-awaited-smaller : goal.members::read_members-loop-awaited-smaller
+members::read_members-loop-awaited-smaller t c =
+    let own = c.loop-awaited.set in
+    let rest = c.loop-awaited.rest.now in
+    let used = c.in_ok-used.used in
+    let awaited = c.in-Some.awaited in
+    let new = c.awaited.new.self in
+    let v = c.read_leaf_behind.new.value in
+    let come = members_view new.set_components.fields.now (slots_view new (set new.set_components.slots.items awaited.place (Some v))) in
+    let read = renewed_come c.args.levels rest own new v awaited.place used (ty_view awaited.ty.now) c.in-Some.ensures.next c.in_ok-used.ensures in
+    let some = member_some c.args.levels rest (Parts.set (renewed_view own)) (Parts.set come) used read in
+    omega (arith, some, read.there, ap length (take_rest rest used), length-drop used rest)
+
+pub members::read_members-loop-awaited-preserved : goal.members::read_members-loop-awaited-preserved
+members::read_members-loop-awaited-preserved t c =
+    let so_far = c.loop-awaited.invariant in
+    let own = c.loop-awaited.set in
+    let awaited = c.in-Some.awaited in
+    let type = ty_view awaited.ty.now in
+    let next = c.in-Some.ensures.next in
+    let new = c.awaited.new.self in
+    let v = c.read_leaf_behind.new.value in
+    let come = members_view new.set_components.fields.now (slots_view new (set new.set_components.slots.items awaited.place (Some v))) in
+    let read = renewed_come c.args.levels c.loop-awaited.rest.now own new v awaited.place c.in_ok-used.used type next c.in_ok-used.ensures in
+    (one_member_before c.args.levels (map field_view c.args.fields.now) c.args.octets.now c.loop-awaited.rest.now (Parts.set (renewed_view own)) (Parts.set come) c.in_ok-used.used so_far.0 read, search rules, filled_come own new v awaited.place type so_far.2 next, next.fields ∙ so_far.3)
 
 pub members::read_members-returns : goal.members::read_members-returns
 members::read_members-returns t c = λ tag.

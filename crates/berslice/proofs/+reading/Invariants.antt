@@ -23,6 +23,16 @@ invariant-leaf_items::read_leaf_items-loop-alloc l = AreItemsBefore l.levels (ty
 abbrev pub decreases-leaf_items::read_leaf_items-loop-alloc : goal.decreases-leaf_items::read_leaf_items-loop-alloc
 decreases-leaf_items::read_leaf_items-loop-alloc l = length l.rest
 
+abbrev pub invariant-members::read_members-loop-awaited : goal.invariant-members::read_members-loop-awaited
+invariant-members::read_members-loop-awaited l =
+    AreMembersBefore l.levels (map field_view l.fields) l.octets l.rest (Parts.set (renewed_view l.set))
+    × IsRoomy l.set
+    × IsFilled l.set
+    × (l.set.set_components.fields.now ≡ l.fields)
+
+abbrev pub decreases-members::read_members-loop-awaited : goal.decreases-members::read_members-loop-awaited
+decreases-members::read_members-loop-awaited l = length l.rest
+
 abbrev pub invariant-members::read_members-loop-alloc : goal.invariant-members::read_members-loop-alloc
 invariant-members::read_members-loop-alloc l =
     AreMembersBefore l.levels (map field_view l.fields) l.octets l.rest (Parts.set (renewed_view l.set))

@@ -1,9 +1,9 @@
-use Rattle.std.proofs.Common.{refl, sym, ap, ◌∙◌, ◌+◌, ◌-◌, subst, subst₂, arith}
+use Rattle.std.proofs.Common.{refl, sym, ap, ◌∙◌, subst, subst₂, arith}
 use Rattle.types.specs.View.{ty_view}
 use Rattle.encoding_parts.specs.HeldParts.{come_view}
 use Rattle.encoding_parts.proofs.SetComponentLemmas.{members_in_slots, vacant_below}
 use Rattle.berslice.specs.RenewedSet.{HasLeft, IsEmptied, IsNext}
-use Rattle.berslice.proofs.RenewedSetLemmas.{next_first, next_last, next_anywhere, next_emptied, field_at}
+use Rattle.berslice.proofs.RenewedSetLemmas.{next_first, next_last, next_anywhere, next_emptied}
 use Rattle.berslice.proofs.renewed_set.RenewedSet.due.Goals as goal
 use Rattle.berslice.proofs.renewed_set.RenewedSet.due.Goals.{then-self+in_default+in_default-at+in_default-due_ahead, else-self}
 
@@ -14,19 +14,15 @@ overflow_add-self-2 c =
 
 pub returns-in-Some-clause-next : goal.returns-in-Some-clause-next
 returns-in-Some-clause-next c =
-    let old = c.args.self.now in
-    let found = field_at old.set_components.fields.now (old.stop - 1) (omega (arith, c.if-self.true, c.requires.fields)) in
-    let next = next_last old found.0 c.requires (omega (arith, c.if-self.true)) found.1 in
+    let due = c.in-Some.due in
     let same = c.in-Some.ensures.same in
-    subst₂ (IsNext old (record { set_components = old.set_components; first = old.first; stop = old.stop - 1; has_passed = old.has_passed })) (sym same.0) (ap ty_view (sym (same.1 found.0 found.1))) next
+    next_last c.args.self.now due.place (ty_view due.ty.now) c.requires (omega (arith, c.if-self.true)) same.0 (λ f at. ap ty_view (same.1 f at))
 
 pub returns-in-Some-at-clause-next : goal.returns-in-Some-at-clause-next
 returns-in-Some-at-clause-next c =
-    let old = c.args.self.now in
-    let found = field_at old.set_components.fields.now old.first (omega (arith, c.if-self.true, c.requires.fields)) in
-    let next = next_first old found.0 c.requires (omega (arith, c.if-self.true)) found.1 in
+    let due = c.in-Some-at.due in
     let same = c.in-Some-at.ensures.same in
-    subst₂ (IsNext old (record { set_components = old.set_components; first = old.first + 1; stop = old.stop; has_passed = old.has_passed })) (sym same.0) (ap ty_view (sym (same.1 found.0 found.1))) next
+    next_first c.args.self.now due.place (ty_view due.ty.now) c.requires (omega (arith, c.if-self.true)) same.0 (λ f at. ap ty_view (same.1 f at))
 
 pub returns-clause-next : goal.returns-clause-next
 returns-clause-next c =
