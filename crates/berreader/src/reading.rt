@@ -1,6 +1,6 @@
 //! Reads one encoding at the front of some octets under BER (X.690 clause 8).
 
-ghost use Rattle.std.specs.Prelude.{◌≡◌, ◌≤◌, ◌++◌, ℕ, List, length, take, IfOk, IfErr};
+ghost use Rattle.std.specs.Prelude.{◌≡◌, ◌≤◌, ◌++◌, ℕ, List, length, take, IfOk, IfErr, IfSome, MatchOption};
 ghost use Rattle.octets.specs.Front.{HasFront};
 ghost use Rattle.octets.specs.Rule.{ber};
 ghost use Rattle.types.specs.Encoding.{IsAccepted, IsSomeAccepted};
@@ -15,6 +15,7 @@ ghost use Rattle.berreader.specs.Feeding.{HasBeenFed, shape_of};
 ghost use Rattle.berreader.specs.Weight.{most_weight};
 
 use crate::reader::{Reader, Step};
+use berslice::read_front;
 use std::alloc::Global;
 use types::{Refusal, Value, WellTyped};
 
@@ -46,4 +47,22 @@ pub fn read(alloc: Global, ty: &WellTyped, octets: &[u8]) -> Result<(Value, usiz
         Step::Done { value, used } => Ok((value, used)),
         Step::More => Err(Refusal::Truncated),
     }
+}
+
+/// Reads the encoding at the front of `octets` into the slot, where all of it is there and within the limits, and returns
+/// how many octets it has. Returns None for anything else, as where memory runs out, and the slot may then hold anything:
+/// `read` tells why. The value goes into the room of the one that the slot held, as far as it has room there, and else
+/// takes memory as `read` says.
+#[inline(always)]
+pub fn read_into(
+    alloc: Global,
+    ty: &WellTyped,
+    octets: &[u8],
+    slot: &mut Option<Value>,
+) -> Option<usize>
+    ensures there { IfSome result (λ used. used ≤ length octets.now) }
+    ensures value { IfSome result (λ used. MatchOption slot.new ⊥ (λ value.
+        IsAccepted ber (ty_view ty.now) (value_view value) (take used octets.now))) }
+{
+    read_front(alloc, ty.as_type(), octets, slot)
 }

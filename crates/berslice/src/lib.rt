@@ -17,7 +17,7 @@ mod reading;
 mod renewed_set;
 
 pub use items::read_items;
-pub use reading::read_whole;
+pub use reading::{read_front, read_whole};
 
 /// How many constructed encodings may nest.
 pub const MAX_NESTED: usize = 64;

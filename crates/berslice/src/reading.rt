@@ -44,19 +44,29 @@ pub fn read_whole(
     ensures room { MatchOption result (whole.old ≡ None → room.new.items ≡ []) (λ _. room.new ≡ room.old) }
 {
     let is_first = whole.is_none();
-    let front = &octets[..octets.len().min(MAX_ENCODING)];
-    let value = whole.get_or_insert_with(|| Value::Null);
-    match read_one(alloc, ty, MAX_NESTED, front, value) {
-        Some(used) => Some(used),
-        None => {
-            *room = take_list(alloc, value);
-            if is_first {
-                room.clear();
-            }
-            clear(whole);
-            None
-        }
+    if let Some(used) = read_front(alloc, ty, octets, whole) {
+        return Some(used);
     }
+    match whole {
+        Some(value) if !is_first => *room = take_list(alloc, value),
+        _ => room.clear(),
+    }
+    clear(whole);
+    None
+}
+
+/// Reads the encoding at the front of `octets` as `read_whole` does. Where it returns None, `slot` may hold anything: what
+/// is read next has room there as before.
+#[inline(always)]
+pub fn read_front(alloc: Global, ty: &Ty, octets: &[u8], slot: &mut Option<Value>) -> Option<usize>
+    requires good { IsGoodType (ty_view ty.now) }
+    ensures there { IfSome result (λ used. used ≤ length octets.now) }
+    ensures value { IfSome result (λ used. MatchOption slot.new ⊥ (λ value.
+        IsAccepted ber (ty_view ty.now) (value_view value) (take used octets.now))) }
+{
+    let front = &octets[..octets.len().min(MAX_ENCODING)];
+    let value = slot.get_or_insert_with(|| Value::Null);
+    read_one(alloc, ty, MAX_NESTED, front, value)
 }
 
 // Reads the encoding at the front into the value, in which at most so many constructed ones nest. Where it is not

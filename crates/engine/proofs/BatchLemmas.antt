@@ -12,7 +12,7 @@ use Rattle.devices.proofs.DeviceLemmas.{appends_none, appends_more}
 use Rattle.engine.specs.declared.any_reader.AnyReader.{AnyReader}
 use Rattle.engine.specs.AnyReader.{read_rule}
 use Rattle.engine.specs.Feeding.{IsUnfinished}
-use Rattle.engine.specs.Passing.{Gathers, IsCopied, HasGathered, HasNotPassed, HasPassed, StopsGathering, Writes}
+use Rattle.engine.specs.Passing.{AreAdded, Gathers, IsFirstAdded, HasGathered, HasNotPassed, HasPassed, StopsGathering, Writes}
 use Rattle.engine.proofs.FeedingLemmas.{cut_piece}
 use Rattle.engine.proofs.PassingLemmas.{gathers_more, writes_none, writes_on}
 use Rattle.engine.proofs.StrictReaderLemmas.{some_taken}
@@ -171,21 +171,20 @@ not_passed_on shape Stands CanBeTooLong old mid before now done refusal front mo
   numbers = rw p.same_rule at q.numbers;
 }
 
--- what is gathered goes on behind a value that stands as it is written
-pub gathers_copied : (shape : Shape) (Stands : Meaning) (stream front octets octets_new lengths lengths_new : List ℕ) (used : ℕ) → IsCopied shape Stands front octets octets_new lengths lengths_new used
+-- what is gathered goes on behind a value that is added
+pub gathers_first : (shape : Shape) (Stands : Meaning) (stream front octets octets_new lengths lengths_new : List ℕ) (used : ℕ) → IsFirstAdded shape Stands front octets octets_new lengths lengths_new used
     → Gathers ber shape Stands stream front octets lengths → Gathers ber shape Stands stream (drop used front) octets_new lengths_new
-gathers_copied shape Stands stream front octets octets_new lengths lengths_new used copied g =
-    gathers_more ber shape Stands copied.value stream front octets lengths (take used front) (drop used front) copied.added.part octets_new lengths_new g
-    (sym (take-append-drop used front)) copied.read copied.added.stands copied.added.octets_are copied.added.lengths_are
+gathers_first shape Stands stream front octets octets_new lengths lengths_new used first g =
+    gathers_more ber shape Stands first.value stream front octets lengths (take used front) (drop used front) first.added.part octets_new lengths_new g
+    (sym (take-append-drop used front)) first.read first.added.stands first.added.octets_are first.added.lengths_are
 
 -- at least one octet is taken for each
-pub copied_some : (shape : Shape) (Stands : Meaning) (front octets octets_new lengths lengths_new : List ℕ) (used : ℕ) → IsCopied shape Stands front octets octets_new lengths lengths_new used → 1 ≤ used
-copied_some shape Stands front octets octets_new lengths lengths_new used copied = some_taken ber shape copied.value used front copied.read
+pub first_some : (shape : Shape) (Stands : Meaning) (front octets octets_new lengths lengths_new : List ℕ) (used : ℕ) → IsFirstAdded shape Stands front octets octets_new lengths lengths_new used → 1 ≤ used
+first_some shape Stands front octets octets_new lengths lengths_new used first = some_taken ber shape first.value used front first.read
 
--- what was added of BER goes on behind what was gathered by it
-pub gathered_by_ber : (rule : Rule) (shape : Shape) (Stands : Meaning) (stream behind rest octets octets_new lengths lengths_new : List ℕ) (used : ℕ) → rule ≡ ber → rest ≡ drop used behind
-    → (Gathers ber shape Stands stream behind octets lengths → Gathers ber shape Stands stream (drop used behind) octets_new lengths_new)
-    → Gathers rule shape Stands stream behind octets lengths → Gathers rule shape Stands stream rest octets_new lengths_new
-gathered_by_ber rule shape Stands stream behind rest octets octets_new lengths lengths_new used by_ber rest_is goes_on g =
-    subst (λ left. Gathers rule shape Stands stream left octets_new lengths_new) (sym rest_is)
-    (subst (λ r. Gathers r shape Stands stream (drop used behind) octets_new lengths_new) (sym by_ber) (goes_on (subst (λ r. Gathers r shape Stands stream behind octets lengths) by_ber g)))
+-- what is gathered goes on behind what is added
+pub gathered_further : (rule now : Rule) (shape : Shape) (Stands : Meaning) (stream behind rest octets octets_new lengths lengths_new : List ℕ) (used : ℕ) → now ≡ rule → rest ≡ drop used behind
+    → AreAdded now shape Stands behind octets octets_new lengths lengths_new used → Gathers rule shape Stands stream behind octets lengths → Gathers rule shape Stands stream rest octets_new lengths_new
+gathered_further rule now shape Stands stream behind rest octets octets_new lengths lengths_new used same rest_is added g =
+    let here = subst (λ r. AreAdded r shape Stands behind octets octets_new lengths lengths_new used) same added in
+    subst (λ left. Gathers rule shape Stands stream left octets_new lengths_new) (sym rest_is) (here.gathered stream g)

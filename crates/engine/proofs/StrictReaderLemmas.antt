@@ -167,4 +167,4 @@ pub strict_is_written : (rule : Rule) (shape : Shape) (slot : Option Value) (oct
     → MatchOption slot ⊥ (λ value. IsAccepted rule shape (value_view value) (take used octets)) → IsWritten (IsAccepted rule shape) shape slot octets used
 strict_is_written rule shape None octets used well canonical there read = absurd read
 strict_is_written rule shape (Some value) octets used well canonical there read =
-    record { there = there; stands = read; read = as_ber rule shape (value_view value) (take used octets) well canonical read }
+    record { first = record { there = there; read = as_ber rule shape (value_view value) (take used octets) well canonical read }; stands = read }

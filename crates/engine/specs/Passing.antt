@@ -35,16 +35,16 @@ pub record IsAdded (Stands : List ℕ → Type 0) (octets octets_new lengths len
   pub lengths_are : lengths_new ≡ lengths ++ length part ∷ []
 
 -- so many octets at the front encode a value in BER, and what stands for it is added
-pub record IsCopied (shape : Shape) (Stands : Meaning) (front octets octets_new lengths lengths_new : List ℕ) (used : ℕ) : Type 0 where
+pub record IsFirstAdded (shape : Shape) (Stands : Meaning) (front octets octets_new lengths lengths_new : List ℕ) (used : ℕ) : Type 0 where
   pub value : Val
   pub there : used ≤ length front
   pub read : IsAccepted ber shape value (take used front)
   pub added : IsAdded (Stands value) octets octets_new lengths lengths_new
 
--- so do all of so many octets at the front, and what is gathered goes on behind them
-pub record AreCopied (shape : Shape) (Stands : Meaning) (front octets octets_new lengths lengths_new : List ℕ) (used : ℕ) : Type 0 where
+-- so many octets at the front are values by the rule, and what stands for each is added: what is gathered goes on behind them
+pub record AreAdded (rule : Rule) (shape : Shape) (Stands : Meaning) (front octets octets_new lengths lengths_new : List ℕ) (used : ℕ) : Type 0 where
   pub there : used ≤ length front
-  pub gathered : (stream : List ℕ) → Gathers ber shape Stands stream front octets lengths → Gathers ber shape Stands stream (drop used front) octets_new lengths_new
+  pub gathered : (stream : List ℕ) → Gathers rule shape Stands stream front octets lengths → Gathers rule shape Stands stream (drop used front) octets_new lengths_new
   pub few : length lengths_new ≤ length lengths + used
 
 -- nothing is added for the value, for a refusal

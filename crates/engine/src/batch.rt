@@ -6,9 +6,10 @@ ghost use Rattle.types.specs.Encoding.{IsAccepted};
 ghost use Rattle.types.specs.Shape.{Val};
 ghost use Rattle.types.specs.View.{value_view};
 ghost use Rattle.octets.specs.Front.{Appends};
+ghost use Rattle.octets.specs.Rule.{ber};
 ghost use Rattle.engine.specs.AnyReader.{read_rule, StandsBy};
 ghost use Rattle.engine.specs.Feeding.{IsUnfinished};
-ghost use Rattle.engine.specs.Passing.{IsAdded, IsCopied, AreCopied, IsNotAdded, HasGathered, StopsGathering};
+ghost use Rattle.engine.specs.Passing.{IsAdded, IsFirstAdded, AreAdded, IsNotAdded, HasGathered, StopsGathering};
 ghost use Rattle.engine.specs.Refusal.{IsOfGathering};
 
 use crate::any_reader::AnyReader;
@@ -47,14 +48,14 @@ impl Batch {
         }
     }
 
-    // Adds what stands for a value: these octets, if there are any. Returns whether the batch is to be written now.
+    // Adds what stands for a value: these octets, if there are any.
     #[inline(always)]
     fn add<P: Put>(
         &mut self,
         writer: &P,
         value: &Value,
         encoding: Option<&[u8]>,
-    ) -> Result<bool, Refusal>
+    ) -> Result<(), Refusal>
         requires conforms { Conforms (P.shape writer.now) (value_view value.now) }
         requires stands { IfSome encoding (λ octets. P.stands writer.now (value_view value.now) octets.now) }
         ensures added { OnOk result (IsAdded (P.stands writer.now (value_view value.now))
@@ -67,33 +68,104 @@ impl Batch {
         let before = self.octets.len();
         put(writer, value, encoding, &mut self.room, &mut self.octets)?;
         let length = self.octets.len() - before;
-        match self.lengths.push(length) {
-            Ok(()) => Ok(writer.can_outgrow() && self.octets.len() >= FULL),
-            Err(_) => {
-                self.octets.truncate(before);
-                Err(Refusal::NoMemory)
-            }
+        if self.lengths.push(length).is_err() {
+            self.octets.truncate(before);
+            return Err(Refusal::NoMemory);
         }
+        Ok(())
     }
 
-    // Adds the values at the front whose encodings are what is written for them, up to the first that has another one or
-    // may be cut, and returns how many octets they have.
-    #[inline(never)]
-    fn copy_written<P: Put>(&mut self, writer: &P, octets: &[u8], slot: &mut Option<Value>) -> usize
+    // Whether the batch is to be written before more is gathered.
+    #[inline(always)]
+    fn is_full<P: Put>(&self, writer: &P) -> bool {
+        writer.can_outgrow() && self.octets.len() >= FULL
+    }
+
+    // Adds what stands for values that are whole at the front, behind one of the octets `last`, if that was whole in the
+    // piece and the reader is one of BER, and returns how many octets they have.
+    #[inline(always)]
+    fn add_more<P: Put>(
+        &mut self,
+        reader: &AnyReader<'_>,
+        writer: &P,
+        is_whole: bool,
+        last: &[u8],
+        octets: &[u8],
+        slot: &mut Option<Value>,
+    ) -> usize
         ensures copies { self.new.copies ≡ self.old.copies }
-        ensures copied { AreCopied (P.shape writer.now) (P.stands writer.now) octets.now
+        ensures added { AreAdded (read_rule reader.now) (P.shape writer.now) (P.stands writer.now) octets.now
             self.old.octets.items self.new.octets.items self.old.lengths.items self.new.lengths.items result }
     {
+        if !is_whole || !reader.reads_ber() {
+            return 0;
+        }
+        self.add_whole(writer, last, octets, slot)
+    }
+
+    // Adds what stands for values in BER that are whole at the front, behind one of the octets `last`, and returns how many
+    // octets they have. Where fewer octets are left than the value before had, a value is mostly cut, and is not read.
+    //
+    // Values that come as they are written are mostly followed by more of them: they are copied up to the first that has
+    // come otherwise.
+    #[inline(never)]
+    fn add_whole<P: Put>(
+        &mut self,
+        writer: &P,
+        last: &[u8],
+        octets: &[u8],
+        slot: &mut Option<Value>,
+    ) -> usize
+        ensures copies { self.new.copies ≡ self.old.copies }
+        ensures added { AreAdded ber (P.shape writer.now) (P.stands writer.now) octets.now
+            self.old.octets.items self.new.octets.items self.old.lengths.items self.new.lengths.items result }
+    {
+        let mut as_written = self.octets.ends_with(last);
+        let mut size = last.len();
         let mut rest = octets;
-        while let Some(used) = self.copy_first(writer, rest, slot) {
-            rest = &rest[used..];
+        while size <= rest.len() && !self.is_full(writer) {
+            match self.add_first(writer, rest, as_written, slot) {
+                Some(used) => {
+                    rest = &rest[used..];
+                    size = used;
+                }
+                None if as_written => as_written = false,
+                None => break,
+            }
         }
         octets.len() - rest.len()
     }
 
+    // Adds what stands for the value that is whole at the front, and returns how many octets it has. As it is written it is
+    // copied, and not looked for otherwise.
+    #[inline(always)]
+    fn add_first<P: Put>(
+        &mut self,
+        writer: &P,
+        octets: &[u8],
+        as_written: bool,
+        slot: &mut Option<Value>,
+    ) -> Option<usize>
+        ensures copies { self.new.copies ≡ self.old.copies }
+        ensures added { IfSome result (IsFirstAdded (P.shape writer.now) (P.stands writer.now) octets.now
+            self.old.octets.items self.new.octets.items self.old.lengths.items self.new.lengths.items) }
+        ensures octets { result ≡ None → self.new.octets.items ≡ self.old.octets.items }
+        ensures lengths { result ≡ None → self.new.lengths.items ≡ self.old.lengths.items }
+    {
+        if as_written {
+            return self.copy_first(writer, octets, slot);
+        }
+        let used = writer.read_first(octets, slot)?;
+        let Some(value) = slot else {
+            return None;
+        };
+        self.add(writer, value, None).ok()?;
+        Some(used)
+    }
+
     // Adds the value at the front, where its encoding is whole and what is written for it, and returns how many octets it
     // has.
-    #[inline(always)]
+    #[inline(never)]
     fn copy_first<P: Put>(
         &mut self,
         writer: &P,
@@ -101,32 +173,18 @@ impl Batch {
         slot: &mut Option<Value>,
     ) -> Option<usize>
         ensures copies { self.new.copies ≡ self.old.copies }
-        ensures copied { IfSome result (IsCopied (P.shape writer.now) (P.stands writer.now) octets.now
+        ensures added { IfSome result (IsFirstAdded (P.shape writer.now) (P.stands writer.now) octets.now
             self.old.octets.items self.new.octets.items self.old.lengths.items self.new.lengths.items) }
         ensures octets { result ≡ None → self.new.octets.items ≡ self.old.octets.items }
         ensures lengths { result ≡ None → self.new.lengths.items ≡ self.old.lengths.items }
     {
-        if !self.may_be_whole(octets) {
-            return None;
-        }
         let used = writer.read_written(octets, slot)?;
         let Some(value) = slot else {
             return None;
         };
         let (front, _) = octets.split_at(used);
-        match self.add(writer, value, Some(front)) {
-            Ok(_) => Some(used),
-            Err(_) => None,
-        }
-    }
-
-    // Whether the octets may have a whole value as long as the last one: what is cut would be read in vain.
-    #[inline(always)]
-    fn may_be_whole(&self, octets: &[u8]) -> bool {
-        match self.lengths.last() {
-            Some(length) => *length <= octets.len(),
-            None => false,
-        }
+        self.add(writer, value, Some(front)).ok()?;
+        Some(used)
     }
 
     /// Gathers what stands for the values that the front of a piece completes, in place of what was gathered, and returns
@@ -161,26 +219,24 @@ impl Batch {
     {
         self.octets.clear();
         self.lengths.clear();
-        // Values that come from BER as they are written are mostly followed by more of them. These are copied, which is
-        // tried once in each piece.
-        let mut looks = reader.reads_ber();
         let mut rest = piece;
         while !rest.is_empty() {
-            let is_copied = self.copies && reader.finish().is_ok();
+            let is_whole = reader.finish().is_ok();
             let used = reader.feed(rest, slot)?;
             let Some(value) = slot else {
                 return Ok(piece.len());
             };
             let (front, behind) = rest.split_at(used);
-            let encoding = if is_copied { Some(front) } else { None };
-            if self.add(writer, value, encoding)? {
-                return Ok(piece.len() - behind.len());
-            }
-            rest = behind;
-            if looks && self.octets.ends_with(front) {
-                looks = false;
-                let copied = self.copy_written(writer, rest, slot);
-                rest = &rest[copied..];
+            let encoding = if is_whole && self.copies {
+                Some(front)
+            } else {
+                None
+            };
+            self.add(writer, value, encoding)?;
+            let added = self.add_more(reader, writer, is_whole, front, behind, slot);
+            rest = &behind[added..];
+            if self.is_full(writer) {
+                return Ok(piece.len() - rest.len());
             }
         }
         Ok(piece.len())

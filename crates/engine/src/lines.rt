@@ -27,6 +27,11 @@ impl Put for Lines<'_> {
         true
     }
 
+    #[inline(always)]
+    fn read_first(&self, octets: &[u8], slot: &mut Option<Value>) -> Option<usize> {
+        berreader::read_into(self.alloc, self.ty, octets, slot)
+    }
+
     fn read_written(&self, _octets: &[u8], _slot: &mut Option<Value>) -> Option<usize> {
         None
     }

@@ -7,13 +7,12 @@ ghost use Rattle.types.specs.Refusal.{IsOfWriting};
 ghost use Rattle.types.specs.Shape.{Shape, Val};
 ghost use Rattle.types.specs.View.{ty_view, value_view};
 ghost use Rattle.types.specs.Encoding.{IsAccepted};
-ghost use Rattle.engine.specs.Putting.{IsWritten};
+ghost use Rattle.engine.specs.Putting.{IsFirst, IsWritten};
 ghost use Rattle.engine.specs.Rule.{canonical_rule_of};
 
 use crate::Canonical;
 use canon::{Canon, Cer, Der};
 use std::alloc::Global;
-use strict::read_into;
 use types::{Refusal, Value, WellTyped};
 
 /// A writer of values of one type.
@@ -29,6 +28,11 @@ pub trait Put {
 
     /// Whether what stands for a value can be far longer than its encodings, as a text by the names of the type.
     fn can_outgrow(&self) -> bool;
+
+    /// Reads the encoding of a value in BER that is whole at the front into the slot, and returns how many octets it has.
+    /// Returns None where there is none, and the slot may then hold anything.
+    fn read_first(&self, octets: &[u8], slot: &mut Option<Value>) -> Option<usize>
+        ensures { IfSome result (IsFirst (shape self.now) slot.new octets.now) };
 
     /// Reads the octets at the front that stand for a value, and are an encoding of it in BER, into the slot, and returns
     /// how many they are. Returns None where they are not found: the slot may then hold anything.
@@ -66,14 +70,20 @@ impl Put for Encodings<'_> {
         false
     }
 
+    #[inline(always)]
+    fn read_first(&self, octets: &[u8], slot: &mut Option<Value>) -> Option<usize> {
+        berreader::read_into(self.alloc, self.ty, octets, slot)
+    }
+
     #[inline(never)]
     fn read_written(&self, octets: &[u8], slot: &mut Option<Value>) -> Option<usize> {
-        match read_into(self.alloc, self.to, self.ty, octets, slot) {
+        match strict::read_into(self.alloc, self.to, self.ty, octets, slot) {
             Ok(used) => Some(used),
             Err(_) => None,
         }
     }
 
+    #[inline(always)]
     fn put(&self, value: &Value, _room: &mut String, out: &mut Vec<u8>) -> Result<(), Refusal> {
         match self.to {
             Canonical::Cer => Cer.put(self.alloc, self.ty, value, out),
@@ -85,6 +95,7 @@ impl Put for Encodings<'_> {
 /// Writes nothing for a value.
 #[derive(Drop)]
 pub struct Nothing<'a> {
+    pub alloc: Global,
     pub ty: &'a WellTyped,
 }
 
@@ -97,6 +108,11 @@ impl Put for Nothing<'_> {
 
     fn can_outgrow(&self) -> bool {
         false
+    }
+
+    #[inline(always)]
+    fn read_first(&self, octets: &[u8], slot: &mut Option<Value>) -> Option<usize> {
+        berreader::read_into(self.alloc, self.ty, octets, slot)
     }
 
     fn read_written(&self, _octets: &[u8], _slot: &mut Option<Value>) -> Option<usize> {

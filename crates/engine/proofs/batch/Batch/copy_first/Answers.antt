@@ -5,4 +5,4 @@ use Rattle.engine.proofs.batch.Batch.copy_first.Goals as goal
 
 pub add-requires-clause-conforms : goal.add-requires-clause-conforms
 add-requires-clause-conforms g c =
-    encoded_conforms ber (g.P.Put.shape c.args.writer.now) (value_view c.in-Some.value) _ (rw c.in-Some.is at c.in_ok-used.ensures.read).encoding
+    encoded_conforms ber (g.P.Put.shape c.args.writer.now) (value_view c.in-Some.value) _ (rw c.in-Some.is at c.in_ok-used.ensures.first.read).encoding

@@ -1,5 +1,4 @@
-use Rattle.std.proofs.Common.{◌≡◌, ◌≤◌, ◌+◌, ◌-◌, ◌++◌, ℕ, List, IsTrue, drop, length}
-use Rattle.octets.specs.Rule.{ber}
+use Rattle.std.proofs.Common.{◌≡◌, ◌≤◌, ◌+◌, ◌-◌, ◌++◌, ℕ, List, drop, length}
 use Rattle.engine.specs.AnyReader.{read_rule, StandsBy}
 use Rattle.engine.specs.Feeding.{IsUnfinished}
 use Rattle.engine.specs.Passing.{Gathers}
@@ -12,7 +11,6 @@ invariant-loop-rest g l = record {
   gathers : (old : List ℕ) → IsUnfinished (StandsBy (g.P.Put.shape l.writer) l.initial.reader) (read_rule l.initial.reader) (g.P.Put.shape l.writer) old
       → (now : List ℕ) × IsUnfinished (StandsBy (g.P.Put.shape l.writer) l.reader) (read_rule l.initial.reader) (g.P.Put.shape l.writer) now
       × Gathers (read_rule l.initial.reader) (g.P.Put.shape l.writer) (g.P.Put.stands l.writer) (old ++ l.initial.rest) (now ++ l.rest) l.self.octets.items l.self.lengths.items;
-  by_ber : IsTrue l.looks → read_rule l.initial.reader ≡ ber;
   joined : l.rest ≡ drop (length l.initial.rest - length l.rest) l.initial.rest;
   few : length l.self.lengths.items + length l.rest ≤ length l.initial.rest;
 }
