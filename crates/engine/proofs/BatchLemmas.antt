@@ -1,19 +1,23 @@
 -- What is gathered and passed on of a piece, batch by batch.
-use Rattle.std.proofs.Common.{◌≡◌, ℕ, ◌+◌, ◌≤◌, List, [], ◌-◌, ◌++◌, length, take, drop, refl, sym, ap, ◌∙◌, append_assoc, arith, length-append, length-drop, append-nil, subst, take-append-drop, Option, Result, Ok, Err}
-use Rattle.std.specs.Prelude.{IfOk, IfErr}
+use Rattle.std.proofs.Common.{◌≡◌, ℕ, ◌+◌, ◌≤◌, List, [], ◌-◌, ◌++◌, length, take, drop, refl, sym, ap, ◌∙◌, append_assoc, arith, length-append, length-drop, append-nil, subst, take-append-drop, Option, None, Some, Result, Ok, Err}
+use Rattle.std.specs.Prelude.{IfOk, IfErr, MatchOption}
 use Rattle.std.specs.List.{concat}
-use Rattle.std.proofs.lemmas.List.{append_cancel_right, take_all, drop-drop}
+use Rattle.std.proofs.lemmas.List.{append_cancel_right, length_push, take_all, drop-drop}
 use Rattle.octets.specs.Rule.{Rule, ber}
 use Rattle.types.specs.declared.refusal.Refusal.{Refusal}
+use Rattle.types.specs.declared.value.Value.{Value}
+use Rattle.types.specs.Conforms.{Conforms}
 use Rattle.types.specs.Encoding.{Meaning}
 use Rattle.types.specs.Shape.{Shape}
+use Rattle.types.specs.View.{value_view}
 use Rattle.canon.proofs.PartLemmas.{take_two}
 use Rattle.devices.proofs.DeviceLemmas.{appends_none, appends_more}
 use Rattle.engine.specs.declared.any_reader.AnyReader.{AnyReader}
 use Rattle.engine.specs.AnyReader.{read_rule}
 use Rattle.engine.specs.Feeding.{IsUnfinished}
-use Rattle.engine.specs.Passing.{AreAdded, Gathers, IsFirstAdded, HasGathered, HasNotPassed, HasPassed, StopsGathering, Writes}
-use Rattle.engine.proofs.FeedingLemmas.{cut_piece}
+use Rattle.engine.specs.Passing.{AreAdded, Awaits, Gathers, HasGathered, HasNotPassed, HasPassed, IsAdded, StopsGathering, Writes}
+use Rattle.engine.specs.Putting.{IsFirst}
+use Rattle.engine.proofs.FeedingLemmas.{HasCompleted, accepted_conforms, cut_piece}
 use Rattle.engine.proofs.PassingLemmas.{gathers_more, writes_none, writes_on}
 use Rattle.engine.proofs.StrictReaderLemmas.{some_taken}
 
@@ -171,20 +175,55 @@ not_passed_on shape Stands CanBeTooLong old mid before now done refusal front mo
   numbers = rw p.same_rule at q.numbers;
 }
 
--- what is gathered goes on behind a value that is added
-pub gathers_first : (shape : Shape) (Stands : Meaning) (stream front octets octets_new lengths lengths_new : List ℕ) (used : ℕ) → IsFirstAdded shape Stands front octets octets_new lengths lengths_new used
-    → Gathers ber shape Stands stream front octets lengths → Gathers ber shape Stands stream (drop used front) octets_new lengths_new
-gathers_first shape Stands stream front octets octets_new lengths lengths_new used first g =
-    gathers_more ber shape Stands first.value stream front octets lengths (take used front) (drop used front) first.added.part octets_new lengths_new g
-    (sym (take-append-drop used front)) first.read first.added.stands first.added.octets_are first.added.lengths_are
+-- what is gathered goes on behind the value in the slot, which is added
+pub added_more : (rule : Rule) (shape : Shape) (Stands : Meaning) (stream rest octets octets_new lengths lengths_new : List ℕ) (value : Value) → IsAdded (Stands (value_view value)) octets octets_new lengths lengths_new
+    → Awaits rule shape Stands stream (Some value) rest octets lengths → Gathers rule shape Stands stream rest octets_new lengths_new
+added_more rule shape Stands stream rest octets octets_new lengths lengths_new value added awaits =
+    gathers_more rule shape Stands (value_view value) stream (awaits.encoding ++ rest) octets lengths awaits.encoding rest added.part octets_new lengths_new awaits.gathers
+    refl awaits.read added.stands added.octets_are added.lengths_are
 
--- at least one octet is taken for each
-pub first_some : (shape : Shape) (Stands : Meaning) (front octets octets_new lengths lengths_new : List ℕ) (used : ℕ) → IsFirstAdded shape Stands front octets octets_new lengths lengths_new used → 1 ≤ used
-first_some shape Stands front octets octets_new lengths lengths_new used first = some_taken ber shape first.value used front first.read
+-- what was added before the last value, and that one
+pub added_all : (rule : Rule) (shape : Shape) (Stands : Meaning) (slot : Option Value) (value : Value) (behind rest octets octets_mid octets_new lengths lengths_mid lengths_new : List ℕ)
+    → rest ≡ drop (length behind - length rest) behind → length rest ≤ length behind → length lengths_mid + length rest ≤ length lengths + length behind
+    → ((stream : List ℕ) → Awaits rule shape Stands stream slot behind octets lengths → Awaits rule shape Stands stream (Some value) rest octets_mid lengths_mid)
+    → IsAdded (Stands (value_view value)) octets_mid octets_new lengths_mid lengths_new → AreAdded rule shape Stands slot behind octets octets_new lengths lengths_new (length behind - length rest)
+added_all rule shape Stands slot value behind rest octets octets_mid octets_new lengths lengths_mid lengths_new joined within few before added = record {
+  there = omega (arith, within);
+  gathered = λ stream awaits. subst (λ left. Gathers rule shape Stands stream left octets_new lengths_new) joined
+      (added_more rule shape Stands stream rest octets_mid octets_new lengths_mid lengths_new value added (before stream awaits));
+  few = omega (arith, within, few, ap length added.lengths_are, length_push lengths_mid (length added.part));
+}
 
--- what is gathered goes on behind what is added
-pub gathered_further : (rule now : Rule) (shape : Shape) (Stands : Meaning) (stream behind rest octets octets_new lengths lengths_new : List ℕ) (used : ℕ) → now ≡ rule → rest ≡ drop used behind
-    → AreAdded now shape Stands behind octets octets_new lengths lengths_new used → Gathers rule shape Stands stream behind octets lengths → Gathers rule shape Stands stream rest octets_new lengths_new
-gathered_further rule now shape Stands stream behind rest octets octets_new lengths lengths_new used same rest_is added g =
-    let here = subst (λ r. AreAdded r shape Stands behind octets octets_new lengths lengths_new used) same added in
-    subst (λ left. Gathers rule shape Stands stream left octets_new lengths_new) (sym rest_is) (here.gathered stream g)
+-- the value that a piece completed is read
+pub awaits_completed : (StandsAt : List ℕ → Type 0) (rule : Rule) (shape : Shape) (Stands : Meaning) (slot : Option Value) (stream now left behind octets lengths : List ℕ) (used : ℕ)
+    → behind ≡ drop used left → HasCompleted StandsAt rule shape slot used now left → Gathers rule shape Stands stream (now ++ left) octets lengths → Awaits rule shape Stands stream slot behind octets lengths
+awaits_completed StandsAt rule shape Stands slot stream now left behind octets lengths used behind_is completed g = record {
+  encoding = now ++ take used left;
+  read = completed.accepted;
+  gathers = subst (λ front. Gathers rule shape Stands stream front octets lengths) (cut_piece now left behind used behind_is) g;
+}
+
+-- and what was gathered goes on behind it and those that are added
+pub gathered_behind : (StandsAt : List ℕ → Type 0) (rule : Rule) (shape : Shape) (Stands : Meaning) (slot : Option Value) (stream now left behind rest octets octets_new lengths lengths_new : List ℕ) (used added : ℕ)
+    → behind ≡ drop used left → rest ≡ drop added behind → HasCompleted StandsAt rule shape slot used now left → Gathers rule shape Stands stream (now ++ left) octets lengths
+    → AreAdded rule shape Stands slot behind octets octets_new lengths lengths_new added → Gathers rule shape Stands stream rest octets_new lengths_new
+gathered_behind StandsAt rule shape Stands slot stream now left behind rest octets octets_new lengths lengths_new used added behind_is rest_is completed g are_added =
+    subst (λ octets. Gathers rule shape Stands stream octets octets_new lengths_new) (sym rest_is)
+    (are_added.gathered stream (awaits_completed StandsAt rule shape Stands slot stream now left behind octets lengths used behind_is completed g))
+
+-- the next value is read behind those that are added
+pub awaits_next : (shape : Shape) (Stands : Meaning) (stream rest batch lengths : List ℕ) (slot : Option Value) (used : ℕ) → IsFirst shape slot rest used
+    → Gathers ber shape Stands stream rest batch lengths → Awaits ber shape Stands stream slot (drop used rest) batch lengths
+awaits_next shape Stands stream rest batch lengths slot used first g = record {
+  encoding = take used rest;
+  read = first.read;
+  gathers = subst (λ octets. Gathers ber shape Stands stream octets batch lengths) (sym (take-append-drop used rest)) g;
+}
+
+-- it conforms to the type, and has at least one octet
+pub first_conforms : (shape : Shape) (slot : Option Value) (octets : List ℕ) (used : ℕ) → IsFirst shape slot octets used → MatchOption slot ⊥ (λ value. Conforms shape (value_view value))
+first_conforms shape slot octets used first = accepted_conforms ber shape slot (take used octets) first.read
+
+pub first_some : (shape : Shape) (slot : Option Value) (octets : List ℕ) (used : ℕ) → IsFirst shape slot octets used → 1 ≤ used
+first_some shape None octets used first = absurd first.read
+first_some shape (Some value) octets used first = some_taken ber shape (value_view value) used octets first.read

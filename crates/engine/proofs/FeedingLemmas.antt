@@ -1,16 +1,19 @@
 -- What a reader over pieces led to, and what is gathered by it.
-use Rattle.std.proofs.Common.{◌≡◌, ◌≢◌, ℕ, ◌<◌, inl, inr, List, [], ◌∷◌, ◌++◌, length, take, drop, zero, suc, refl, sym, ap, ◌∙◌, append_assoc, arith, length-append, append-nil, subst, take-append-drop, Result, Ok, Err}
-use Rattle.std.specs.Prelude.{⊤, is_ok, IsTrue}
+use Rattle.std.proofs.Common.{◌≡◌, ◌≢◌, ℕ, ◌<◌, inl, inr, List, [], ◌∷◌, ◌++◌, length, take, drop, zero, suc, refl, sym, ap, ◌∙◌, append_assoc, arith, length-append, append-nil, subst, take-append-drop, Option, None, Some, Result, Ok, Err, true, false, ◌≤◌}
+use Rattle.std.specs.Prelude.{⊤, is_ok, is_some, IsTrue, MatchOption}
 use Rattle.octets.specs.Front.{HasFront}
 use Rattle.octets.specs.Rule.{Rule}
 use Rattle.types.specs.declared.refusal.Refusal.{Refusal}
-use Rattle.types.specs.declared.refusal.Refusal.TheVariants.{OutputTooLong}
+use Rattle.types.specs.declared.value.Value.{Value}
+use Rattle.types.specs.Conforms.{Conforms}
 use Rattle.types.specs.Encoding.{Meaning, IsEncoding, IsAccepted, IsSomeAccepted}
-use Rattle.types.specs.Refusal.{IsFinal, IsOfWriting}
-use Rattle.types.specs.Shape.{Shape, Val}
+use Rattle.types.specs.Refusal.{IsFinal}
+use Rattle.types.specs.Shape.{Shape}
+use Rattle.types.specs.View.{value_view}
 use Rattle.types.proofs.ApartInstances.{of_no_octets}
-use Rattle.engine.specs.Feeding.{IsFinished, IsOfFeeding, IsUnfinished}
-use Rattle.engine.specs.Passing.{Gathers, HasGathered, StopsGathering, StopsAnyway}
+use Rattle.types.proofs.EncodedLemmas.{encoded_conforms}
+use Rattle.engine.specs.Feeding.{IsFed, IsFinished, IsOfFeeding, IsUnfinished}
+use Rattle.engine.specs.Passing.{Awaits, Gathers, HasGathered, IsNotAdded, StopsGathering, StopsAnyway}
 use Rattle.engine.proofs.TranscodingLemmas.{cases_of_writing}
 use Rattle.engine.proofs.PassingLemmas.{memory_refused, nothing_to_write, refused_further}
 
@@ -59,14 +62,41 @@ feed_refused rule shape Stands refusal octets batch lengths now left some number
 }
 
 -- a value for which nothing can be added ends the gathering before it
-pub add_refused : (rule : Rule) (shape : Shape) (Stands : Meaning) (refusal : Refusal) (v : Val) (octets batch lengths batch_new lengths_new rest front behind : List ℕ)
-    → batch_new ≡ batch → lengths_new ≡ lengths → rest ≡ front ++ behind → IsAccepted rule shape v front → IsOfWriting refusal → (refusal ≡ OutputTooLong → (written : List ℕ) → ¬ Stands v written)
-    → Gathers rule shape Stands octets rest batch lengths → StopsGathering rule shape Stands refusal octets batch_new lengths_new
-add_refused rule shape Stands refusal v octets batch lengths batch_new lengths_new rest front behind same_batch same_lengths parts read numbers none g = record {
-  rest = rest;
-  gathers = subst (λ b. Gathers rule shape Stands octets rest b lengths_new) (sym same_batch) (subst (λ l. Gathers rule shape Stands octets rest batch l) (sym same_lengths) g);
-  stops = elim (cases_of_writing refusal numbers) [
-    | inl too_long ↦ subst (λ r. StopsAnyway rule shape Stands r rest []) (sym too_long) (nothing_to_write rule shape Stands v front behind rest parts read (none too_long))
-    | inr memory ↦ subst (λ r. StopsAnyway rule shape Stands r rest []) (sym memory) (memory_refused rule shape Stands rest)
-  ];
-}
+pub add_refused : (rule : Rule) (shape : Shape) (Stands : Meaning) (CanBeTooLong : Type 0) (refusal : Refusal) (slot : Option Value) (octets rest batch lengths : List ℕ)
+    → MatchOption slot ⊥ (λ value. IsNotAdded (Stands (value_view value)) CanBeTooLong refusal) → Awaits rule shape Stands octets slot rest batch lengths → StopsGathering rule shape Stands refusal octets batch lengths
+add_refused rule shape Stands CanBeTooLong refusal None octets rest batch lengths refused awaits = absurd refused
+add_refused rule shape Stands CanBeTooLong refusal (Some value) octets rest batch lengths refused awaits =
+    let left = awaits.encoding ++ rest in
+    record {
+      rest = left;
+      gathers = awaits.gathers;
+      stops = elim (cases_of_writing refusal refused.numbers) [
+        | inl too_long ↦ subst (λ r. StopsAnyway rule shape Stands r left []) (sym too_long) (nothing_to_write rule shape Stands (value_view value) awaits.encoding rest left refl awaits.read (refused.too_long too_long))
+        | inr memory ↦ subst (λ r. StopsAnyway rule shape Stands r left []) (sym memory) (memory_refused rule shape Stands left)
+      ];
+    }
+
+-- so many octets of a piece completed the value in the slot, behind those that were taken before it
+pub record HasCompleted (StandsAt : List ℕ → Type 0) (rule : Rule) (shape : Shape) (slot : Option Value) (used : ℕ) (old piece : List ℕ) : Type 0 where
+  pub some : 1 ≤ used
+  pub there : used ≤ length piece
+  pub accepted : MatchOption slot ⊥ (λ value. IsAccepted rule shape (value_view value) (old ++ take used piece))
+  pub fresh : StandsAt []
+
+-- what was fed, if a value is in the slot
+pub fed_some : (StandsAt : List ℕ → Type 0) (now rule : Rule) (shape : Shape) (slot : Option Value) (used : ℕ) (old piece : List ℕ) → now ≡ rule → is_some slot ≡ true
+    → IsFed StandsAt now shape (Ok used) slot old piece → HasCompleted StandsAt rule shape slot used old piece
+fed_some StandsAt now rule shape None used old piece same some fed = absurd (cc some)
+fed_some StandsAt now rule shape (Some value) used old piece same some fed =
+    record { some = fed.0.some; there = fed.0.there; accepted = subst (λ r. IsAccepted r shape (value_view value) (old ++ take used piece)) same fed.0.accepted; fresh = fed.1 }
+
+-- and if none is
+pub fed_none : (StandsAt : List ℕ → Type 0) (now rule : Rule) (shape : Shape) (slot : Option Value) (used : ℕ) (old piece : List ℕ) → now ≡ rule → is_some slot ≡ false
+    → IsFed StandsAt now shape (Ok used) slot old piece → IsUnfinished StandsAt rule shape (old ++ piece)
+fed_none StandsAt now rule shape None used old piece same none fed = subst (λ r. IsUnfinished StandsAt r shape (old ++ piece)) same (record { stands = fed.0; none = fed.1 })
+fed_none StandsAt now rule shape (Some value) used old piece same none fed = absurd (cc none)
+
+-- a value that was read conforms to the type
+pub accepted_conforms : (rule : Rule) (shape : Shape) (slot : Option Value) (octets : List ℕ) → MatchOption slot ⊥ (λ value. IsAccepted rule shape (value_view value) octets) → MatchOption slot ⊥ (λ value. Conforms shape (value_view value))
+accepted_conforms rule shape None octets accepted = accepted
+accepted_conforms rule shape (Some value) octets accepted = encoded_conforms rule shape (value_view value) octets accepted.encoding

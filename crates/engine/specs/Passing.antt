@@ -1,14 +1,16 @@
 -- A stream passed on piece by piece: what stands between two reads, and behind each piece. `StandsAt` is what is
 -- said of a reader and the octets that it took since it was fresh.
-use Rattle.std.specs.Prelude.{◌≡◌, ◌≤◌, ◌+◌, ℕ, List, [], ◌∷◌, ◌++◌, length, map, take, drop, Bool, IsTrue, Option}
+use Rattle.std.specs.Prelude.{◌≡◌, ◌≤◌, ◌+◌, ℕ, List, [], ◌∷◌, ◌++◌, length, map, drop, Bool, IsTrue, Option, MatchOption}
 use Rattle.std.specs.Io.KnownBytes.{Appends, Consumes}
 use Rattle.std.specs.List.{AllZip, concat}
-use Rattle.octets.specs.Rule.{Rule, ber}
+use Rattle.octets.specs.Rule.{Rule}
 use Rattle.types.specs.declared.refusal.Refusal.{Refusal}
 use Rattle.types.specs.declared.refusal.Refusal.TheVariants.{OutputTooLong}
+use Rattle.types.specs.declared.value.Value.{Value}
 use Rattle.types.specs.Encoding.{Meaning, IsAccepted}
 use Rattle.types.specs.Refusal.{IsOfWriting}
 use Rattle.types.specs.Shape.{Shape, Val}
+use Rattle.types.specs.View.{value_view}
 use Rattle.engine.specs.declared.any_reader.AnyReader.{AnyReader}
 use Rattle.engine.specs.AnyReader.{read_rule, StandsBy}
 use Rattle.engine.specs.Feeding.{IsUnfinished}
@@ -34,24 +36,30 @@ pub record IsAdded (Stands : List ℕ → Type 0) (octets octets_new lengths len
   pub octets_are : octets_new ≡ octets ++ part
   pub lengths_are : lengths_new ≡ lengths ++ length part ∷ []
 
--- so many octets at the front encode a value in BER, and what stands for it is added
-pub record IsFirstAdded (shape : Shape) (Stands : Meaning) (front octets octets_new lengths lengths_new : List ℕ) (used : ℕ) : Type 0 where
-  pub value : Val
-  pub there : used ≤ length front
-  pub read : IsAccepted ber shape value (take used front)
-  pub added : IsAdded (Stands value) octets octets_new lengths lengths_new
-
--- so many octets at the front are values by the rule, and what stands for each is added: what is gathered goes on behind them
-pub record AreAdded (rule : Rule) (shape : Shape) (Stands : Meaning) (front octets octets_new lengths lengths_new : List ℕ) (used : ℕ) : Type 0 where
-  pub there : used ≤ length front
-  pub gathered : (stream : List ℕ) → Gathers rule shape Stands stream front octets lengths → Gathers rule shape Stands stream (drop used front) octets_new lengths_new
-  pub few : length lengths_new ≤ length lengths + used
-
 -- nothing is added for the value, for a refusal
 pub record IsNotAdded (Stands : List ℕ → Type 0) (CanBeTooLong : Type 0) (refusal : Refusal) : Type 0 where
   pub too_long : refusal ≡ OutputTooLong → (octets : List ℕ) → ¬ Stands octets
   pub long : refusal ≡ OutputTooLong → CanBeTooLong
   pub numbers : IsOfWriting refusal
+
+-- in front of the rest stands the encoding of the value in the slot, for which nothing is gathered yet
+pub record Awaits (rule : Rule) (shape : Shape) (Stands : Meaning) (stream : List ℕ) (slot : Option Value) (rest batch lengths : List ℕ) : Type 0 where
+  pub encoding : List ℕ
+  pub read : MatchOption slot ⊥ (λ value. IsAccepted rule shape (value_view value) encoding)
+  pub gathers : Gathers rule shape Stands stream (encoding ++ rest) batch lengths
+
+-- what stands for the value in the slot is added, and for values by the rule in so many octets behind it
+pub record AreAdded (rule : Rule) (shape : Shape) (Stands : Meaning) (slot : Option Value) (behind octets octets_new lengths lengths_new : List ℕ) (used : ℕ) : Type 0 where
+  pub there : used ≤ length behind
+  pub gathered : (stream : List ℕ) → Awaits rule shape Stands stream slot behind octets lengths → Gathers rule shape Stands stream (drop used behind) octets_new lengths_new
+  pub few : length lengths_new ≤ length lengths + 1 + used
+
+-- or up to one for which nothing is added, which is in the slot then
+pub record AreAddedUpTo (rule : Rule) (shape : Shape) (Stands : Meaning) (CanBeTooLong : Type 0) (slot slot_new : Option Value) (behind octets octets_new lengths lengths_new : List ℕ) (refusal : Refusal) : Type 0 where
+  pub rest : List ℕ
+  pub gathered : (stream : List ℕ) → Awaits rule shape Stands stream slot behind octets lengths → Awaits rule shape Stands stream slot_new rest octets_new lengths_new
+  pub few : length lengths_new ≤ length lengths + length behind
+  pub refused : MatchOption slot_new ⊥ (λ value. IsNotAdded (Stands (value_view value)) CanBeTooLong refusal)
 
 -- the refusal is right, whatever came before the rest and whatever follows it
 pub record StopsAnyway (rule : Rule) (shape : Shape) (Stands : Meaning) (refusal : Refusal) (rest part : List ℕ) : Type 0 where

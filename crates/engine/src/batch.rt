@@ -1,15 +1,15 @@
 //! What stands for the values that a piece completes, gathered.
 
-ghost use Rattle.std.specs.Prelude.{◌≡◌, ◌≢◌, ◌≤◌, ℕ, List, [], ◌++◌, length, take, None, IsTrue, OnOk, OnErr, IfOk, IfErr, IfSome, MatchResult};
+ghost use Rattle.std.specs.Prelude.{◌≡◌, ◌≢◌, ◌≤◌, ℕ, List, [], ◌++◌, length, take, None, IsTrue, OnOk, OnErr, IfOk, IfErr, IfSome, MatchOption, MatchResult};
 ghost use Rattle.types.specs.Conforms.{Conforms};
 ghost use Rattle.types.specs.Encoding.{IsAccepted};
 ghost use Rattle.types.specs.Shape.{Val};
 ghost use Rattle.types.specs.View.{value_view};
 ghost use Rattle.octets.specs.Front.{Appends};
-ghost use Rattle.octets.specs.Rule.{ber};
 ghost use Rattle.engine.specs.AnyReader.{read_rule, StandsBy};
 ghost use Rattle.engine.specs.Feeding.{IsUnfinished};
-ghost use Rattle.engine.specs.Passing.{IsAdded, IsFirstAdded, AreAdded, IsNotAdded, HasGathered, StopsGathering};
+ghost use Rattle.engine.specs.Putting.{IsFirst, IsWritten};
+ghost use Rattle.engine.specs.Passing.{IsAdded, IsNotAdded, AreAdded, AreAddedUpTo, HasGathered, StopsGathering};
 ghost use Rattle.engine.specs.Refusal.{IsOfGathering};
 
 use crate::any_reader::AnyReader;
@@ -81,110 +81,52 @@ impl Batch {
         writer.can_outgrow() && self.octets.len() >= FULL
     }
 
-    // Adds what stands for values that are whole at the front, behind one of the octets `last`, if that was whole in the
-    // piece and the reader is one of BER, and returns how many octets they have.
-    #[inline(always)]
-    fn add_more<P: Put>(
+    // Adds what stands for the value in the slot, which ends with the octets `front`, and for those that are whole in front
+    // of what is `behind` it, and returns how many octets these have. Others are read in BER alone, where the one in the
+    // slot `is_whole` in the piece, and while no fewer octets are left than the last one has: else the next is mostly cut.
+    //
+    // There is one place that adds, for the first value and the others: so the writer stands in the loop, not in a call.
+    #[inline(never)]
+    fn add_read<P: Put>(
         &mut self,
         reader: &AnyReader<'_>,
         writer: &P,
         is_whole: bool,
-        last: &[u8],
-        octets: &[u8],
+        front: &[u8],
+        behind: &[u8],
         slot: &mut Option<Value>,
-    ) -> usize
+    ) -> Result<usize, Refusal>
+        requires conforms { MatchOption slot.old ⊥ (λ value. Conforms (P.shape writer.now) (value_view value)) }
+        requires copied { IsTrue self.old.copies → IsTrue is_whole → MatchOption slot.old ⊥ (λ value. P.stands writer.now (value_view value) front.now) }
         ensures copies { self.new.copies ≡ self.old.copies }
-        ensures added { AreAdded (read_rule reader.now) (P.shape writer.now) (P.stands writer.now) octets.now
-            self.old.octets.items self.new.octets.items self.old.lengths.items self.new.lengths.items result }
+        ensures added { IfOk result (AreAdded (read_rule reader.now) (P.shape writer.now) (P.stands writer.now) slot.old behind.now
+            self.old.octets.items self.new.octets.items self.old.lengths.items self.new.lengths.items) }
+        ensures refused { IfErr result (AreAddedUpTo (read_rule reader.now) (P.shape writer.now) (P.stands writer.now) P.can_be_too_long
+            slot.old slot.new behind.now self.old.octets.items self.new.octets.items self.old.lengths.items self.new.lengths.items) }
     {
-        if !is_whole || !reader.reads_ber() {
-            return 0;
-        }
-        self.add_whole(writer, last, octets, slot)
-    }
-
-    // Adds what stands for values in BER that are whole at the front, behind one of the octets `last`, and returns how many
-    // octets they have. Where fewer octets are left than the value before had, a value is mostly cut, and is not read.
-    //
-    // Values that come as they are written are mostly followed by more of them: they are copied up to the first that has
-    // come otherwise.
-    #[inline(never)]
-    fn add_whole<P: Put>(
-        &mut self,
-        writer: &P,
-        last: &[u8],
-        octets: &[u8],
-        slot: &mut Option<Value>,
-    ) -> usize
-        ensures copies { self.new.copies ≡ self.old.copies }
-        ensures added { AreAdded ber (P.shape writer.now) (P.stands writer.now) octets.now
-            self.old.octets.items self.new.octets.items self.old.lengths.items self.new.lengths.items result }
-    {
-        let mut as_written = self.octets.ends_with(last);
-        let mut size = last.len();
-        let mut rest = octets;
-        while size <= rest.len() && !self.is_full(writer) {
-            match self.add_first(writer, rest, as_written, slot) {
-                Some(used) => {
-                    rest = &rest[used..];
-                    size = used;
+        let mut as_written = is_whole && self.copies;
+        let mut last = front;
+        let mut rest = behind;
+        loop {
+            let Some(value) = slot else { unreachable!() };
+            let encoding = if as_written { Some(last) } else { None };
+            self.add(writer, value, encoding)?;
+            if rest.len() == behind.len() {
+                if !is_whole || !reader.reads_ber() {
+                    return Ok(0);
                 }
-                None if as_written => as_written = false,
-                None => break,
+                as_written = self.octets.ends_with(front);
             }
+            if last.len() > rest.len() || self.is_full(writer) {
+                return Ok(behind.len() - rest.len());
+            }
+            let Some(used) = read_next(writer, rest, &mut as_written, slot) else {
+                return Ok(behind.len() - rest.len());
+            };
+            let (next, others) = rest.split_at(used);
+            last = next;
+            rest = others;
         }
-        octets.len() - rest.len()
-    }
-
-    // Adds what stands for the value that is whole at the front, and returns how many octets it has. As it is written it is
-    // copied, and not looked for otherwise.
-    #[inline(always)]
-    fn add_first<P: Put>(
-        &mut self,
-        writer: &P,
-        octets: &[u8],
-        as_written: bool,
-        slot: &mut Option<Value>,
-    ) -> Option<usize>
-        ensures copies { self.new.copies ≡ self.old.copies }
-        ensures added { IfSome result (IsFirstAdded (P.shape writer.now) (P.stands writer.now) octets.now
-            self.old.octets.items self.new.octets.items self.old.lengths.items self.new.lengths.items) }
-        ensures octets { result ≡ None → self.new.octets.items ≡ self.old.octets.items }
-        ensures lengths { result ≡ None → self.new.lengths.items ≡ self.old.lengths.items }
-    {
-        if as_written {
-            return self.copy_first(writer, octets, slot);
-        }
-        let used = writer.read_first(octets, slot)?;
-        let Some(value) = slot else {
-            return None;
-        };
-        self.add(writer, value, None).ok()?;
-        Some(used)
-    }
-
-    // Adds the value at the front, where its encoding is whole and what is written for it, and returns how many octets it
-    // has.
-    #[inline(never)]
-    fn copy_first<P: Put>(
-        &mut self,
-        writer: &P,
-        octets: &[u8],
-        slot: &mut Option<Value>,
-    ) -> Option<usize>
-        ensures copies { self.new.copies ≡ self.old.copies }
-        ensures added { IfSome result (IsFirstAdded (P.shape writer.now) (P.stands writer.now) octets.now
-            self.old.octets.items self.new.octets.items self.old.lengths.items self.new.lengths.items) }
-        ensures octets { result ≡ None → self.new.octets.items ≡ self.old.octets.items }
-        ensures lengths { result ≡ None → self.new.lengths.items ≡ self.old.lengths.items }
-    {
-        let used = writer.read_written(octets, slot)?;
-        let Some(value) = slot else {
-            return None;
-        };
-        let (front, _) = octets.split_at(used);
-        self.add(writer, value, Some(front)).ok()?;
-        Some(used)
     }
 
     /// Gathers what stands for the values that the front of a piece completes, in place of what was gathered, and returns
@@ -223,17 +165,11 @@ impl Batch {
         while !rest.is_empty() {
             let is_whole = reader.finish().is_ok();
             let used = reader.feed(rest, slot)?;
-            let Some(value) = slot else {
+            if slot.is_none() {
                 return Ok(piece.len());
-            };
+            }
             let (front, behind) = rest.split_at(used);
-            let encoding = if is_whole && self.copies {
-                Some(front)
-            } else {
-                None
-            };
-            self.add(writer, value, encoding)?;
-            let added = self.add_more(reader, writer, is_whole, front, behind, slot);
+            let added = self.add_read(reader, writer, is_whole, front, behind, slot)?;
             rest = &behind[added..];
             if self.is_full(writer) {
                 return Ok(piece.len() - rest.len());
@@ -241,6 +177,27 @@ impl Batch {
         }
         Ok(piece.len())
     }
+}
+
+// Reads the value in BER that is whole at the front into the slot, and returns how many octets it has. Values that come
+// as they are written are mostly followed by more of them: such a one is looked for until one has come otherwise.
+#[inline(always)]
+fn read_next<P: Put>(
+    writer: &P,
+    octets: &[u8],
+    as_written: &mut bool,
+    slot: &mut Option<Value>,
+) -> Option<usize>
+    ensures first { IfSome result (IsFirst (P.shape writer.now) slot.new octets.now) }
+    ensures written { IsTrue as_written.new → IfSome result (IsWritten (P.stands writer.now) (P.shape writer.now) slot.new octets.now) }
+{
+    if *as_written {
+        if let Some(used) = writer.read_written(octets, slot) {
+            return Some(used);
+        }
+        *as_written = false;
+    }
+    writer.read_first(octets, slot)
 }
 
 // Appends what stands for a value: these octets, if there are any.
