@@ -34,14 +34,8 @@ pub fn put_type(
             Ok(around(within))
         }
         Ty::Choice(alternatives) => put_alternatives(alloc, alternatives, level, out),
-        Ty::Enumerated(_, items) => {
-            put_item_lines(items, level, out)?;
-            Ok(LEAF)
-        }
-        Ty::NamedBits(_, bits) => {
-            put_bit_lines(bits, level, out)?;
-            Ok(LEAF)
-        }
+        Ty::Enumerated(_, items) => put_item_lines(items, level, out),
+        Ty::NamedBits(_, bits) => put_bit_lines(bits, level, out),
         Ty::Boolean(_)
         | Ty::Integer(_)
         | Ty::Null(_)
@@ -155,26 +149,27 @@ fn put_head(
     Ok(())
 }
 
-fn put_item_lines(items: &[Item], level: usize, out: &mut String) -> Result<(), NoMemory> {
+// Appends the lines of items.
+fn put_item_lines(items: &[Item], level: usize, out: &mut String) -> Result<Size, NoMemory> {
     for item in items {
-        for _ in 0..=level {
-            out.push_str("  ")?;
-        }
-        let name = item.name.as_str();
-        let number = item.number;
-        write!(out, "{name}({number})\n")?;
+        put_number(item.name.as_str(), item.number, level, out)?;
     }
-    Ok(())
+    Ok(LEAF)
 }
 
-fn put_bit_lines(bits: &[NamedBit], level: usize, out: &mut String) -> Result<(), NoMemory> {
+// Appends the lines of named bits.
+fn put_bit_lines(bits: &[NamedBit], level: usize, out: &mut String) -> Result<Size, NoMemory> {
     for bit in bits {
-        for _ in 0..=level {
-            out.push_str("  ")?;
-        }
-        let name = bit.name.as_str();
-        let number = bit.number;
-        write!(out, "{name}({number})\n")?;
+        put_number(bit.name.as_str(), i128::from(bit.number), level, out)?;
     }
+    Ok(LEAF)
+}
+
+// Appends the line of a name and its number, one level under what holds it.
+fn put_number(name: &str, number: i128, level: usize, out: &mut String) -> Result<(), NoMemory> {
+    for _ in 0..=level {
+        out.push_str("  ")?;
+    }
+    write!(out, "{name}({number})\n")?;
     Ok(())
 }
