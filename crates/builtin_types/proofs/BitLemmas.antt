@@ -1,18 +1,13 @@
 -- The numbers of named bits, and the bits that are written behind DEFAULT.
-use Rattle.std.proofs.Common.{All, ◌≡◌, ◌≢◌, ◌↔◌, ◌-◌, ◌<◌, ◌≤◌, ℕ, ℤ, Bool, pos, List, ◌∷◌, Option, Some, None, IfSome, IsNone, map, length, get_or, refl, sym, ◌∙◌, subst, arith}
+use Rattle.std.proofs.Common.{All, ◌≡◌, ◌≢◌, ◌↔◌, ◌≤◌, ℕ, ℤ, Bool, pos, List, ◌∷◌, Option, Some, None, IfSome, IsNone, map, refl, sym, subst}
 use Rattle.std.specs.Prelude.{MatchOption, Result, Ok, Err, IfOk}
 use Rattle.std.specs.List.{AllPairs}
-use Rattle.std.specs.List.Sorted.{IsPermutation, IsSorted}
-use Rattle.std.specs.Ordering.{int_cmp}
-use Rattle.std.proofs.lemmas.List.{get_or_default}
+use Rattle.std.specs.List.Sorted.{IsPermutation}
 use Rattle.std.proofs.lemmas.List.Elements.{All-head, All-tail, All-cons}
-use Rattle.std.proofs.lemmas.List.Sorted.{IsPermutation-sym}
-use Rattle.types.proofs.ItemLemmas.{differ_as_naturals}
-use Rattle.types.proofs.PairLemmas.{AllPairs-permutation}
+use Rattle.types.proofs.ItemLemmas.{AllDiffer, differ_as_naturals, differ_moved, moved_back}
 use Rattle.syntax.specs.declared.tree.NamedBit.{NamedBit}
 use Rattle.syntax.specs.Tree.{Value, binary_value}
 use Rattle.builtin_types.specs.Defaults.{AreWritten, binary_string}
-use Rattle.builtin_types.proofs.AscendingLemmas.{DifferBelow, all_differ, flipped}
 
 abbrev pub NumbersWithin : List NamedBit → Type 0
 NumbersWithin bits = All (λ (bit : NamedBit). bit.number ≤ 65535) bits
@@ -24,16 +19,12 @@ numbers_first bit bits =
 abbrev pub numbers : List NamedBit → List ℕ
 numbers bits = map (λ (bit : NamedBit). bit.number) bits
 
--- in order, the numbers differ where none is that before it
-pub numbers_apart : (ns : List ℕ) (sorted : List ℤ) → IsPermutation (map pos ns) sorted → IsSorted int_cmp sorted → DifferBelow sorted (length sorted) → AllPairs (λ a b. a ≢ b) ns
-numbers_apart ns sorted same ascending differ =
-    (differ_as_naturals ns).0 (AllPairs-permutation (λ (a b : ℤ). a ≢ b) flipped sorted (map pos ns) (IsPermutation-sym (map pos ns) sorted same) (all_differ sorted ascending differ))
-
--- and where one is, they do not
-pub numbers_repeat : (ns : List ℕ) (sorted : List ℤ) (place : ℕ) (x y : ℤ) → IsPermutation (map pos ns) sorted → 1 ≤ place → place < length sorted → x ≡ get_or sorted (place - 1) x → y ≡ get_or sorted place y → x ≡ y → AllPairs (λ a b. a ≢ b) ns → ⊥
-numbers_repeat ns sorted place x y order some within x_is y_is same differ =
-    let left : x ≡ get_or sorted (place - 1) y = x_is ∙ get_or_default sorted (place - 1) x y (omega (arith, within)) in
-    AllPairs-permutation (λ (a b : ℤ). a ≢ b) flipped (map pos ns) sorted order ((differ_as_naturals ns).1 differ) (place - 1) place y (omega (arith, some)) within (sym left ∙ same ∙ y_is)
+-- in order, the numbers differ where they do as they are written
+pub numbers_apart : (ns : List ℕ) (sorted : List ℤ) → IsPermutation (map pos ns) sorted → AllDiffer sorted ↔ AllPairs (λ a b. a ≢ b) ns
+numbers_apart ns sorted same = (
+  λ h. (differ_as_naturals ns).0 (moved_back (map pos ns) sorted same h),
+  λ h. differ_moved (map pos ns) sorted same ((differ_as_naturals ns).1 h),
+)
 
 -- what the bits of a string are, by what it is spelled as
 pub binary_taken : {E : Type 0} (written : Value) (spelled : List ℕ) (found : Result (Option (List Bool)) E) → written ≡ binary_value spelled

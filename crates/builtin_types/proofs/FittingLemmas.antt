@@ -4,11 +4,12 @@ use Rattle.std.specs.List.{AllPairs}
 use Rattle.std.specs.Int.{w128}
 use Rattle.std.specs.Prelude.{IsNone, is_some}
 use Rattle.std.proofs.lemmas.Bool.{false≢true}
+use Rattle.types.proofs.ItemLemmas.{AllDiffer, differ_moved, moved_back}
 use Rattle.types.proofs.ListLemmas.{not_in_nil, contains_first, contains_later, contains_cases, first_differs, others_differ, all_differ-cons}
 use Rattle.syntax.specs.declared.tree.SignedNumber.{SignedNumber}
 use Rattle.syntax.specs.Tree.{Entry}
-use Rattle.builtin_types.specs.Numbering.{number_of, written_numbers, AreWithin}
-use Rattle.builtin_types.specs.Written.{AreFitting}
+use Rattle.builtin_types.specs.Numbering.{number_of, written_numbers, AreWithin, NumbersDiffer}
+use Rattle.builtin_types.specs.Written.{AreFitting, HasWritten}
 
 -- one more, which is of 128 bits
 pub fitting_push : (ns ws : List ℤ) (n z : ℤ) → FitsSigned w128 n → z ≡ n → AreFitting ns ws → AreFitting (ns ++ n ∷ []) (ws ++ z ∷ [])
@@ -50,7 +51,7 @@ fitting_each (m ∷ ns) ws h number fits c = elim h [
 ]
 
 -- where all differ these do
-pub fitting_differ : (ns ws : List ℤ) → AreFitting ns ws → AllPairs (λ (a b : ℤ). a ≢ b) ns → AllPairs (λ (a b : ℤ). a ≢ b) ws
+fitting_differ : (ns ws : List ℤ) → AreFitting ns ws → AllPairs (λ (a b : ℤ). a ≢ b) ns → AllPairs (λ (a b : ℤ). a ≢ b) ws
 fitting_differ [] ws h differ = subst (AllPairs (λ (a b : ℤ). a ≢ b)) (sym h) differ
 fitting_differ (m ∷ ns) ws h differ = elim h [
   | inl k ↦ subst (AllPairs (λ (a b : ℤ). a ≢ b)) (sym k.1.1) (all_differ-cons m k.1.0 (λ c. first_differs m ns differ (fitting_only ns k.1.0 k.1.2 m c)) (fitting_differ ns k.1.0 k.1.2 (others_differ m ns differ)))
@@ -58,12 +59,20 @@ fitting_differ (m ∷ ns) ws h differ = elim h [
 ]
 
 -- where all are of 128 bits these are all
-pub fitting_all : (ns ws : List ℤ) → AreFitting ns ws → ((number : ℤ) → Contains ns number → FitsSigned w128 number) → ws ≡ ns
+fitting_all : (ns ws : List ℤ) → AreFitting ns ws → ((number : ℤ) → Contains ns number → FitsSigned w128 number) → ws ≡ ns
 fitting_all [] ws h within = h
 fitting_all (m ∷ ns) ws h within = elim h [
   | inl k ↦ k.1.1 ∙ ap (λ (l : List ℤ). m ∷ l) (fitting_all ns k.1.0 k.1.2 (λ n c. within n (contains_later m n ns c)))
   | inr k ↦ absurd (k.0 (within m (contains_first m m ns refl)))
 ]
+
+-- so where those in order differ, the written ones do, if all are of 128 bits
+pub written_differ : (entries : List Entry) (written : List ℤ) → HasWritten entries written → AllDiffer written → AreWithin entries → NumbersDiffer entries
+written_differ entries written h differ within = subst AllDiffer (fitting_all (written_numbers entries) h.fitting h.are within) (moved_back h.fitting written h.order differ)
+
+-- and where the written ones do, those in order do
+pub differ_written : (entries : List Entry) (written : List ℤ) → HasWritten entries written → NumbersDiffer entries → AllDiffer written
+differ_written entries written h differ = differ_moved h.fitting written h.order (fitting_differ (written_numbers entries) h.fitting h.are differ)
 
 -- whether the numbers of more entries are of 128 bits
 pub within_written : (name : List ℕ) (value : Option SignedNumber) (number : SignedNumber) (entries : List Entry) → value ≡ Some number → AreWithin ((name, value) ∷ entries) ↔ (FitsSigned w128 (number_of number) × AreWithin entries)

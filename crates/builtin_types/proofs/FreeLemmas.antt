@@ -81,7 +81,7 @@ under_way-equal written from passed next within here h = record {
       subst (λ (n : ℤ). Contains written n) (here ∙ sym same) (Contains-get_or written passed (pos 0) within));
 }
 
-pub not_below_by : (a b : ℤ) (r : Ordering) → is_lt r ≡ false → MatchOrdering r (a <ℤ b) (a ≡ b) (b <ℤ a) → a <ℤ b → ⊥
+not_below_by : (a b : ℤ) (r : Ordering) → is_lt r ≡ false → MatchOrdering r (a <ℤ b) (a ≡ b) (b <ℤ a) → a <ℤ b → ⊥
 not_below_by a b Less never told less = absurd (cc never)
 not_below_by a b Equal never told less = absurd (omega (arith, ints, told, less))
 not_below_by a b Greater never told less = absurd (omega (arith, ints, told, less))

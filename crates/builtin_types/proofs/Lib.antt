@@ -11,7 +11,6 @@ pub mod NumberInstances
 pub mod DefaultInstances
 pub mod ItemLemmas
 pub mod FreeLemmas
-mod AscendingLemmas
 pub mod EntryLemmas
 pub mod EnteredLemmas
 pub mod WrittenTagLemmas

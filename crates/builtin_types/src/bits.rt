@@ -8,6 +8,7 @@ ghost use Rattle.syntax.specs.View.{bit};
 ghost use Rattle.types.specs.View.{named_bit_view};
 ghost use Rattle.builtin_types.specs.Universal.{named_bit};
 
+use crate::differing::ascending_differ;
 use std::alloc::{AllocError, Global};
 use syntax::NamedBit;
 use types::MAX_NAMED_BIT;
@@ -29,12 +30,7 @@ pub fn bit_numbers_differ(alloc: Global, bits: &[NamedBit]) -> Result<bool, Allo
     ensures { IfOk result (λ differ. IsTrue differ ↔ AllPairs (λ number other. number ≢ other) (map (λ bit. bit.number) bits.now)) }
 {
     let numbers = numbers_of(alloc, bits)?;
-    for place in 1..numbers.len() {
-        if numbers[place - 1] == numbers[place] {
-            return Ok(false);
-        }
-    }
-    Ok(true)
+    Ok(ascending_differ(&numbers))
 }
 
 /// The numbers of the bits, ascending.

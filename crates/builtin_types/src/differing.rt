@@ -1,6 +1,8 @@
-//! Whether the names of a list differ (X.680 clauses 20, 22, 25, 27 and 29).
+//! Whether the names of a list differ (X.680 clauses 20, 22, 25, 27 and 29), and numbers in order.
 
-ghost use Rattle.std.specs.Prelude.{◌↔◌, IfOk, IsTrue, map};
+ghost use Rattle.std.specs.Prelude.{◌≢◌, ◌↔◌, AllPairs, IfOk, IsTrue, map};
+ghost use Rattle.std.specs.List.Sorted.{IsSorted};
+ghost use Rattle.std.specs.Ordering.{int_cmp};
 ghost use Rattle.syntax.specs.View.{component, alternative, entry, bit};
 ghost use Rattle.builtin_types.specs.Names.{NamesDiffer, IsEntered};
 
@@ -70,4 +72,17 @@ pub fn named_bits_differ(alloc: Global, bits: &[NamedBit]) -> Result<bool, Alloc
         }
     }
     Ok(true)
+}
+
+// Whether ascending numbers differ. Equal ones are neighbours.
+pub(crate) fn ascending_differ(numbers: &[i128]) -> bool
+    requires { IsSorted int_cmp numbers.now }
+    ensures { IsTrue result ↔ AllPairs (λ a b. a ≢ b) numbers.now }
+{
+    for place in 1..numbers.len() {
+        if numbers[place - 1] == numbers[place] {
+            return false;
+        }
+    }
+    true
 }

@@ -10,6 +10,7 @@ ghost use Rattle.types.specs.View.{item_view};
 ghost use Rattle.builtin_types.specs.Numbering.{number_of, AreWithin, NumbersDiffer, AreItems};
 ghost use Rattle.builtin_types.specs.Written.{HasWritten, IsFree, IsPassed, farthest};
 
+use crate::differing::ascending_differ;
 use crate::stop::{Cause, Stop};
 use std::alloc::{AllocError, Global};
 use syntax::{Item, SignedNumber};
@@ -55,12 +56,7 @@ pub fn numbers_differ(alloc: Global, items: &[Item]) -> Result<bool, AllocError>
     ensures within { IfOk result (λ differ. IsTrue differ → AreWithin (map entry items.now) → NumbersDiffer (map entry items.now)) }
 {
     let written = written_numbers(alloc, items)?;
-    for place in 1..written.len() {
-        if written[place - 1] == written[place] {
-            return Ok(false);
-        }
-    }
-    Ok(true)
+    Ok(ascending_differ(&written))
 }
 
 /// The numbers that are written, ascending.
