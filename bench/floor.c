@@ -7,9 +7,10 @@
  *     floor convert WORK FILE      writes the values of the file under DER
  *     floor module WORK            writes the module that has the type, whose name is Value; certificates have
  *                                  examples/certificates.asn, and the type Certificate
- *     floor measure RUNS WORD..    runs the command of these words so many times, its standard output unread, and
- *                                  prints the median of its processor time in microseconds, and the most memory
- *                                  that was resident, in KiB
+ *     floor measure RUNS WORD.. [-- WORD..]..
+ *                                  runs each command of these words so many times, in turn, its standard output
+ *                                  unread, and prints a line for each: the median of its processor time in
+ *                                  microseconds, and the most memory that was resident, in KiB
  *
  * It reads and writes by buffers. It takes the definite and the indefinite form, lengths in
  * more octets than needed, and at most 1,048,576 octets a value, checks all that BER asks of these types, and
@@ -1540,34 +1541,55 @@ static int64_t micros(struct timeval time)
     return (int64_t)time.tv_sec * 1000000 + time.tv_usec;
 }
 
+/* Runs a command once, and returns its processor time; `memory` becomes what it had resident, where that is more. */
+static int64_t run_once(char **words, int64_t *memory)
+{
+    pid_t child = fork();
+    if (child < 0)
+        die("cannot start a process");
+    if (child == 0) {
+        int nowhere = open("/dev/null", O_WRONLY);
+        if (nowhere < 0 || dup2(nowhere, 1) < 0)
+            _exit(126);
+        execv(words[0], words);
+        _exit(127);
+    }
+    int status;
+    struct rusage usage;
+    if (wait4(child, &status, 0, &usage) < 0)
+        die("cannot wait");
+    if (usage.ru_maxrss > *memory)
+        *memory = usage.ru_maxrss;
+    if (!WIFEXITED(status) || WEXITSTATUS(status) != 0)
+        die("the command did not end with status 0");
+    return micros(usage.ru_utime) + micros(usage.ru_stime);
+}
+
+/* The commands are run in turn: what makes the machine slower for a while does so for each of them. */
 static int measure(int runs, char **words)
 {
-    int64_t processor[100], memory = 0;
-    if (runs < 1 || runs > 100)
+    enum { MOST_RUNS = 100, MOST_COMMANDS = 8 };
+    static int64_t processor[MOST_COMMANDS][MOST_RUNS], memory[MOST_COMMANDS];
+    char **commands[MOST_COMMANDS];
+    int count = 0;
+    if (runs < 1 || runs > MOST_RUNS)
         die("1 to 100 runs");
-    for (int run = 0; run < runs; run++) {
-        pid_t child = fork();
-        if (child < 0)
-            die("cannot start a process");
-        if (child == 0) {
-            int nowhere = open("/dev/null", O_WRONLY);
-            if (nowhere < 0 || dup2(nowhere, 1) < 0)
-                _exit(126);
-            execv(words[0], words);
-            _exit(127);
-        }
-        int status;
-        struct rusage usage;
-        if (wait4(child, &status, 0, &usage) < 0)
-            die("cannot wait");
-        processor[run] = micros(usage.ru_utime) + micros(usage.ru_stime);
-        if (usage.ru_maxrss > memory)
-            memory = usage.ru_maxrss;
-        if (!WIFEXITED(status) || WEXITSTATUS(status) != 0)
-            die("the command did not end with status 0");
+    for (char **word = words; word[0] != NULL; count++) {
+        if (count == MOST_COMMANDS)
+            die("1 to 8 commands");
+        commands[count] = word;
+        while (word[0] != NULL && strcmp(word[0], "--") != 0)
+            word++;
+        if (word[0] != NULL)
+            *word++ = NULL;
     }
-    qsort(processor, (size_t)runs, sizeof *processor, ascending);
-    printf("%lld %lld\n", (long long)processor[runs / 2], (long long)memory);
+    for (int run = 0; run < runs; run++)
+        for (int i = 0; i < count; i++)
+            processor[i][run] = run_once(commands[i], &memory[i]);
+    for (int i = 0; i < count; i++) {
+        qsort(processor[i], (size_t)runs, sizeof *processor[i], ascending);
+        printf("%lld %lld\n", (long long)processor[i][runs / 2], (long long)memory[i]);
+    }
     return 0;
 }
 
@@ -1576,7 +1598,7 @@ int main(int count, char **words)
     if (count >= 4 && strcmp(words[1], "measure") == 0)
         return measure(atoi(words[2]), words + 3);
     if (count < 3) {
-        fprintf(stderr, "usage: floor make WORK | convert WORK FILE | module WORK | measure RUNS WORD..\n");
+        fprintf(stderr, "usage: floor make WORK | convert WORK FILE | module WORK | measure RUNS WORD.. [-- WORD..]..\n");
         return 64;
     }
     const struct work *work = work_of(words[2]);

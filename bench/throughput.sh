@@ -40,8 +40,9 @@
 # a string, a SEQUENCE OF NULL, a SET OF INTEGER or, from BER and from DER, a SEQUENCE OF a CHOICE of 1 MiB; a list of
 # values that have parts takes more.
 #
-# A time is processor time, the median of five runs, and of a hundred over one NULL. The last line names the bounds
-# that are not held.
+# A time is processor time, the median of five runs, and of a hundred over one NULL. The programs of a row are run in
+# turn, so that a machine that gets slower for a while does so for all of them. The last line names the bounds that are
+# not held.
 set -euo pipefail
 shopt -s inherit_errexit
 
@@ -68,9 +69,13 @@ hold() {
         $((ratio / 100)) $((ratio % 100)) $(($2 / 100)) $(($2 % 100)) "$verdict"
 }
 
-# Sets `took` and `resident` to what the command of these words needs.
+# Sets `took` and `resident` to what each command of these words needs, which are run in turn and stand between `--`.
 measure() {
-    read -r took resident < <("$floor" measure "$@")
+    local time memory
+    took=() resident=()
+    while read -r time memory; do
+        took+=("$time") resident+=("$memory")
+    done < <("$floor" measure "$@")
 }
 
 # Makes the input of a work, sets `input` to it and its type, and compares what the two programs write.
@@ -90,45 +95,33 @@ prepare() {
 
 # Measures a work, which may take $2 hundredths of what floor takes.
 row() {
-    local theirs der
     work_now=$1
     prepare "$1"
-    measure $runs "$floor" convert "$1" "$work/$1.ber"
-    theirs=$took
-    measure $runs "$program" convert "${input[@]}" --to der
-    der=$took
-    times[$1]=$took
-    residents[$1]=$resident
-    hold "$1" "$2" "$der" "$theirs"
-    measure $runs "$program" convert "${input[@]}" --to cer
-    hold "  to CER over to DER" 150 "$took" "$der"
-    measure $runs "$program" check "${input[@]}"
-    hold "  check over convert" 100 "$took" "$der"
-    measure $runs "$program" show "${input[@]}"
-    hold "  show over convert, or floor" 300 "$took" $((der > theirs ? der : theirs))
+    measure $runs "$floor" convert "$1" "$work/$1.ber" -- "$program" convert "${input[@]}" --to der \
+        -- "$program" convert "${input[@]}" --to cer -- "$program" check "${input[@]}" -- "$program" show "${input[@]}"
+    residents[$1]=${resident[1]}
+    hold "$1" "$2" "${took[1]}" "${took[0]}"
+    hold "  to CER over to DER" 150 "${took[2]}" "${took[1]}"
+    hold "  check over convert" 100 "${took[3]}" "${took[1]}"
+    hold "  show over convert, or floor" 300 "${took[4]}" $((took[1] > took[0] ? took[1] : took[0]))
 }
 
 # Measures the strict reader of a rule on what the last work becomes under it, beside floor and the reader of BER.
 strict_row() {
-    local rule=$1 theirs ber
+    local rule=$1
     "$program" convert "${input[@]}" --to "$rule" >"$work/strict"
-    local -a again=("${input[@]:0:2}" "$work/strict")
-    measure $runs "$floor" convert "$work_now" "$work/strict"
-    theirs=$took
-    measure $runs "$program" convert "${again[@]}" --to "$rule"
-    ber=$took
-    measure $runs "$program" convert "${again[@]}" --from "$rule" --to "$rule"
-    hold "  from $rule to it over floor" 300 "$took" "$theirs"
-    hold "  from $rule to it over from BER" 110 "$took" "$ber"
-    measure $runs "$program" check "${again[@]}"
-    ber=$took
-    measure $runs "$program" check "${again[@]}" --from "$rule"
-    hold "  check from $rule over from BER" 110 "$took" "$ber"
+    local -a again=("${input[@]:0:2}" "$work/strict") by_rule=(--from "$rule")
+    measure $runs "$floor" convert "$work_now" "$work/strict" \
+        -- "$program" convert "${again[@]}" --to "$rule" -- "$program" convert "${again[@]}" "${by_rule[@]}" --to "$rule" \
+        -- "$program" check "${again[@]}" -- "$program" check "${again[@]}" "${by_rule[@]}"
+    hold "  from $rule to it over floor" 300 "${took[2]}" "${took[0]}"
+    hold "  from $rule to it over from BER" 110 "${took[2]}" "${took[1]}"
+    hold "  check from $rule over from BER" 110 "${took[4]}" "${took[3]}"
     rm "$work/strict"
 }
 
-declare -a input=()
-declare -A residents=() times=()
+declare -a input=() took=() resident=()
+declare -A residents=()
 echo 'microseconds:'
 row records 250
 strict_row der
@@ -145,9 +138,11 @@ row choices_of_two 200
 row choices 200
 "$program" convert "${input[@]}" --to der >"$work/strict"
 measure 1 "$program" convert "${input[@]:0:2}" "$work/strict" --from der --to der
-residents[choices_from_der]=$resident
+residents[choices_from_der]=${resident[0]}
 rm "$work/strict"
-hold '  a CHOICE of 256 over one of two' 150 "${times[choices]}" "${times[choices_of_two]}"
+measure $runs "$program" convert "$work/choices_of_two.asn" Value "$work/choices_of_two.ber" --to der \
+    -- "$program" convert "${input[@]}" --to der
+hold '  a CHOICE of 256 over one of two' 150 "${took[1]}" "${took[0]}"
 row disordered_choices 200
 row members 140
 row chains 300
@@ -160,10 +155,10 @@ row booleans 100
 work_now='start and memory'
 printf '\5\0' >"$work/null"
 measure 100 "$program" convert @builtin NULL "$work/null" --to der
-hold 'one NULL, over 1 ms' 150 "$took" 1000
+hold 'one NULL, over 1 ms' 150 "${took[0]}" 1000
 
 echo 'KiB resident:'
-echo "one NULL                         $resident"
+echo "one NULL                         ${resident[0]}"
 hold 'records, over 1 MiB' 300 "${residents[records]}" 1024
 hold 'chains, over 1 MiB' 300 "${residents[chains]}" 1024
 hold 'certificates, over 1 MiB' 300 "${residents[certificates]}" 1024
@@ -175,7 +170,7 @@ hold 'choices, over 1 MiB' 3000 "${residents[choices]}" 1024
 hold 'choices from DER, over 1 MiB' 3000 "${residents[choices_from_der]}" 1024
 prepare nulls
 measure 1 "$program" convert "${input[@]}" --to der
-hold 'SEQUENCE OF NULL, over 1 MiB' 3000 "$resident" 1024
+hold 'SEQUENCE OF NULL, over 1 MiB' 3000 "${resident[0]}" 1024
 
 ((${#broken[@]})) || broken=(none)
 (
