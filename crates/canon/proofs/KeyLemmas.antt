@@ -7,10 +7,10 @@ use Rattle.std.specs.declared.cmp.Ordering.{Ordering}
 use Rattle.std.specs.declared.cmp.Ordering.TheVariants.{Less, Equal, Greater}
 use Rattle.std.proofs.Math.Nat.{add-mul, mul_assoc, mod-eq_of_lt, one-le-pow, pow-zero, pow-suc}
 use Rattle.std.proofs.Math.Seq.{drop-nil}
-use Rattle.std.proofs.lemmas.List.{drop_all, drop-drop, take-take, take_min, length-take, length-drop}
+use Rattle.std.proofs.lemmas.List.{drop_all, drop-drop, take_all, take-take, take_min, length-take, length-drop}
 use Rattle.std.proofs.lemmas.Nat.{mul-add-lt, mod_low, pow-add}
 use Rattle.octets.specs.Digits.{number_of}
-use Rattle.octets.proofs.DigitLemmas.{All-tail, mul-above, number_of-append}
+use Rattle.octets.proofs.DigitLemmas.{All-tail, mul-above, number_of-append, number_of-below}
 use Rattle.types.specs.Order.{IsPaddedAtMost}
 use Rattle.canon.specs.Span.{part_of, key_of}
 use Rattle.canon.specs.Keyed.{HasKey, compared}
@@ -200,6 +200,39 @@ words_shifted buffer span there stop high low octets is at above within first se
     let whole : (high * 2 ^ 64 + low) * 2 ^ (8 * left) ≡ A * 2 ^ 128 + key_of 16 ys = omega (arith, shifted, spread, out, key) in
     let small : key_of 16 ys < 2 ^ 128 = key_of-below 16 ys (All-take (λ d. d < 256) (span.end - span.start) (drop span.start buffer) (All-drop (λ d. d < 256) span.start buffer octets)) in
     ap (λ k. k % 2 ^ 128) whole ∙ mod_low A 128 (key_of 16 ys) small
+
+-- the octets that both have are shifted out of the last four
+pub halves_shifted : (xs : List ℕ) (n first last : ℕ) → All (λ d. d < 256) xs → length xs ≡ n → 4 ≤ n → n ≤ 8 → first ≡ number_of 256 (take 4 xs) → last ≡ number_of 256 (take 4 (drop (n - 4) xs))
+    → (first * 2 ^ 32 + (last * 2 ^ (8 * (8 - n))) % 2 ^ 32) * 2 ^ 64 ≡ key_of 16 xs
+halves_shifted xs n first last octets size some few left right =
+    let m = n - 4 in
+    let k = 8 - n in
+    let A = number_of 256 (take k (drop m xs)) in
+    let B = number_of 256 (take m (drop 4 xs)) in
+    let P = 256 ^ k in
+    let bits : 2 ^ (8 * k) ≡ P = sym (octets_as_bits k) in
+    let all : n ≡ 4 + m = omega (arith, some) in
+    let whole : number_of 256 xs ≡ first * 256 ^ m + B =
+    ap (number_of 256) (sym (take_all n xs (omega (arith, size)))) ∙ ap (λ j. number_of 256 (take j xs)) all ∙ number_of-two 4 m xs (omega (arith, size, some)) ∙ ap (λ f. f * 256 ^ m + B) (sym left) in
+    let four : 4 ≡ k + m = omega (arith, some, few) in
+    let added : m + k ≡ 4 = omega (arith, some, few) in
+    let behind : drop k (drop m xs) ≡ drop 4 xs = drop-drop k m xs ∙ ap (λ j. drop j xs) added in
+    let halves : last ≡ A * 256 ^ m + B =
+    right ∙ ap (λ j. number_of 256 (take j (drop m xs))) four ∙ number_of-two k m (drop m xs) (omega (arith, size, some, few, length-drop m xs)) ∙ ap (λ zs. A * 256 ^ m + number_of 256 (take m zs)) behind in
+    let power : 256 ^ m * P ≡ 2 ^ 32 = sym (pow-add 256 m k) ∙ ap (λ j. 256 ^ j) added in
+    let moved : last * 2 ^ (8 * k) ≡ A * 2 ^ 32 + B * P =
+    ap (λ f. last * f) bits ∙ ap (λ f. f * P) halves ∙ add-mul (A * 256 ^ m) B P ∙ ap (λ f. f + B * P) (mul_assoc A (256 ^ m) P ∙ ap (λ f. A * f) power) in
+    let rest : length (take m (drop 4 xs)) ≡ m = omega (arith, size, some, length-take m (drop 4 xs), length-drop 4 xs) in
+    let below : B < 256 ^ m = subst (λ j. B < 256 ^ j) rest (number_of-below 256 (take m (drop 4 xs)) (All-take (λ d. d < 256) m (drop 4 xs) (All-drop (λ d. d < 256) 4 xs octets))) in
+    let small : B * P < 2 ^ 32 = omega (arith, mul-add-lt B P 0 (256 ^ m) below (one-le-pow k 256 (omega arith)), power) in
+    let kept : (last * 2 ^ (8 * k)) % 2 ^ 32 ≡ B * P = ap (λ j. j % 2 ^ 32) moved ∙ mod_low A 32 (B * P) small in
+    let spread : (first * 256 ^ m + B) * P ≡ first * 256 ^ m * P + B * P = add-mul (first * 256 ^ m) B P in
+    let front : first * 256 ^ m * P ≡ first * 2 ^ 32 = mul_assoc first (256 ^ m) P ∙ ap (λ f. first * f) power in
+    let word : first * 2 ^ 32 + (last * 2 ^ (8 * k)) % 2 ^ 32 ≡ (first * 256 ^ m + B) * P = omega (arith, kept, spread, front) in
+    let left_over : 16 - length xs ≡ k + 8 = omega (arith, size, few) in
+    let wide : 256 ^ (16 - length xs) ≡ P * 2 ^ 64 = ap (λ j. 256 ^ j) left_over ∙ pow-add 256 k 8 in
+    ap (λ j. j * 2 ^ 64) word ∙ mul_assoc (first * 256 ^ m + B) P (2 ^ 64) ∙ ap (λ j. (first * 256 ^ m + B) * j) (sym wide) ∙ ap (λ j. j * 256 ^ (16 - length xs)) (sym whole)
+    ∙ sym (key_of-whole 16 xs (omega (arith, size, few)))
 
 -- what parts are compared by decides their order
 pub compared_decides : (buffer : List ℕ) → All (λ d. d < 256) buffer → (a b : Keyed ℕ) → HasKey buffer a → HasKey buffer b → IsPaddedAtMost (compared buffer b) (compared buffer a) → IsPaddedAtMost (part_of buffer b.span) (part_of buffer a.span)

@@ -86,12 +86,15 @@ fn ascend(buffer: &[u8], parts: &[Keyed<u128>]) -> bool
     )
 }
 
-// The key of a part. Most are read as two words, which is quicker than octet by octet: what these have of the
-// octets in front of the part is shifted out.
+// The key of a part. Those of more than eight octets are read as two words, which is quicker than octet by octet: what
+// these have of the octets in front of the part is shifted out.
 fn key_of_part(buffer: &[u8], span: Span) -> u128
     ensures { result ≡ key_of 16 (part_of buffer.now span) }
 {
     let octets = part(buffer, span);
+    if 4 <= octets.len() && octets.len() <= 8 {
+        return key_of_few(octets);
+    }
     let there = octets.len().min(16);
     if there == 0 || span.start + there < 16 {
         return key(octets);
@@ -100,6 +103,30 @@ fn key_of_part(buffer: &[u8], span: Span) -> u128
     let high = word_at(buffer, stop - 16);
     let low = word_at(buffer, stop - 8);
     ((u128::from(high) << 64) + u128::from(low)) << (8 * (16 - there))
+}
+
+// The key of four to eight octets, of which the first four and the last four are read. They have just been written, by
+// one store, and a processor hands that on to what reads within it; a word that begins before them would wait for it.
+#[inline(always)]
+fn key_of_few(octets: &[u8]) -> u128
+    requires { (4 ≤ length octets.now) × (length octets.now ≤ 8) }
+    ensures { result ≡ key_of 16 octets.now }
+{
+    let first = u64::from(half_at(octets, 0));
+    let last = u64::from(half_at(octets, octets.len() - 4));
+    // What both have is shifted out of the last four.
+    let behind = (last << (8 * (8 - octets.len()))) % (1 << 32);
+    u128::from((first << 32) + behind) << 64
+}
+
+// Four octets as a number, the most significant first. They are copied at once.
+fn half_at(octets: &[u8], i: usize) -> u32
+    requires { i + 4 ≤ length octets.now }
+    ensures { result ≡ number_of 256 (take 4 (drop i octets.now)) }
+{
+    let mut four = [0u8; 4];
+    four.copy_from_slice(&octets[i..i + 4]);
+    u32::from_be_bytes(four)
 }
 
 // Eight octets as a number, the most significant first. They are copied at once.
