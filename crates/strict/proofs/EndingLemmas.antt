@@ -53,10 +53,6 @@ begun_short rule type room octets (inr h) =
     let b = h.begun in
     omega (arith, form_short rule h.node h.constructed room (length b.identifier) b.others b.behind, ap length b.joined, length-append b.identifier b.others)
 
--- so what holds an item that has begun has too few
-pub item_behind : (rule : Canonical) (type : Shape) (d : Bool) (room at : ℕ) (octets : List ℕ) → at ≤ room → at ≤ length octets → IsBegun rule type (room - at) (take (length octets - at) (drop at octets)) → AreFewer d room octets
-item_behind rule type d room at octets within there begun = less_behind d room at octets within there (begun_short rule type (room - at) (take (length octets - at) (drop at octets)) begun)
-
 -- length octets that are not complete behind those of the identifier
 pub length_cut : (rule : Canonical) (tag : Tag) (room i : ℕ) (octets : List ℕ) → i ≤ length octets → IsIdentifier tag true (take i octets) → IsLengthCut room i (take (length octets - i) (drop i octets)) → IsConstructedCut rule tag room octets
 length_cut rule tag room i octets there id cut = inr record {

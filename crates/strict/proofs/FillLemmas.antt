@@ -1,5 +1,5 @@
 -- Lemmas on values, and the contents octets that they are of.
-use Rattle.std.proofs.Common.{◌≡◌, ◌+◌, ◌≤◌, ℕ, List, length, sym, subst, arith, slice_range}
+use Rattle.std.proofs.Common.{◌≡◌, ◌+◌, ◌≤◌, ℕ, List, sym, subst, arith, slice_range}
 use Rattle.octets.specs.declared.canonical.Canonical.{Canonical}
 use Rattle.octets.specs.declared.tag.Tag.{Tag}
 use Rattle.octets.specs.Rule.{der, rule_of}
@@ -19,9 +19,8 @@ pub filled_read : (rule : Canonical) (type : Shape) (room stop : ℕ) (octets : 
 filled_read rule type room stop octets value leaf place short h = leaf_read rule type room 2 stop octets value leaf place (λ size is. short_whole rule type size (omega (arith, is, short))) h.0 h.1
 
 -- so was what was made of those of a short encoding, under whatever rule
-pub short_read : (rule : Canonical) (type : Shape) (tag : Tag) (octets : List ℕ) (value : Value) (stop : ℕ) → IsLeaf type → tag_of type ≡ tag → IsShortPrimitive tag (length octets) octets stop → HoldsValue der type (value_view value) (slice_range octets 2 stop) → IsRead (rule_of rule) type (length octets) octets value stop
-short_read rule type tag octets value stop leaf same h held =
-    let room = length octets in
+pub short_read : (rule : Canonical) (type : Shape) (tag : Tag) (room : ℕ) (octets : List ℕ) (value : Value) (stop : ℕ) → IsLeaf type → tag_of type ≡ tag → IsShortPrimitive tag room octets stop → HoldsValue der type (value_view value) (slice_range octets 2 stop) → IsRead (rule_of rule) type room octets value stop
+short_read rule type tag room octets value stop leaf same h held =
     let own : IsPlace tag room octets 2 (2 + h.contents) = short_place tag room h.contents octets (omega (arith, h.there, h.counted)) h.tagged h.low h.sized (omega (arith, h.fits, h.counted)) (omega (arith, h.there, h.counted)) in
     let place : IsPlace (tag_of type) room octets 2 stop = subst (λ n. IsPlace (tag_of type) room octets 2 n) (sym h.counted) (subst (λ t. IsPlace t room octets 2 (2 + h.contents)) (sym same) own) in
     filled_read rule type room stop octets value leaf place (omega (arith, h.counted, h.low)) held

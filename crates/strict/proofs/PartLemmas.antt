@@ -1,7 +1,7 @@
 -- Lemmas on parts, one after another: each that was read is the one that stands there.
-use Rattle.std.proofs.Common.{◌≡◌, ℕ, ◌+◌, ◌-◌, ◌<◌, ◌≤◌, List, [], ◌∷◌, ◌++◌, Bool, true, false, length, take, drop, refl, sym, ◌∙◌, ap, subst, arith, append_assoc, append-nil, length-append}
+use Rattle.std.proofs.Common.{◌≡◌, ℕ, ◌-◌, ◌<◌, ◌≤◌, List, [], ◌∷◌, ◌++◌, Bool, true, false, length, take, refl, sym, ◌∙◌, ap, subst, arith, append_assoc, append-nil, length-append}
 use Rattle.std.specs.List.{AllZip, concat}
-use Rattle.std.proofs.lemmas.List.{length-take-le, length-drop, take-take, drop-take, append_cancel_left}
+use Rattle.std.proofs.lemmas.List.{length-take-le, append_cancel_left}
 use Rattle.octets.specs.Rule.{Rule}
 use Rattle.types.specs.declared.value.Value.{Value}
 use Rattle.types.specs.Shape.{Shape, Val}
@@ -62,18 +62,3 @@ concat_last (b ∷ ys) y = ap (λ x. b ++ x) (concat_last ys y) ∙ sym (append_
 
 pub read_some : (rule : Rule) (type : Shape) (room : ℕ) (octets : List ℕ) (v : Value) (used : ℕ) → IsGoodType type → IsRead rule type room octets v used → 0 < used
 read_some rule type room octets v used good h = omega (arith, one_some (take used octets) (one_of rule type (value_view v) (take used octets) good h.2), length-take-le used octets h.0)
-
--- what was read of a front of the octets was read of them all
-pub read_in_front : (rule : Rule) (type : Shape) (room n : ℕ) (octets : List ℕ) (v : Value) (used : ℕ) → n ≤ room → n ≤ length octets → IsRead rule type (length (take n octets)) (take n octets) v used → IsRead rule type room octets v used
-read_in_front rule type room n octets v used fits there h =
-    let size : length (take n octets) ≡ n = length-take-le n octets there in
-    let same : take used (take n octets) ≡ take used octets = take-take used n octets (omega (arith, h.1, size)) in
-    (omega (arith, h.1, size, there), omega (arith, h.1, size, fits), subst (IsEncoding rule type (value_view v)) same h.2)
-
--- and what was read behind some octets of the front, of all that stand behind them
-pub read_behind_in_front : (rule : Rule) (type : Shape) (room n at : ℕ) (octets : List ℕ) (v : Value) (used : ℕ) → at ≤ n → n ≤ room → n ≤ length octets
-    → IsRead rule type (length (drop at (take n octets))) (drop at (take n octets)) v used → IsRead rule type (room - at) (drop at octets) v used
-read_behind_in_front rule type room n at octets v used below fits there h =
-    let size : n ≡ at + (n - at) = omega (arith, below) in
-    let same = ap (λ m. drop at (take m octets)) size ∙ drop-take at (n - at) octets in
-    read_in_front rule type (room - at) (n - at) (drop at octets) v used (omega (arith, fits, below)) (omega (arith, there, below, length-drop at octets)) (subst (λ o. IsRead rule type (length o) o v used) same h)

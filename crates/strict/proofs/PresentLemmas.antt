@@ -1,6 +1,6 @@
 -- Lemmas on a component that stands, which is not its default.
-use Rattle.std.proofs.Common.{◌≡◌, ℕ, ◌+◌, ◌-◌, ◌<◌, ◌≤◌, min, List, ◌++◌, Option, Some, None, length, take, drop, sym, ap, ◌∙◌, subst, arith}
-use Rattle.std.proofs.lemmas.List.{drop-drop, length-drop, length-take-le, take_rest}
+use Rattle.std.proofs.Common.{◌≡◌, ℕ, ◌+◌, ◌-◌, ◌<◌, ◌≤◌, List, ◌++◌, Option, Some, None, length, take, drop, sym, ap, ◌∙◌, subst, arith}
+use Rattle.std.proofs.lemmas.List.{drop-drop, length-drop, take_rest}
 use Rattle.octets.specs.Rule.{Rule}
 use Rattle.octets.proofs.FrontLemmas.{front_of_more}
 use Rattle.types.specs.declared.value.Value.{Value}
@@ -15,15 +15,10 @@ use Rattle.types.proofs.SameLemmas.{same_is_equal}
 use Rattle.encoding_parts.specs.Parts.{IsGoodType, IsGoodComponent, IsSlotOf}
 use Rattle.strict.specs.Reading.{IsRead, HasPart}
 use Rattle.strict.specs.Components.{HasPresent, IsPresentRead}
-use Rattle.strict.proofs.PartLemmas.{one_of, same_part, read_some, read_in_front, read_behind_in_front}
+use Rattle.strict.proofs.PartLemmas.{one_of, same_part, read_some}
 
 pub part_of_present : (rule : Rule) (c : ComponentView) (room : ℕ) (octets : List ℕ) → HasPresent rule c room octets → HasPart rule c.type room octets
 part_of_present rule c room octets h = record { value = h.value; part = h.part; rest = h.rest; encoding = h.encoding; fits = h.fits; parts = h.parts }
-
-pub differs_of : (requirement : Requirement) (v : Val) → IsSlotOf requirement v (Some v) → DiffersFromDefault requirement v
-differs_of required v h = tt
-differs_of optional v h = tt
-differs_of (default other) v h = h.1
 
 -- a default is not spelt out
 default_differs : (type : Shape) (requirement : Requirement) (v w : Val) → IsGoodDefault type requirement → IsSlotOf requirement v None → DiffersFromDefault requirement w → (TakesDefault type → v ≡ w) → ⊥
@@ -36,36 +31,23 @@ pub present_some : (rule : Rule) (c : ComponentView) (room : ℕ) (octets : List
 present_some rule c room octets None used good read = absurd read
 present_some rule c room octets (Some v) used good read = (read_some rule c.type room octets v used good read.0, read.0.0)
 
--- what is left of the front of so many octets is no more than they
-pub front_within : (n : ℕ) (octets front : List ℕ) → n ≤ length octets → front ≡ drop (n - length front) (take n octets) → length front ≤ n
-front_within n octets front there is = omega (arith, ap length is, length-drop (n - length front) (take n octets), length-take-le n octets there)
+-- nor more than there may be
+pub present_within : (rule : Rule) (c : ComponentView) (room : ℕ) (octets : List ℕ) (slot : Option Value) (used : ℕ) → IsPresentRead rule c room octets slot used → (used ≤ room) × (used ≤ length octets)
+present_within rule c room octets None used read = absurd read
+present_within rule c room octets (Some v) used read = (read.0.1, read.0.0)
 
--- what was read behind that is within it
-pub used_in_front : (room n used : ℕ) (octets front : List ℕ) → n ≡ min (length octets) room → front ≡ drop (n - length front) (take n octets) → used ≤ room - (n - length front) → used ≤ length (drop (n - length front) octets) → used ≤ length front
-used_in_front room n used octets front least is within there =
-    let whole : n ≤ length octets = omega (arith, least) in
-    omega (arith, least, within, there, length-drop (n - length front) octets, front_within n octets front whole is)
+-- what is left of the octets is no more than they
+pub rest_within : (octets rest : List ℕ) → rest ≡ drop (length octets - length rest) octets → length rest ≤ length octets
+rest_within octets rest is = omega (arith, ap length is, length-drop (length octets - length rest) octets)
 
--- and less is left then
-pub front_size : (n used : ℕ) (octets front : List ℕ) → n ≤ length octets → used ≤ length front → front ≡ drop (n - length front) (take n octets) → (n - length front) + used ≡ n - length (take (length front - used) (drop used front))
-front_size n used octets front there below is = omega (arith, below, front_within n octets front there is, ap length (take_rest front used), length-drop used front)
+-- and less is left behind some of it
+pub rest_size : (used : ℕ) (octets rest : List ℕ) → used ≤ length rest → rest ≡ drop (length octets - length rest) octets → (length octets - length rest) + used ≡ length octets - length (take (length rest - used) (drop used rest))
+rest_size used octets rest below is = omega (arith, below, rest_within octets rest is, ap length (take_rest rest used), length-drop used rest)
 
-pub front_behind : (n used : ℕ) (octets front : List ℕ) → n ≤ length octets → used ≤ length front → front ≡ drop (n - length front) (take n octets)
-    → take (length front - used) (drop used front) ≡ drop (n - length (take (length front - used) (drop used front))) (take n octets)
-front_behind n used octets front there below is =
-    take_rest front used ∙ (ap (λ o. drop used o) is ∙ (drop-drop used (n - length front) (take n octets) ∙ ap (λ k. drop k (take n octets)) (front_size n used octets front there below is)))
-
--- what was read of what is left of the front, was read of all that stand behind what is not
-pub present_in_front : (rule : Rule) (c : ComponentView) (room n : ℕ) (octets front : List ℕ) (slot : Option Value) (used : ℕ) → n ≤ room → n ≤ length octets → front ≡ drop (n - length front) (take n octets)
-    → IsPresentRead rule c (length front) front slot used → IsPresentRead rule c (room - (n - length front)) (drop (n - length front) octets) slot used
-present_in_front rule c room n octets front None used fits there is read = absurd read
-present_in_front rule c room n octets front (Some v) used fits there is read =
-    (read_behind_in_front rule c.type room n (n - length front) octets v used (omega arith) fits there (subst (λ o. IsRead rule c.type (length o) o v used) is read.0), read.1)
-
--- the same at the front of all of them
-pub present_at_front : (rule : Rule) (c : ComponentView) (room n : ℕ) (octets : List ℕ) (slot : Option Value) (used : ℕ) → n ≤ room → n ≤ length octets → IsPresentRead rule c (length (take n octets)) (take n octets) slot used → IsPresentRead rule c room octets slot used
-present_at_front rule c room n octets None used fits there read = absurd read
-present_at_front rule c room n octets (Some v) used fits there read = (read_in_front rule c.type room n octets v used fits there read.0, read.1)
+pub rest_behind : (used : ℕ) (octets rest : List ℕ) → used ≤ length rest → rest ≡ drop (length octets - length rest) octets
+    → take (length rest - used) (drop used rest) ≡ drop (length octets - length (take (length rest - used) (drop used rest))) octets
+rest_behind used octets rest below is =
+    take_rest rest used ∙ (ap (λ o. drop used o) is ∙ (drop-drop used (length octets - length rest) octets ∙ ap (λ k. drop k octets) (rest_size used octets rest below is)))
 
 -- where what was read is the default, no other value stands there
 pub none_spelt_out : (rule : Rule) (c : ComponentView) (room : ℕ) (octets more : List ℕ) (v : Value) (used : ℕ) → IsGoodComponent c → IsRead rule c.type room octets v used → IsSlotOf c.requirement (value_view v) None → HasPresent rule c room (octets ++ more) → ⊥

@@ -141,10 +141,16 @@ nothing_of rule definite room octets rest slots encodings each fills parts = eli
 ends_behind : (rule : Rule) (definite : Bool) (room : ℕ) (octets : List ℕ) → HasComponents rule [] definite room octets → EndsHere definite room octets
 ends_behind rule definite room octets h = nothing_of rule definite room octets h.rest h.slots h.encodings h.each h.fills h.parts
 
-pub ends_behind_all : (rule : Rule) (components : List ComponentView) (definite : Bool) (room : ℕ) (octets more : List ℕ) (slots : List (Option Value)) (at : ℕ) → AreComponentsRead rule components [] definite room octets slots at → HasComponents rule components definite room (octets ++ more)
+ends_behind_all : (rule : Rule) (components : List ComponentView) (definite : Bool) (room : ℕ) (octets more : List ℕ) (slots : List (Option Value)) (at : ℕ) → AreComponentsRead rule components [] definite room octets slots at → HasComponents rule components definite room (octets ++ more)
     → EndsHere definite (room - at) (drop at octets ++ more)
 ends_behind_all rule components definite room octets more slots at read h =
     ends_behind rule definite (room - at) (drop at octets ++ more) (read.forth more (subst (λ l. HasComponents rule l definite room (octets ++ more)) (sym (append-nil components)) h))
+
+-- so do the octets that are left, in the room and form that are
+pub ends_left : (rule : Rule) (components : List ComponentView) (definite form : Bool) (room left : ℕ) (octets rest more : List ℕ) (slots : List (Option Value)) → AreComponentsRead rule components [] definite room octets slots (length octets - length rest)
+    → rest ≡ drop (length octets - length rest) octets → left ≡ room - (length octets - length rest) → form ≡ definite → HasComponents rule components definite room (octets ++ more) → EndsHere form left (rest ++ more)
+ends_left rule components definite form room left octets rest more slots read rest_is left_is form_is h =
+    subst (λ b. EndsHere b left (rest ++ more)) (sym form_is) (subst₂ (λ n x. EndsHere definite n (x ++ more)) (sym left_is) (sym rest_is) (ends_behind_all rule components definite room octets more slots (length octets - length rest) read h))
 
 -- no component is left, and each has its slot
 pub all_read : (rule : Rule) (fields : List Field) (i : ℕ) (definite : Bool) (room : ℕ) (octets : List ℕ) (slots : List (Option Value)) (at : ℕ) → length fields ≤ i → length slots ≡ length fields

@@ -1,17 +1,18 @@
 //! SEQUENCEs: components in order of declaration (X.690 8.9 and 11.5).
 
-ghost use Rattle.std.specs.Prelude.{◌≡◌, ◌<◌, ◌≤◌, [], None, length, map, IfOk, IfErr, IfSome};
+ghost use Rattle.std.specs.Prelude.{◌≡◌, ◌-◌, ◌<◌, ◌≤◌, [], None, false, length, drop, map, IfOk, IfErr, IfSome, IsSome, MatchOption, ⊤};
 ghost use Rattle.std.specs.List.{AllByRecursion};
 ghost use Rattle.octets.specs.declared.canonical.Canonical.{Canonical};
 ghost use Rattle.octets.specs.declared.TheConstants.{MAX_ENCODING};
 ghost use Rattle.octets.specs.declared.tag.Tag.{Tag};
 ghost use Rattle.octets.specs.Rule.{rule_of};
+ghost use Rattle.types.specs.Conforms.{DiffersFromDefault};
 ghost use Rattle.types.specs.FirstTags.{RunsAreDistinct};
 ghost use Rattle.types.specs.Shape.{Shape};
-ghost use Rattle.types.specs.View.{components_view, field_view};
+ghost use Rattle.types.specs.View.{components_view, field_view, requirement_view, value_view};
 ghost use Rattle.encoding_parts.specs.Parts.{IsGoodComponent};
 ghost use Rattle.strict.specs.Bars.{RefusesStrictly};
-ghost use Rattle.strict.specs.Head.{AreFewer};
+ghost use Rattle.strict.specs.Head.{AreFewer, EndsHere};
 ghost use Rattle.strict.specs.Inside.{IsInsideRead};
 ghost use Rattle.strict.specs.Components.{HasPresent, IsPresentRead, HasComponents, AreComponentsRead, IsComponentRead, HasComponentFirst};
 
@@ -22,7 +23,7 @@ use crate::parts::read_wholly;
 use encoding_parts::{clear, is_default, short_primitive, take_slots};
 use octets::{Canonical, MAX_ENCODING};
 use std::alloc::Global;
-use types::{Field, Refusal, Value, may_be_absent};
+use types::{Field, Presence, Refusal, Value, may_be_absent};
 
 // Reads the encodings of components at the front up to the end into the value, and returns how many octets they have.
 #[cycle(reading)]
@@ -48,15 +49,11 @@ pub fn read_components(
     if slots.len() != fields.len() {
         return Err(Refusal::NoMemory);
     }
-    let used = read_slots(alloc, rule, fields, inside, octets, slots)?;
-    match front_tag(inside.definite, inside.room - used, &octets[used..])? {
-        Some(tag) => Err(left_over(tag, slots.as_slice())),
-        None => Ok(used),
-    }
+    read_slots(alloc, rule, fields, inside, octets, slots)
 }
 
-// Reads the encodings of components at the front into the slots, of which there is one for each, and returns how many
-// octets they have.
+// Reads the encodings of components at the front up to the end into the slots, of which there is one for each, and
+// returns how many octets they have.
 #[cycle(reading)]
 #[inline(always)]
 fn read_slots(
@@ -71,15 +68,15 @@ fn read_slots(
     requires runs { RunsAreDistinct (components_view fields.now) }
     requires room { inside.now.room ≤ MAX_ENCODING }
     requires slots { length slots.old.items ≡ length fields.now }
-    ensures value { IfOk result (λ used. AreComponentsRead (rule_of rule) (map field_view fields.now) [] inside.now.definite inside.now.room octets.now slots.new.items used) }
+    ensures value { IfOk result (λ used. AreComponentsRead (rule_of rule) (map field_view fields.now) [] inside.now.definite inside.now.room octets.now slots.new.items used
+        × EndsHere inside.now.definite (inside.now.room - used) (drop used octets.now)) }
     ensures refused { IfErr result (RefusesStrictly (HasComponents (rule_of rule) (map field_view fields.now) inside.now.definite inside.now.room) (AreFewer inside.now.definite inside.now.room) octets.now) }
 {
     read_each(alloc, rule, fields, inside, octets, slots)
 }
 
-// Reads the encodings of components at the front into their slots, and returns how many octets they have. The slots,
-// and what is left of the octets that the components may have, are slices, which stay in registers. A component that
-// one look does not read is read from all octets that are left.
+// Reads the encodings of components at the front up to the end into their slots, and returns how many octets they
+// have. The slots, and the octets that are left, are slices, which stay in registers.
 #[cycle(reading)]
 #[inline(always)]
 fn read_each(
@@ -94,35 +91,28 @@ fn read_each(
     requires runs { RunsAreDistinct (components_view fields.now) }
     requires room { inside.now.room ≤ MAX_ENCODING }
     requires slots { length slots.old ≡ length fields.now }
-    ensures value { IfOk result (λ used. AreComponentsRead (rule_of rule) (map field_view fields.now) [] inside.now.definite inside.now.room octets.now slots.new used) }
+    ensures value { IfOk result (λ used. AreComponentsRead (rule_of rule) (map field_view fields.now) [] inside.now.definite inside.now.room octets.now slots.new used
+        × EndsHere inside.now.definite (inside.now.room - used) (drop used octets.now)) }
     ensures refused { IfErr result (RefusesStrictly (HasComponents (rule_of rule) (map field_view fields.now) inside.now.definite inside.now.room) (AreFewer inside.now.definite inside.now.room) octets.now) }
 {
-    let whole = octets.len().min(inside.room);
-    let mut front = &octets[..whole];
+    let mut left = *inside;
+    let mut rest = octets;
     for (place, field) in fields.iter().enumerate() {
         let slot = &mut slots[place];
-        let used = match read_shortly_present(alloc, field, front, slot) {
+        let used = match read_shortly_present(alloc, field, left.room, rest, slot) {
             Some(used) => used,
             None => {
-                let at = whole - front.len();
-                let room = inside.room - at;
-                let rest = &octets[at..];
-                read_component(
-                    alloc,
-                    rule,
-                    field,
-                    fields,
-                    place,
-                    inside.definite,
-                    room,
-                    rest,
-                    slot,
-                )?
+                let later = &fields[place + 1..];
+                read_component(alloc, rule, field, later, &left, rest, slot)?
             }
         };
-        front = &front[used..];
+        left.room -= used;
+        rest = &rest[used..];
     }
-    Ok(whole - front.len())
+    match front_tag(left.definite, left.room, rest)? {
+        Some(tag) => Err(left_over(tag, slots)),
+        None => Ok(octets.len() - rest.len()),
+    }
 }
 
 // Gives the value a slot for each component, unless it has as many or memory runs out. What it has stays where it is.
@@ -144,7 +134,7 @@ fn put_slots(alloc: Global, fields: &[Field], value: &mut Value) {
     }
 }
 
-// Reads the encoding of the component at the front, which has this place, if it stands there, or none where it may be
+// Reads the encoding of the component at the front, with these behind it, if it stands there, or none where it may be
 // absent. Of a component that may be, the tag is looked at first, and of any other only where it is refused.
 #[cycle(reading)]
 #[inline(always)]
@@ -152,33 +142,25 @@ fn read_component(
     alloc: Global,
     rule: Canonical,
     field: &Field,
-    fields: &[Field],
-    place: usize,
-    definite: bool,
-    room: usize,
+    later: &[Field],
+    inside: &Inside,
     octets: &[u8],
     slot: &mut Option<Value>,
 ) -> Result<usize, Refusal>
     requires good { IsGoodComponent (field_view field.now) }
-    requires room { room ≤ MAX_ENCODING }
-    requires place { place < length fields.now }
-    ensures value { IfOk result (λ used. IsComponentRead (rule_of rule) (field_view field.now) definite room octets.now slot.new used) }
-    ensures refused { IfErr result (RefusesStrictly (HasComponentFirst (rule_of rule) (field_view field.now) definite room) (AreFewer definite room) octets.now) }
+    requires room { inside.now.room ≤ MAX_ENCODING }
+    ensures value { IfOk result (λ used. IsComponentRead (rule_of rule) (field_view field.now) inside.now.definite inside.now.room octets.now slot.new used) }
+    ensures refused { IfErr result (RefusesStrictly (HasComponentFirst (rule_of rule) (field_view field.now) inside.now.definite inside.now.room) (AreFewer inside.now.definite inside.now.room) octets.now) }
 {
-    if may_be_absent(&field.presence) && !stands_next(definite, room, octets, &field.ty)? {
+    if may_be_absent(&field.presence)
+        && !stands_next(inside.definite, inside.room, octets, &field.ty)?
+    {
         leave_out(slot);
         return Ok(0);
     }
-    match read_wholly_present(alloc, rule, field, room, octets, slot) {
+    match read_wholly_present(alloc, rule, field, inside.room, octets, slot) {
         Ok(used) => Ok(used),
-        Err(refusal) => Err(why_not_read(
-            refusal,
-            definite,
-            room,
-            octets,
-            &field.ty,
-            &fields[place + 1..],
-        )),
+        Err(refusal) => Err(why_not_read(refusal, inside, octets, field, later)),
     }
 }
 
@@ -193,25 +175,62 @@ fn leave_out(slot: &mut Option<Value>)
 }
 
 // Reads the encoding of the component at the front, which is not that of its default, where it has no parts and can be
-// looked at once, and returns how many octets it has. Of all others it says nothing, and of what is refused.
+// looked at once, and returns how many octets it has: at most `room`. Of all others it says nothing, and of what is
+// refused.
 #[inline(always)]
 fn read_shortly_present(
     alloc: Global,
     field: &Field,
+    room: usize,
     octets: &[u8],
     slot: &mut Option<Value>,
 ) -> Option<usize>
-    ensures { IfSome result (λ used. (rule : Canonical) → IsPresentRead (rule_of rule) (field_view field.now) (length octets.now) octets.now slot.new used) }
+    ensures { IfSome result (λ used. (rule : Canonical) → IsPresentRead (rule_of rule) (field_view field.now) room octets.now slot.new used) }
 {
     let tag = field.ty.leaf_tag()?;
-    let used = short_primitive(tag, octets.len(), octets)?;
-    let value = slot.get_or_insert_with(|| Value::Null);
+    let used = short_primitive(tag, room, octets)?;
+    occupy(slot);
+    let Some(value) = slot else { return None };
     if fill_canonical(alloc, &field.ty, &octets[2..used], value)
-        && !is_default(&field.presence, value)
+        && !holds_default(&field.presence, slot)
     {
         return Some(used);
     }
     None
+}
+
+// Puts some value into the slot if it is empty. The value stands at one place then, wherever it came from.
+#[inline(always)]
+fn occupy(slot: &mut Option<Value>)
+    ensures { IsSome slot.new }
+{
+    if slot.is_none() {
+        *slot = Some(Value::Null);
+    }
+}
+
+// Whether the value in the slot is the component's default: of most there is none.
+#[inline(always)]
+fn holds_default(presence: &Presence, slot: &Option<Value>) -> bool
+    ensures { result ≡ false → MatchOption slot.now ⊤ (λ value.
+        DiffersFromDefault (requirement_view presence.now) (value_view value)) }
+{
+    match presence {
+        Presence::Required | Presence::Optional => false,
+        Presence::Default(_) => holds_this(presence, slot),
+    }
+}
+
+// Whether the value in the slot is the default, of which there is one.
+#[inline(never)]
+fn holds_this(presence: &Presence, slot: &Option<Value>) -> bool
+    ensures { result ≡ false → MatchOption slot.now ⊤ (λ value.
+        DiffersFromDefault (requirement_view presence.now) (value_view value)) }
+{
+    match slot {
+        Some(value) => is_default(presence, value),
+        None => false,
+    }
 }
 
 // Reads the encoding of the component at the front, which is not that of its default.
@@ -230,8 +249,7 @@ pub fn read_present(
     ensures value { IfOk result (λ used. IsPresentRead (rule_of rule) (field_view field.now) room octets.now slot.new used) }
     ensures refused { IfErr result (RefusesStrictly (HasPresent (rule_of rule) (field_view field.now) room) (λ o. length o < room) octets.now) }
 {
-    let front = &octets[..octets.len().min(room)];
-    match read_shortly_present(alloc, field, front, slot) {
+    match read_shortly_present(alloc, field, room, octets, slot) {
         Some(used) => Ok(used),
         None => read_wholly_present(alloc, rule, field, room, octets, slot),
     }
@@ -253,7 +271,8 @@ fn read_wholly_present(
     ensures value { IfOk result (λ used. IsPresentRead (rule_of rule) (field_view field.now) room octets.now slot.new used) }
     ensures refused { IfErr result (RefusesStrictly (HasPresent (rule_of rule) (field_view field.now) room) (λ o. length o < room) octets.now) }
 {
-    let value = slot.get_or_insert_with(|| Value::Null);
+    occupy(slot);
+    let Some(value) = slot else { unreachable!() };
     let used = read_wholly(alloc, rule, &field.ty, room, octets, value)?;
     if is_default(&field.presence, value) {
         return Err(Refusal::NotCanonical);

@@ -15,6 +15,7 @@ ghost use Rattle.strict.specs.Reading.{HasPart};
 ghost use Rattle.strict.specs.Refusal.{IsOfStrictReading};
 
 use crate::ends::ends;
+use crate::head::Inside;
 use encoding_parts::{begins, can_begin, not_due, not_next, read_head_tag};
 use octets::Tag;
 use types::{Field, Refusal, Ty, Value};
@@ -45,21 +46,20 @@ pub fn stands_next(definite: bool, room: usize, octets: &[u8], ty: &Ty) -> Resul
     }
 }
 
-// Why no encoding of the type is read at the front, before these: it is refused so, or none begins there.
+// Why no encoding of the component is read at the front, before these: it is refused so, or none begins there.
 #[inline(never)]
 pub fn why_not_read(
     refusal: Refusal,
-    definite: bool,
-    room: usize,
+    inside: &Inside,
     octets: &[u8],
-    ty: &Ty,
+    field: &Field,
     later: &[Field],
 ) -> Refusal
-    requires { IsGoodType (ty_view ty.now) }
-    ensures { (result ≡ refusal) ⊎ ((rule : Canonical) → RefusesStrictly (HasPart (rule_of rule) (ty_view ty.now) room) (AreFewer definite room) octets.now result) }
+    requires { IsGoodType (ty_view field.now.ty) }
+    ensures { (result ≡ refusal) ⊎ ((rule : Canonical) → RefusesStrictly (HasPart (rule_of rule) (ty_view field.now.ty) inside.now.room) (AreFewer inside.now.definite inside.now.room) octets.now result) }
 {
-    match front_tag(definite, room, octets) {
-        Ok(Some(tag)) => if begins(ty, tag) {
+    match front_tag(inside.definite, inside.room, octets) {
+        Ok(Some(tag)) => if begins(&field.ty, tag) {
             refusal
         } else {
             not_next(later, tag)

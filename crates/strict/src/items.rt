@@ -74,18 +74,20 @@ fn read_listed(
         × EndsHere inside.now.definite (inside.now.room - used) (drop used octets.now)) }
     ensures refused { IfErr result (RefusesStrictly (HasItems (rule_of rule) (ty_view inner.now) ordered inside.now.definite inside.now.room []) (AreFewer inside.now.definite inside.now.room) octets.now) }
 {
-    let mut at = 0;
-    let mut before = 0;
-    while !ends(inside.definite, inside.room - at, &octets[at..])? {
-        let room = inside.room - at;
-        let used = read_item(alloc, rule, inner, room, &octets[at..], list)?;
-        if is_out_of_order(ordered, &octets[at..at + used], &octets[before..at]) {
+    let mut room = inside.room;
+    let mut rest = octets;
+    let mut last = &octets[..0];
+    while !ends(inside.definite, room, rest)? {
+        let used = read_item(alloc, rule, inner, room, rest, list)?;
+        let item = &rest[..used];
+        if is_out_of_order(ordered, item, last) {
             return Err(Refusal::NotCanonical);
         }
-        before = at;
-        at += used;
+        last = item;
+        room -= used;
+        rest = &rest[used..];
     }
-    Ok(at)
+    Ok(octets.len() - rest.len())
 }
 
 // Reads the encoding of the next item at the front into its place in the list, and returns how many octets it has: at

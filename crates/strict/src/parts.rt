@@ -41,8 +41,7 @@ pub fn read_one(
     ensures refused { IfErr result (RefusesPart rule (ty_view ty.now) room octets.now) }
 {
     if let Some(tag) = ty.leaf_tag() {
-        let front = &octets[..octets.len().min(room)];
-        if let Some(used) = read_shortly(alloc, ty, tag, front, value) {
+        if let Some(used) = read_shortly(alloc, ty, tag, room, octets, value) {
             return Ok(used);
         }
     }

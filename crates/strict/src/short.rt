@@ -16,7 +16,7 @@ use octets::{Canonical, Tag};
 pub fn short_opened(rule: Canonical, tag: Tag, room: usize, octets: &[u8]) -> Option<Inside>
     ensures { IfSome result (λ inside. IsOpened (rule_of rule) tag room octets.now inside) }
 {
-    if octets.len() < 2 || room < 4 || !is_identifier(tag, true, octets[0]) {
+    if octets.len() < 2 || !is_identifier(tag, true, octets[0]) {
         return None;
     }
     match rule {
@@ -30,11 +30,10 @@ pub fn short_opened(rule: Canonical, tag: Tag, room: usize, octets: &[u8]) -> Op
 fn short_definite(tag: Tag, room: usize, octets: &[u8]) -> Option<Inside>
     requires there { 2 ≤ length octets.now }
     requires tagged { IsIdentifier tag true (get_or octets.now 0 0 ∷ []) }
-    requires room { 2 ≤ room }
     ensures { IfSome result (λ inside. IsOpened der tag room octets.now inside) }
 {
     let size = usize::from(octets[1]);
-    if size >= 0x80 || size > room - 2 {
+    if size >= 0x80 || 2 + size > room {
         return None;
     }
     Some(Inside {
@@ -49,10 +48,9 @@ fn short_definite(tag: Tag, room: usize, octets: &[u8]) -> Option<Inside>
 fn short_indefinite(tag: Tag, room: usize, octets: &[u8]) -> Option<Inside>
     requires there { 2 ≤ length octets.now }
     requires tagged { IsIdentifier tag true (get_or octets.now 0 0 ∷ []) }
-    requires room { 4 ≤ room }
     ensures { IfSome result (λ inside. IsOpened cer tag room octets.now inside) }
 {
-    if octets[1] != 0x80 {
+    if octets[1] != 0x80 || room < 4 {
         return None;
     }
     Some(Inside {

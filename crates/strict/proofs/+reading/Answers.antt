@@ -1,4 +1,4 @@
-use Rattle.std.proofs.Common.{rules, ◌≡◌, ◌+◌, ◌-◌, ◌≤◌, ◌<◌, inl, inr, ◌++◌, ◌∷◌, ℕ, List, [], Option, Some, None, Err, length, map, take, drop, set, MatchOption, IfOk, true, false, sym, ap, ◌∙◌, subst, subst₂, arith, refl}
+use Rattle.std.proofs.Common.{rules, ◌≡◌, ◌+◌, ◌-◌, ◌≤◌, ◌<◌, inl, inr, ◌⊎◌, ◌++◌, ◌∷◌, ℕ, List, [], Option, Some, None, Err, length, map, take, drop, set, MatchOption, IfOk, true, false, sym, ap, ◌∙◌, subst, subst₂, arith, refl}
 use Rattle.std.specs.Ordering.{nat_cmp, is_lt}
 use Rattle.std.specs.Cmp.Lexicographic.{slice_cmp}
 use Rattle.std.proofs.lemmas.List.{take_rest, take_more_set, length-set, length-drop, length-take-le}
@@ -17,6 +17,7 @@ use Rattle.types.proofs.LimitLemmas.{alternative_type}
 use Rattle.types.proofs.ViewLemmas.{ty-Sequence, ty-Set, ty-SequenceOf, ty-SetOf, ty-Explicit}
 use Rattle.encoding_parts.specs.Parts.{IsGoodType, IsSlotOf}
 use Rattle.encoding_parts.specs.Renewed.{new_items}
+use Rattle.encoding_parts.specs.Segments.{BeginsAboveZero}
 use Rattle.strict.specs.Begun.{IsBegun}
 use Rattle.strict.specs.Head.{EndsHere, IsEndKnown, AreFewer}
 use Rattle.strict.specs.Reading.{IsRead, HasPart, RefusesPart}
@@ -25,17 +26,17 @@ use Rattle.strict.specs.Bars.{RefusesStrictly}
 use Rattle.strict.specs.Inside.{HasInside, IsInsideRead, list_of}
 use Rattle.strict.specs.Items.{AreItemsRead, between}
 use Rattle.strict.proofs.BarsLemmas.{refused_of, refused_for_good, refused_by, refused_behind, refused_named, refused_through}
-use Rattle.strict.proofs.PartLemmas.{read_some, read_in_front}
+use Rattle.strict.proofs.PartLemmas.{read_some}
 use Rattle.strict.proofs.FieldLemmas.{field_type, field_requirement, run_at, first_of, whole_of}
 use Rattle.strict.proofs.FrontLemmas.{IsStandingKnown, front_known}
-use Rattle.strict.proofs.PresentLemmas.{part_of_present, present_some, front_within, used_in_front, front_size, front_behind, present_in_front, present_at_front, none_spelt_out}
+use Rattle.strict.proofs.PresentLemmas.{part_of_present, present_within, rest_within, rest_size, rest_behind, none_spelt_out}
 use Rattle.strict.proofs.ComponentLemmas.{ends_or_begins}
-use Rattle.strict.proofs.SequenceLemmas.{absent_read, stands_read, present_first, none_read, component_more, good_components, components_inside, all_read, ends_behind_all, sequence_read}
+use Rattle.strict.proofs.SequenceLemmas.{absent_read, stands_read, present_first, none_read, component_more, good_components, components_inside, all_read, ends_left, sequence_read}
 use Rattle.strict.proofs.ItemLemmas.{item_or_end, item_stands, no_items, item_read, none_out_of_order, list_read, items_inside}
 use Rattle.strict.proofs.ConstructedLemmas.{node_of_parts, can_of_parts, constructed_of, inside_of, constructed_read}
 use Rattle.strict.proofs.ChosenLemmas.{tag_of_part, choice_of_part, this_at, none_there, good_at, place_chosen, chosen_read}
 use Rattle.strict.proofs.AloneLemmas.{alone_inside, ends_alone, explicit_read, part_alone}
-use Rattle.strict.proofs.EndingLemmas.{fewer_behind, begun_short, item_behind, begun_constructed, begun_around, begun_chosen}
+use Rattle.strict.proofs.EndingLemmas.{fewer_behind, begun_short, begun_constructed, begun_around, begun_chosen}
 use Rattle.strict.proofs.+reading.Goals as goal
 use Rattle.strict.proofs.+reading.Goals.{components::read_each-in-Some, components::read_each-in-None+in_ok-used-in-None, components::read_component-else-may_be_absent-via-then-may_be_absent+in_ok-stands_next+else-not-branch, components::read_component-else-may_be_absent-via-else-may_be_absent, items::read_items-in-Ok, items::read_items-in-Err}
 use Rattle.strict.proofs.SetLemmas.{members_inside, good_members}
@@ -59,8 +60,15 @@ items::read_items-returns-clause-value t c = elim c.match-read.branch [
   | items::read_items-in-Err w ↦ search (rules, w.in-Err.is)
 ]
 
-pub items::read_listed-loop-room-init : goal.items::read_listed-loop-room-init
-items::read_listed-loop-room-init t c = no_items (rule_of c.args.rule) (ty_view c.args.inner.now) c.args.ordered c.args.inside.now.definite c.args.inside.now.room c.args.octets.now (new_items c.args.list.now) c.requires.fresh
+pub items::read_listed-loop-alloc-init : goal.items::read_listed-loop-alloc-init
+items::read_listed-loop-alloc-init t c =
+    let octets = c.args.octets.now in
+    let rule = rule_of c.args.rule in
+    let type = ty_view c.args.inner.now in
+    let d = c.args.inside.now.definite in
+    let room = c.args.inside.now.room in
+    let none : 0 ≡ length octets - length octets = omega arith in
+    (0, subst (AreItemsRead rule type c.args.ordered d room octets (new_items c.args.list.now) 0) none (no_items rule type c.args.ordered d room octets (new_items c.args.list.now) c.requires.fresh), ap (between octets 0) none, ap (λ k. drop k octets) none, omega arith)
 
 pub items::read_listed-returns-in_err-ends-clause-refused : goal.items::read_listed-returns-in_err-ends-clause-refused
 items::read_listed-returns-in_err-ends-clause-refused t c =
@@ -69,11 +77,17 @@ items::read_listed-returns-in_err-ends-clause-refused t c =
     let type = ty_view c.args.inner.now in
     let d = c.args.inside.now.definite in
     let room = c.args.inside.now.room in
-    let at = c.loop-room.at in
-    let read = c.loop-room.invariant in
-    let last = between octets c.loop-room.before at in
+    let rest = c.loop-alloc.rest.now in
+    let at = length octets - length rest in
+    let before = c.loop-alloc.invariant.0 in
+    let so_far = c.loop-alloc.invariant.1 in
+    let last_is = c.loop-alloc.invariant.2 in
+    let rest_is = c.loop-alloc.invariant.3 in
+    let room_is = c.loop-alloc.invariant.4 in
+    let there = rest_within octets rest rest_is in
     refused_through c.from_residual.result c.from_residual.ensures.1
-    (refused_behind at c.in_err-ends.ensures.refused (λ more h. item_or_end rule type c.args.ordered d (room - at) last (drop at octets ++ more) c.requires.good (read.forth more h)) (λ k. fewer_behind d room at octets read.within read.there k))
+    (refused_by c.in_err-ends.ensures.refused (λ more h. subst₂ (λ n x. EndsHere d n (x ++ more) ⊎ BeginsAboveZero (x ++ more)) (sym room_is) (sym rest_is) (item_or_end rule type c.args.ordered d (room - at) (between octets before at) (drop at octets ++ more) c.requires.good (so_far.forth more h)))
+    (λ k. omega (arith, k, so_far.within, there, room_is)))
 
 pub items::read_listed-returns-in_err-used-clause-refused : goal.items::read_listed-returns-in_err-used-clause-refused
 items::read_listed-returns-in_err-used-clause-refused t c =
@@ -82,17 +96,21 @@ items::read_listed-returns-in_err-used-clause-refused t c =
     let type = ty_view c.args.inner.now in
     let d = c.args.inside.now.definite in
     let room = c.args.inside.now.room in
-    let at = c.loop-room.at in
-    let read = c.loop-room.invariant in
-    let last = between octets c.loop-room.before at in
-    let inner = take (length octets - at) (drop at octets) in
+    let rest = c.loop-alloc.rest.now in
+    let at = length octets - length rest in
+    let before = c.loop-alloc.invariant.0 in
+    let so_far = c.loop-alloc.invariant.1 in
+    let last_is = c.loop-alloc.invariant.2 in
+    let rest_is = c.loop-alloc.invariant.3 in
+    let room_is = c.loop-alloc.invariant.4 in
+    let there = rest_within octets rest rest_is in
     let off : c.in_ok-ends.field-0 ≡ false = search rules in
-    let known : IsEndKnown false d (room - at) inner = subst (λ b. IsEndKnown b d (room - at) inner) off c.in_ok-ends.ensures.value in
+    let known : IsEndKnown false d c.loop-alloc.room rest = subst (λ b. IsEndKnown b d c.loop-alloc.room rest) off c.in_ok-ends.ensures.value in
     refused_through c.from_residual-in_err-used.result c.from_residual-in_err-used.ensures.1
-    (refused_behind at c.in_err-used.ensures.refused (λ more h.
-    let goes : EndsHere d (room - at) (drop at octets ++ more) → ⊥ = subst (λ x. EndsHere d (room - at) (x ++ more) → ⊥) (take_rest octets at) (known more) in
-    item_stands rule type c.args.ordered d (room - at) last (drop at octets ++ more) goes (read.forth more h))
-    (λ k. item_behind c.args.rule type d room at octets read.within read.there k))
+    (refused_by c.in_err-used.ensures.refused (λ more h.
+    let goes = subst₂ (λ n x. EndsHere d n (x ++ more) → ⊥) room_is rest_is (known more) in
+    subst₂ (λ n x. HasPart rule type n (x ++ more)) (sym room_is) (sym rest_is) (item_stands rule type c.args.ordered d (room - at) (between octets before at) (drop at octets ++ more) goes (so_far.forth more h)))
+    (λ k. omega (arith, begun_short c.args.rule type c.loop-alloc.room rest k, so_far.within, there, room_is)))
 
 pub items::read_listed-returns-then-is_out_of_order-clause-refused : goal.items::read_listed-returns-then-is_out_of_order-clause-refused
 items::read_listed-returns-then-is_out_of_order-clause-refused t c = refused_for_good (tt, tt) (λ more h.
@@ -101,52 +119,74 @@ items::read_listed-returns-then-is_out_of_order-clause-refused t c = refused_for
     let type = ty_view c.args.inner.now in
     let d = c.args.inside.now.definite in
     let room = c.args.inside.now.room in
-    let at = c.loop-room.at in
-    let before = c.loop-room.before in
+    let rest = c.loop-alloc.rest.now in
+    let at = length octets - length rest in
+    let before = c.loop-alloc.invariant.0 in
+    let so_far = c.loop-alloc.invariant.1 in
+    let last_is = c.loop-alloc.invariant.2 in
+    let rest_is = c.loop-alloc.invariant.3 in
+    let room_is = c.loop-alloc.invariant.4 in
+    let there = rest_within octets rest rest_is in
     let used = c.in_ok-used.used in
     let item = c.in_ok-used.ensures.value in
-    let read = subst (λ x. IsRead rule type (room - at) x item.0 used) (take_rest octets at) item.2 in
-    let size : (at + used) - at ≡ used = omega arith in
-    let told = subst (λ n. c.is_out_of_order.result ≡ true → (c.args.ordered ≡ true) × (is_lt (slice_cmp nat_cmp (take n (drop at octets)) (between octets before at)) ≡ true)) size c.is_out_of_order.ensures.0 c.if-is_out_of_order.true in
-    none_out_of_order rule type c.args.ordered d room octets more (new_items c.loop-room.list) item.0 before at used c.requires.good c.loop-room.invariant read told.0 told.1 h)
+    let read = subst₂ (λ n x. IsRead rule type n x item.0 used) room_is rest_is item.2 in
+    let told = subst₂ (λ x l. c.is_out_of_order.result ≡ true → (c.args.ordered ≡ true) × (is_lt (slice_cmp nat_cmp (take used x) l) ≡ true)) rest_is last_is c.is_out_of_order.ensures.0 c.if-is_out_of_order.true in
+    none_out_of_order rule type c.args.ordered d room octets more (new_items c.loop-alloc.list) item.0 before at used c.requires.good so_far read told.0 told.1 h)
 
-pub items::read_listed-loop-room-smaller : goal.items::read_listed-loop-room-smaller
-items::read_listed-loop-room-smaller t c =
-    let octets = c.args.octets.now in
+pub items::read_listed-loop-alloc-smaller : goal.items::read_listed-loop-alloc-smaller
+items::read_listed-loop-alloc-smaller t c =
     let rule = rule_of c.args.rule in
     let type = ty_view c.args.inner.now in
-    let room = c.args.inside.now.room in
-    let at = c.loop-room.at in
+    let rest = c.loop-alloc.rest.now in
+    let used = c.in_ok-used.used in
     let item = c.in_ok-used.ensures.value in
-    let read = subst (λ x. IsRead rule type (room - at) x item.0 c.in_ok-used.used) (take_rest octets at) item.2 in
-    let some = read_some rule type (room - at) (drop at octets) item.0 c.in_ok-used.used c.requires.good read in
-    omega (arith, some, read.0, length-drop at octets, c.loop-room.invariant.there)
+    let some = read_some rule type c.loop-alloc.room rest item.0 used c.requires.good item.2 in
+    let less : length (take (length rest - used) (drop used rest)) < length rest = omega (arith, some, item.2.0, ap length (take_rest rest used), length-drop used rest) in
+    less
 
-pub items::read_listed-loop-room-preserved : goal.items::read_listed-loop-room-preserved
-items::read_listed-loop-room-preserved t c =
+pub items::read_listed-loop-alloc-preserved : goal.items::read_listed-loop-alloc-preserved
+items::read_listed-loop-alloc-preserved t c =
     let octets = c.args.octets.now in
     let rule = rule_of c.args.rule in
     let type = ty_view c.args.inner.now in
     let d = c.args.inside.now.definite in
     let room = c.args.inside.now.room in
-    let at = c.loop-room.at in
-    let before = c.loop-room.before in
+    let rest = c.loop-alloc.rest.now in
+    let at = length octets - length rest in
+    let before = c.loop-alloc.invariant.0 in
+    let so_far = c.loop-alloc.invariant.1 in
+    let last_is = c.loop-alloc.invariant.2 in
+    let rest_is = c.loop-alloc.invariant.3 in
+    let room_is = c.loop-alloc.invariant.4 in
+    let there = rest_within octets rest rest_is in
     let used = c.in_ok-used.used in
     let item = c.in_ok-used.ensures.value in
-    let read = subst (λ x. IsRead rule type (room - at) x item.0 used) (take_rest octets at) item.2 in
-    let size : (at + used) - at ≡ used = omega arith in
-    let told = subst (λ n. c.is_out_of_order.result ≡ false → c.args.ordered ≡ true → is_lt (slice_cmp nat_cmp (take n (drop at octets)) (between octets before at)) ≡ false) size c.is_out_of_order.ensures.1 c.if-is_out_of_order.false in
-    let more = item_read rule type c.args.ordered d room octets (new_items c.loop-room.list) item.0 before at used c.requires.good c.loop-room.invariant read told in
-    subst (λ l. AreItemsRead rule type c.args.ordered d room octets l at (at + used)) (sym item.1) more
+    let below = item.2.0 in
+    let read = subst₂ (λ n x. IsRead rule type n x item.0 used) room_is rest_is item.2 in
+    let told = subst₂ (λ x l. c.is_out_of_order.result ≡ false → c.args.ordered ≡ true → is_lt (slice_cmp nat_cmp (take used x) l) ≡ false) rest_is last_is c.is_out_of_order.ensures.1 c.if-is_out_of_order.false in
+    let more = item_read rule type c.args.ordered d room octets (new_items c.loop-alloc.list) item.0 before at used c.requires.good so_far read told in
+    let size = rest_size used octets rest below rest_is in
+    let own : used ≡ (at + used) - at = omega arith in
+    (at, subst₂ (λ l k. AreItemsRead rule type c.args.ordered d room octets l at k) (sym item.1) size more, ap (take used) rest_is ∙ (ap (λ n. take n (drop at octets)) own ∙ ap (between octets at) size), rest_behind used octets rest below rest_is, omega (arith, room_is, size))
 
 pub items::read_listed-returns-clause-value : goal.items::read_listed-returns-clause-value
 items::read_listed-returns-clause-value t c =
+    let octets = c.args.octets.now in
+    let rule = rule_of c.args.rule in
+    let type = ty_view c.args.inner.now in
     let d = c.args.inside.now.definite in
     let room = c.args.inside.now.room in
-    let at = c.loop-room.at in
+    let rest = c.loop-alloc.rest.now in
+    let at = length octets - length rest in
+    let before = c.loop-alloc.invariant.0 in
+    let so_far = c.loop-alloc.invariant.1 in
+    let last_is = c.loop-alloc.invariant.2 in
+    let rest_is = c.loop-alloc.invariant.3 in
+    let room_is = c.loop-alloc.invariant.4 in
+    let there = rest_within octets rest rest_is in
     let on : c.in_ok-ends.field-0 ≡ true = search rules in
-    let ends : EndsHere d (room - at) (drop at c.args.octets.now) = subst₂ (λ b x. IsEndKnown b d (room - at) x) on (take_rest c.args.octets.now at) c.in_ok-ends.ensures.value in
-    (c.loop-room.before, c.loop-room.invariant, ends)
+    let ends = subst₂ (λ n x. EndsHere d n x) room_is rest_is (subst (λ b. IsEndKnown b d c.loop-alloc.room rest) on c.in_ok-ends.ensures.value) in
+    (before, so_far, ends)
 
 pub parts::read_chosen-returns-in_err-tag-clause-refused : goal.parts::read_chosen-returns-in_err-tag-clause-refused
 parts::read_chosen-returns-in_err-tag-clause-refused t c =
@@ -241,25 +281,32 @@ pub components::read_each-loop-place-init : goal.components::read_each-loop-plac
 components::read_each-loop-place-init t c =
     let octets = c.args.octets.now in
     let rule = rule_of c.args.rule in
-    let fields = map field_view c.args.fields.now in
+    let fields = c.args.fields.now in
     let d = c.args.inside.now.definite in
     let room = c.args.inside.now.room in
-    let n = c.min-whole.result in
-    let start : 0 ≡ n - length (take n octets) = omega (arith, length-take-le n octets (omega (arith, c.min-whole.ensures))) in
-    (subst (AreComponentsRead rule [] fields d room octets []) start (none_read rule fields d room octets [] refl), c.requires.slots, ap (λ k. drop k (take n octets)) start)
-
-pub components::read_each-overflow_sub-at : goal.components::read_each-overflow_sub-at
-components::read_each-overflow_sub-at t c = front_within c.min-whole.result c.args.octets.now c.loop-place.front.now (omega (arith, c.min-whole.ensures)) c.loop-place.invariant.2
+    let none : 0 ≡ length octets - length octets = omega arith in
+    let all = map field_view fields in
+    (subst (AreComponentsRead rule [] all d room octets []) none (none_read rule all d room octets [] refl), c.requires.slots, ap (λ k. drop k octets) none, omega arith, refl)
 
 pub components::read_each-read_component-requires : goal.components::read_each-read_component-requires
 components::read_each-read_component-requires t c =
+    let octets = c.args.octets.now in
+    let rule = rule_of c.args.rule in
     let fields = c.args.fields.now in
+    let d = c.args.inside.now.definite in
+    let room = c.args.inside.now.room in
+    let rest = c.loop-place.rest.now in
+    let left = c.loop-place.left in
+    let at = length octets - length rest in
+    let rest_is = c.loop-place.invariant.2 in
+    let room_is = c.loop-place.invariant.3 in
+    let form_is = c.loop-place.invariant.4 in
     let i = c.loop-place.place in
     let f = c.index-fields-place.result in
     let bound : i < length fields = c.loop-place-test.true in
     let is = c.index-fields-place.is in
     let run = run_at fields i f bound is c.requires.good c.requires.runs in
-    (search (rules, node.the_lemmas, field.the_lemmas, bound, is), (run.good, (omega (arith, c.requires.room), bound)))
+    (search (rules, node.the_lemmas, field.the_lemmas, bound, is), (run.good, omega (arith, c.requires.room, room_is)))
 
 pub components::read_each-returns-in_err-used-in-None-clause-refused : goal.components::read_each-returns-in_err-used-in-None-clause-refused
 components::read_each-returns-in_err-used-in-None-clause-refused t c =
@@ -268,72 +315,75 @@ components::read_each-returns-in_err-used-in-None-clause-refused t c =
     let fields = c.args.fields.now in
     let d = c.args.inside.now.definite in
     let room = c.args.inside.now.room in
+    let rest = c.loop-place.rest.now in
+    let left = c.loop-place.left in
+    let at = length octets - length rest in
+    let rest_is = c.loop-place.invariant.2 in
+    let room_is = c.loop-place.invariant.3 in
+    let form_is = c.loop-place.invariant.4 in
     let i = c.loop-place.place in
     let f = c.index-fields-place.result in
     let bound : i < length fields = c.loop-place-test.true in
     let is = c.index-fields-place.is in
     let run = run_at fields i f bound is c.requires.good c.requires.runs in
-    let at = c.min-whole.result - length c.loop-place.front.now in
+    let view = field_view f in
     let others = map field_view (drop (i + 1) fields) in
-    let first = c.loop-place.invariant.0 in
-    let so_far = subst (λ l. AreComponentsRead rule (map field_view (take i fields)) l d room octets (take i c.loop-place.slots) at) run.here first in
+    let so_far = subst (λ l. AreComponentsRead rule (map field_view (take i fields)) l d room octets (take i c.loop-place.slots) at) run.here c.loop-place.invariant.0 in
+    let there = rest_within octets rest rest_is in
+    let first = λ (more : List ℕ) (h : HasComponents rule (map field_view fields) d room (octets ++ more)).
+    subst (λ b. HasComponentFirst rule view b left.room (rest ++ more)) (sym form_is) (subst₂ (λ n x. HasComponentFirst rule view d n (x ++ more)) (sym room_is) (sym rest_is) (others, run.runs, run.goods, so_far.forth more (subst (λ l. HasComponents rule l d room (octets ++ more)) (whole_of fields i f bound is) h))) in
     refused_through c.from_residual.result c.from_residual.ensures.1
-    (refused_behind at c.in_err-used-in-None.ensures.refused (λ more h. (others, run.runs, run.goods, so_far.forth more (subst (λ l. HasComponents rule l d room (octets ++ more)) (whole_of fields i f bound is) h)))
-    (λ k. fewer_behind d room at octets first.within first.there k))
+    (refused_by c.in_err-used-in-None.ensures.refused first
+    (λ k. omega (arith, subst (λ b. AreFewer b left.room rest) form_is k, so_far.within, there, room_is)))
 
--- the octets of the component that was read are within what is left of the front
-used_at : (t : ℕ) (c : goal.components::read_each-After-row_known-1 t) → c.match-read_shortly_present.used ≤ length c.loop-place.front.now
+-- the octets of the component that was read are within what is left
+used_at : (t : ℕ) (c : goal.components::read_each-After-row_known-1 t) → (c.match-read_shortly_present.used ≤ c.loop-place.left.room) × (c.match-read_shortly_present.used ≤ length c.loop-place.rest.now)
 used_at t c =
-    let octets = c.args.octets.now in
-    let rule = rule_of c.args.rule in
     let fields = c.args.fields.now in
-    let f = c.index-fields-place.result in
-    let run = run_at fields c.loop-place.place f c.loop-place-test.true c.index-fields-place.is c.requires.good c.requires.runs in
-    let n = c.min-whole.result in
-    let front = c.loop-place.front.now in
-    elim c.match-read_shortly_present.branch [
-      | components::read_each-in-Some w ↦
-          subst (λ k. k ≤ length front) (sym w.used-is) (present_some rule (field_view f) (length front) front c.read_shortly_present.new.slot w.in-Some.used run.good.type (w.in-Some.ensures c.args.rule)).1
-      | components::read_each-in-None+in_ok-used-in-None w ↦
-          let used = w.in_ok-used-in-None.used in
-          let one = w.in_ok-used-in-None.ensures.value (map field_view (drop (c.loop-place.place + 1) fields)) run.runs run.goods in
-          let there = subst (λ x. used ≤ length x) (take_rest octets (n - length front)) one.there in
-          subst (λ k. k ≤ length front) (sym w.used-is) (used_in_front c.args.inside.now.room n used octets front c.min-whole.ensures c.loop-place.invariant.2 one.within there)
-    ]
-
-pub components::read_each-slice_bounds-front-count : goal.components::read_each-slice_bounds-front-count
-components::read_each-slice_bounds-front-count t c = used_at t c
-
-pub components::read_each-slice_bounds-front-start : goal.components::read_each-slice_bounds-front-start
-components::read_each-slice_bounds-front-start t c = used_at t c
-
--- the component that was read, at once or not
-component_at : (t : ℕ) (c : goal.components::read_each-After-front-1 t) → (slot : Option Value) × (c.match-read_shortly_present.slots ≡ set c.loop-place.slots c.loop-place.place slot)
-    × AreComponentsRead (rule_of c.args.rule) (field_view c.index-fields-place.result ∷ []) (map field_view (drop (c.loop-place.place + 1) c.args.fields.now)) c.args.inside.now.definite (c.args.inside.now.room - (c.min-whole.result - length c.loop-place.front.now)) (drop (c.min-whole.result - length c.loop-place.front.now) c.args.octets.now) (slot ∷ []) c.match-read_shortly_present.used
-component_at t c =
-    let octets = c.args.octets.now in
-    let rule = rule_of c.args.rule in
-    let fields = c.args.fields.now in
-    let d = c.args.inside.now.definite in
-    let room = c.args.inside.now.room in
+    let rest = c.loop-place.rest.now in
+    let room = c.loop-place.left.room in
     let i = c.loop-place.place in
     let f = c.index-fields-place.result in
-    let view = field_view f in
     let run = run_at fields i f c.loop-place-test.true c.index-fields-place.is c.requires.good c.requires.runs in
-    let n = c.min-whole.result in
-    let front = c.loop-place.front.now in
-    let at = n - length front in
+    elim c.match-read_shortly_present.branch [
+      | components::read_each-in-Some w ↦
+          subst (λ k. (k ≤ room) × (k ≤ length rest)) (sym w.used-is) (present_within (rule_of c.args.rule) (field_view f) room rest c.read_shortly_present.new.slot w.in-Some.used (w.in-Some.ensures c.args.rule))
+      | components::read_each-in-None+in_ok-used-in-None w ↦
+          let one = w.in_ok-used-in-None.ensures.value (map field_view (drop (i + 1) fields)) run.runs run.goods in
+          subst (λ k. (k ≤ room) × (k ≤ length rest)) (sym w.used-is) (one.within, one.there)
+    ]
+
+pub components::read_each-overflow_sub-left : goal.components::read_each-overflow_sub-left
+components::read_each-overflow_sub-left t c = (used_at t c).0
+
+pub components::read_each-slice_bounds-rest-count : goal.components::read_each-slice_bounds-rest-count
+components::read_each-slice_bounds-rest-count t c = (used_at t c).1
+
+pub components::read_each-slice_bounds-rest-start : goal.components::read_each-slice_bounds-rest-start
+components::read_each-slice_bounds-rest-start t c = (used_at t c).1
+
+-- the component that was read, at once or not
+component_at : (t : ℕ) (c : goal.components::read_each-After-rest-1 t) → (slot : Option Value) × (c.match-read_shortly_present.slots ≡ set c.loop-place.slots c.loop-place.place slot)
+    × AreComponentsRead (rule_of c.args.rule) (field_view c.index-fields-place.result ∷ []) (map field_view (drop (c.loop-place.place + 1) c.args.fields.now)) c.loop-place.left.definite c.loop-place.left.room c.loop-place.rest.now (slot ∷ []) c.match-read_shortly_present.used
+component_at t c =
+    let rule = rule_of c.args.rule in
+    let fields = c.args.fields.now in
+    let rest = c.loop-place.rest.now in
+    let left = c.loop-place.left in
+    let i = c.loop-place.place in
+    let f = c.index-fields-place.result in
+    let bound : i < length fields = c.loop-place-test.true in
+    let is = c.index-fields-place.is in
+    let run = run_at fields i f bound is c.requires.good c.requires.runs in
+    let view = field_view f in
     let others = map field_view (drop (i + 1) fields) in
     elim c.match-read_shortly_present.branch [
       | components::read_each-in-Some w ↦
           let slot = c.read_shortly_present.new.slot in
-          let used = w.in-Some.used in
-          let read = present_in_front rule view room n octets front slot used (omega (arith, c.min-whole.ensures)) (omega (arith, c.min-whole.ensures)) c.loop-place.invariant.2 (w.in-Some.ensures c.args.rule) in
-          (slot, w.slots-is, subst (AreComponentsRead rule (view ∷ []) others d (room - at) (drop at octets) (slot ∷ [])) (sym w.used-is) (stands_read c.args.rule view others d (room - at) (drop at octets) slot used run.good.type run.runs run.goods read))
+          (slot, w.slots-is, subst (AreComponentsRead rule (view ∷ []) others left.definite left.room rest (slot ∷ [])) (sym w.used-is) (stands_read c.args.rule view others left.definite left.room rest slot w.in-Some.used run.good.type run.runs run.goods (w.in-Some.ensures c.args.rule)))
       | components::read_each-in-None+in_ok-used-in-None w ↦
           let slot = w.read_component.new.slot in
-          let read = subst (λ x. AreComponentsRead rule (view ∷ []) others d (room - at) x (slot ∷ []) w.in_ok-used-in-None.used) (take_rest octets at) (w.in_ok-used-in-None.ensures.value others run.runs run.goods) in
-          (slot, w.slots-is, subst (AreComponentsRead rule (view ∷ []) others d (room - at) (drop at octets) (slot ∷ [])) (sym w.used-is) read)
+          (slot, w.slots-is, subst (AreComponentsRead rule (view ∷ []) others left.definite left.room rest (slot ∷ [])) (sym w.used-is) (w.in_ok-used-in-None.ensures.value others run.runs run.goods))
     ]
 
 pub components::read_each-loop-place-preserved : goal.components::read_each-loop-place-preserved
@@ -343,73 +393,98 @@ components::read_each-loop-place-preserved t c =
     let fields = c.args.fields.now in
     let d = c.args.inside.now.definite in
     let room = c.args.inside.now.room in
+    let rest = c.loop-place.rest.now in
+    let left = c.loop-place.left in
+    let at = length octets - length rest in
+    let rest_is = c.loop-place.invariant.2 in
+    let room_is = c.loop-place.invariant.3 in
+    let form_is = c.loop-place.invariant.4 in
     let i = c.loop-place.place in
     let f = c.index-fields-place.result in
     let bound : i < length fields = c.loop-place-test.true in
     let is = c.index-fields-place.is in
     let run = run_at fields i f bound is c.requires.good c.requires.runs in
-    let n = c.min-whole.result in
-    let there : n ≤ length octets = omega (arith, c.min-whole.ensures) in
-    let front = c.loop-place.front.now in
-    let at = n - length front in
+    let view = field_view f in
     let others = map field_view (drop (i + 1) fields) in
     let slots = c.loop-place.slots in
     let so_far = subst (λ l. AreComponentsRead rule (map field_view (take i fields)) l d room octets (take i slots) at) run.here c.loop-place.invariant.0 in
     let used = c.match-read_shortly_present.used in
     let one = component_at t c in
     let slot = one.0 in
-    let below = used_in_front room n used octets front c.min-whole.ensures c.loop-place.invariant.2 one.2.within one.2.there in
-    let size = front_size n used octets front there below c.loop-place.invariant.2 in
-    let more = subst (AreComponentsRead rule (map field_view (take i fields) ++ (field_view f ∷ [])) others d room octets (take i slots ++ (slot ∷ []))) size (component_more rule (map field_view (take i fields)) (field_view f) others d room octets (take i slots) slot at used so_far one.2) in
+    let below = one.2.there in
+    let here = subst (λ b. AreComponentsRead rule (view ∷ []) others b (room - at) (drop at octets) (slot ∷ []) used) form_is (subst₂ (λ n x. AreComponentsRead rule (view ∷ []) others left.definite n x (slot ∷ []) used) room_is rest_is one.2) in
+    let size = rest_size used octets rest below rest_is in
+    let more = subst (AreComponentsRead rule (map field_view (take i fields) ++ (view ∷ [])) others d room octets (take i slots ++ (slot ∷ []))) size (component_more rule (map field_view (take i fields)) view others d room octets (take i slots) slot at used so_far here) in
     let filled : take (i + 1) (set slots i slot) ≡ take i slots ++ (slot ∷ []) = take_more_set slots i slot (omega (arith, bound, c.loop-place.invariant.1)) in (
-      subst₂ (λ first l. AreComponentsRead rule first others d room octets l (n - length (take (length front - used) (drop used front)))) (sym (first_of fields i f bound is)) (sym (ap (take (i + 1)) one.1 ∙ filled)) more,
+      subst₂ (λ first l. AreComponentsRead rule first others d room octets l (length octets - length (take (length rest - used) (drop used rest)))) (sym (first_of fields i f bound is)) (sym (ap (take (i + 1)) one.1 ∙ filled)) more,
       ap length one.1 ∙ (length-set slots i slot ∙ c.loop-place.invariant.1),
-      front_behind n used octets front there below c.loop-place.invariant.2,
+      rest_behind used octets rest below rest_is,
+      omega (arith, room_is, size),
+      form_is,
     )
 
-pub components::read_each-overflow_sub-result : goal.components::read_each-overflow_sub-result
-components::read_each-overflow_sub-result t c = front_within c.min-whole.result c.args.octets.now c.loop-place.front.now (omega (arith, c.min-whole.ensures)) c.loop-place.invariant.2
-
-pub components::read_each-returns-clause-value : goal.components::read_each-returns-clause-value
-components::read_each-returns-clause-value t c =
-    all_read (rule_of c.args.rule) c.args.fields.now c.loop-place.place c.args.inside.now.definite c.args.inside.now.room c.args.octets.now c.loop-place.slots (c.min-whole.result - length c.loop-place.front.now) c.loop-place-test.false c.loop-place.invariant.1 c.loop-place.invariant.0
-
-pub components::read_components-returns-in_err-tag-clause-refused : goal.components::read_components-returns-in_err-tag-clause-refused
-components::read_components-returns-in_err-tag-clause-refused t c =
+pub components::read_each-returns-in_err-tag-clause-refused : goal.components::read_each-returns-in_err-tag-clause-refused
+components::read_each-returns-in_err-tag-clause-refused t c =
     let octets = c.args.octets.now in
+    let rule = rule_of c.args.rule in
+    let fields = c.args.fields.now in
     let d = c.args.inside.now.definite in
     let room = c.args.inside.now.room in
-    let at = c.in_ok-used.used in
-    let read = c.in_ok-used.ensures.value in
+    let rest = c.loop-place.rest.now in
+    let left = c.loop-place.left in
+    let slots = c.loop-place.slots in
+    let at = length octets - length rest in
+    let rest_is = c.loop-place.invariant.2 in
+    let room_is = c.loop-place.invariant.3 in
+    let form_is = c.loop-place.invariant.4 in
+    let all = all_read rule fields c.loop-place.place d room octets slots at c.loop-place-test.false c.loop-place.invariant.1 c.loop-place.invariant.0 in
     refused_through c.from_residual-in_err-tag.result c.from_residual-in_err-tag.ensures.1
-    (refused_behind at c.in_err-tag.ensures.refused (λ more h. inl (ends_behind_all (rule_of c.args.rule) (map field_view c.args.fields.now) d room octets more c.read_slots.new.slots.items at read h)) (λ k. fewer_behind d room at octets read.within read.there k))
+    (refused_by c.in_err-tag.ensures.refused (λ more h. inl (ends_left rule (map field_view fields) d left.definite room left.room octets rest more slots all rest_is room_is form_is h))
+    (λ k. omega (arith, subst (λ b. AreFewer b left.room rest) form_is k, all.within, rest_within octets rest rest_is, room_is)))
 
-pub components::read_components-returns-in-Some-clause-refused : goal.components::read_components-returns-in-Some-clause-refused
-components::read_components-returns-in-Some-clause-refused t c = refused_for_good (c.left_over.ensures.never, c.left_over.ensures.numbers) (λ more h.
+pub components::read_each-returns-in-Some-2-clause-refused : goal.components::read_each-returns-in-Some-2-clause-refused
+components::read_each-returns-in-Some-2-clause-refused t c = refused_for_good (c.left_over.ensures.never, c.left_over.ensures.numbers) (λ more h.
     let octets = c.args.octets.now in
+    let rule = rule_of c.args.rule in
+    let fields = c.args.fields.now in
     let d = c.args.inside.now.definite in
     let room = c.args.inside.now.room in
-    let at = c.in_ok-used.used in
-    let front : IsFront (Some c.in-Some.tag) d (room - at) (drop at octets) = subst₂ (λ f x. IsFront f d (room - at) x) c.in-Some.is (take_rest octets at) c.in_ok-tag.ensures.value in
-    front.1 more (ends_behind_all (rule_of c.args.rule) (map field_view c.args.fields.now) d room octets more c.read_slots.new.slots.items at c.in_ok-used.ensures.value h))
+    let rest = c.loop-place.rest.now in
+    let left = c.loop-place.left in
+    let slots = c.loop-place.slots in
+    let at = length octets - length rest in
+    let rest_is = c.loop-place.invariant.2 in
+    let room_is = c.loop-place.invariant.3 in
+    let form_is = c.loop-place.invariant.4 in
+    let all = all_read rule fields c.loop-place.place d room octets slots at c.loop-place-test.false c.loop-place.invariant.1 c.loop-place.invariant.0 in
+    let front : IsFront (Some c.in-Some-2.tag) left.definite left.room rest = subst (λ f. IsFront f left.definite left.room rest) c.in-Some-2.is c.in_ok-tag.ensures.value in
+    front.1 more (ends_left rule (map field_view fields) d left.definite room left.room octets rest more slots all rest_is room_is form_is h))
 
-pub components::read_components-returns-in-None-clause-value : goal.components::read_components-returns-in-None-clause-value
-unfolding value.out-Value denote.Hole.Carrier.out
-components::read_components-returns-in-None-clause-value t c =
+pub components::read_each-returns-in-None-2-clause-value : goal.components::read_each-returns-in-None-2-clause-value
+components::read_each-returns-in-None-2-clause-value t c =
     let octets = c.args.octets.now in
+    let rule = rule_of c.args.rule in
+    let fields = c.args.fields.now in
     let d = c.args.inside.now.definite in
     let room = c.args.inside.now.room in
-    let at = c.in_ok-used.used in
-    let ends : EndsHere d (room - at) (drop at octets) = subst₂ (λ f x. IsFront f d (room - at) x) c.in-None.is (take_rest octets at) c.in_ok-tag.ensures.value in
-    λ tag. sequence_read (rule_of c.args.rule) tag c.args.fields.now d room octets c.read_slots.new.slots _ at c.in_ok-used.ensures.value ends (search (rules, value.the_lemmas))
+    let rest = c.loop-place.rest.now in
+    let left = c.loop-place.left in
+    let slots = c.loop-place.slots in
+    let at = length octets - length rest in
+    let rest_is = c.loop-place.invariant.2 in
+    let room_is = c.loop-place.invariant.3 in
+    let form_is = c.loop-place.invariant.4 in
+    let all = all_read rule fields c.loop-place.place d room octets slots at c.loop-place-test.false c.loop-place.invariant.1 c.loop-place.invariant.0 in
+    let ends : EndsHere left.definite left.room rest = subst (λ f. IsFront f left.definite left.room rest) c.in-None-2.is c.in_ok-tag.ensures.value in
+    (all, subst (λ b. EndsHere b (room - at) (drop at octets)) form_is (subst₂ (λ n x. EndsHere left.definite n x) room_is rest_is ends))
 
 pub components::read_component-returns-in_err-stands_next-clause-refused : goal.components::read_component-returns-in_err-stands_next-clause-refused
 components::read_component-returns-in_err-stands_next-clause-refused t c =
     let octets = c.args.octets.now in
     let rule = c.args.rule in
     let view = field_view c.args.field.now in
-    let d = c.args.definite in
-    let room = c.args.room in
+    let d = c.args.inside.now.definite in
+    let room = c.args.inside.now.room in
     refused_through c.from_residual.result c.from_residual.ensures.1
     (refused_by c.in_err-stands_next.ensures.refused (λ more h. ends_or_begins rule (view ∷ h.0) d room (octets ++ more) (c.requires.good, h.2) h.3) (λ k. k))
 
@@ -418,8 +493,8 @@ components::read_component-returns-then-not-branch-clause-value t c = λ others 
     let octets = c.args.octets.now in
     let f = c.args.field.now in
     let view = field_view f in
-    let d = c.args.definite in
-    let room = c.args.room in
+    let d = c.args.inside.now.definite in
+    let room = c.args.inside.now.room in
     let front = c.in_ok-stands_next.ensures.value in
     let known : IsStandingKnown false view.type d room octets = subst₂ (λ b t. IsStandingKnown b t d room octets) c.if-not-branch.true (sym (field_type f)) (front_known front.0 c.in_ok-stands_next.field-0 (ty_view f.ty) d room octets front.1 front.2) in
     let may : MayBeAbsent view.requirement = subst MayBeAbsent (sym (field_requirement f)) (c.may_be_absent.ensures.0 c.if-may_be_absent.true) in
@@ -431,8 +506,8 @@ components::read_component-returns-in-Err-clause-refused t c =
     let rule = rule_of c.args.rule in
     let f = c.args.field.now in
     let view = field_view f in
-    let d = c.args.definite in
-    let room = c.args.room in
+    let d = c.args.inside.now.definite in
+    let room = c.args.inside.now.room in
     let known : MayBeAbsent view.requirement → IsStandingKnown true view.type d room octets = λ may. elim c.else-may_be_absent.branch [
       | components::read_component-else-may_be_absent-via-then-may_be_absent+in_ok-stands_next+else-not-branch w ↦
           let front = w.in_ok-stands_next.ensures.value in
@@ -448,20 +523,9 @@ components::read_component-returns-in-Err-clause-refused t c =
       | inr other ↦ refused_by (other c.args.rule) (λ more h. subst (λ t. HasPart rule t room (octets ++ more)) (field_type f) (part_of_present rule view room (octets ++ more) (first more h))) (λ k. k)
     ]
 
-pub parts::read_one-returns-in-Some-read_shortly-clause-value : goal.parts::read_one-returns-in-Some-read_shortly-clause-value
-parts::read_one-returns-in-Some-read_shortly-clause-value t c =
-    let octets = c.args.octets.now in
-    let n = c.min.result in
-    read_in_front (rule_of c.args.rule) (ty_view c.args.ty.now) c.args.room n octets c.read_shortly.new.value c.in-Some-read_shortly.used (omega (arith, c.min.ensures)) (omega (arith, c.min.ensures)) (c.in-Some-read_shortly.ensures c.args.rule)
-
 pub components::read_component-returns-in-Ok-clause-value : goal.components::read_component-returns-in-Ok-clause-value
 components::read_component-returns-in-Ok-clause-value t c = λ others runs goods.
-    stands_read c.args.rule (field_view c.args.field.now) others c.args.definite c.args.room c.args.octets.now c.read_wholly_present.new.slot c.in-Ok.used c.requires.good.type runs goods c.in-Ok.ensures.value
-
-pub components::read_present-returns-in-Some-clause-value : goal.components::read_present-returns-in-Some-clause-value
-components::read_present-returns-in-Some-clause-value t c =
-    let n = c.min.result in
-    present_at_front (rule_of c.args.rule) (field_view c.args.field.now) c.args.room n c.args.octets.now c.read_shortly_present.new.slot c.in-Some.used (omega (arith, c.min.ensures)) (omega (arith, c.min.ensures)) (c.in-Some.ensures c.args.rule)
+    stands_read c.args.rule (field_view c.args.field.now) others c.args.inside.now.definite c.args.inside.now.room c.args.octets.now c.read_wholly_present.new.slot c.in-Ok.used c.requires.good.type runs goods c.in-Ok.ensures.value
 
 pub components::read_wholly_present-returns-in_err-used-clause-refused : goal.components::read_wholly_present-returns-in_err-used-clause-refused
 components::read_wholly_present-returns-in_err-used-clause-refused t c =
