@@ -10,9 +10,10 @@
 #     erlang   the module by Erlang's ASN.1 compiler, by decode and encode        convert
 #     openssl  `openssl asn1parse`, which knows no module                         show as a tree
 #
-# A row has the milliseconds of asn1x, and of each tool how often it takes them: 2.00 is twice as long. A time is
-# processor time, start and all, the median of three runs. `-` stands where a tool is missing, or does not take the
-# module or the input, and `*` behind a ratio where what it writes is not the DER encoding that floor writes.
+# A row has the milliseconds of asn1x, and of each tool how often it takes them, both run in turn: 2.00 is twice as
+# long. A time is processor time, start and all, the median of three runs. `-` stands where a tool is missing, or does
+# not take the module or the input, and `*` behind a ratio where what it writes is not the DER encoding that floor
+# writes.
 set -euo pipefail
 shopt -s inherit_errexit
 
@@ -78,28 +79,33 @@ make_erlang() {
     (cd "$1.erlang" && erlc ../again.erl && erlc +ber +der +undec_rest "$module_name.asn") >/dev/null 2>&1
 }
 
-# Sets `took` to the microseconds that the command of these words needs.
+# Sets `took` to the microseconds that each command of these words needs, which are run in turn and stand between `--`.
 measure() {
-    read -r took _ < <(./floor measure $runs "$(command -v "$1")" "${@:2}" 2>/dev/null) || fail "cannot measure $1"
+    local time
+    took=()
+    while read -r time _; do
+        took+=("$time")
+    done < <(./floor measure $runs "$@" 2>/dev/null)
 }
 
-# Sets `cell` to what the command of these words takes, over $1 microseconds; `-` where it ends with another status
-# than 0. The file $2, where it is named, is compared with `want`.
+# Sets `cell` to what the command of these words takes, over what that of asn1x in the array $1 takes; `-` where it ends
+# with another status than 0. The file $2, where it is named, is compared with `want`.
 cell() {
-    local over=$1 written=$2 mark=
+    local -n ours=$1
+    local written=$2 mark=
     shift 2
     cell=-
     if "$@" >out 2>/dev/null; then
         [[ -z $written ]] || cmp -s want "$written" || mark='*'
-        measure "$@"
-        printf -v cell '%d.%02d%s' $((took / over)) $((100 * took / over % 100)) "$mark"
+        measure "${ours[@]}" -- "$(command -v "$1")" "${@:2}"
+        printf -v cell '%d.%02d%s' $((took[1] / took[0])) $((100 * took[1] / took[0] % 100)) "$mark"
     fi
 }
 
 # Prints the row of a work.
 row() {
-    local module type_name=Value convert check show module_name=
-    local -a cells=()
+    local module type_name=Value module_name=
+    local -a cells=() convert check show
     ./floor make "$1" <"$top/examples/certificates.hex" >in
     module=$work/$1.asn
     if [[ $1 == *certificates ]]; then
@@ -109,25 +115,26 @@ row() {
         ./floor module "$1" >"$module"
     fi
     ./floor convert "$1" in >want
-    "$program" convert "$module" $type_name in --to der | cmp - want || fail "$1: asn1x writes other octets"
-    measure "$program" convert "$module" $type_name in --to der && convert=$took
-    measure "$program" check "$module" $type_name in && check=$took
-    measure "$program" show "$module" $type_name in && show=$took
-    cell "$convert" out ./floor convert "$1" in && cells+=("$cell")
-    cell=- && make_asn1c "$1" "$module" $type_name && cell "$convert" out "$1.asn1c/converter" -iber -oder in
+    convert=("$program" convert "$module" "$type_name" in --to der)
+    check=("$program" check "$module" "$type_name" in)
+    show=("$program" show "$module" "$type_name" in)
+    "${convert[@]}" | cmp - want || fail "$1: asn1x writes other octets"
+    cell convert out ./floor convert "$1" in && cells+=("$cell")
+    cell=- && make_asn1c "$1" "$module" $type_name && cell convert out "$1.asn1c/converter" -iber -oder in
     cells+=("$cell")
     cell=- && make_erlang "$1" "$module" &&
-        cell "$convert" again erl -noinput -pa "$1.erlang" -run again main "$module_name" \
+        cell convert again erl -noinput -pa "$1.erlang" -run again main "$module_name" \
             $type_name in again
     cells+=("$cell")
-    cell=- && [[ -x $1.asn1c/converter ]] && cell "$check" "" "$1.asn1c/converter" -iber -onull in
+    cell=- && [[ -x $1.asn1c/converter ]] && cell check "" "$1.asn1c/converter" -iber -onull in
     cells+=("$cell")
-    cell=- && [[ -x $1.asn1c/converter ]] && cell "$show" "" "$1.asn1c/converter" -iber -oxer in
+    cell=- && [[ -x $1.asn1c/converter ]] && cell show "" "$1.asn1c/converter" -iber -oxer in
     cells+=("$cell")
-    cell=- && command -v openssl >/dev/null && cell "$show" "" openssl asn1parse -inform DER -in in
+    cell=- && command -v openssl >/dev/null && cell show "" openssl asn1parse -inform DER -in in
     cells+=("$cell")
-    printf '%-24s %6d %8s %8s %8s %8d %8s %8d %8s %8s\n' "$1" $((convert / 1000)) "${cells[@]:0:3}" \
-        $((check / 1000)) "${cells[3]}" $((show / 1000)) "${cells[@]:4}"
+    measure "${convert[@]}" -- "${check[@]}" -- "${show[@]}"
+    printf '%-24s %6d %8s %8s %8s %8d %8s %8d %8s %8s\n' "$1" $((took[0] / 1000)) "${cells[@]:0:3}" \
+        $((took[1] / 1000)) "${cells[3]}" $((took[2] / 1000)) "${cells[@]:4}"
     rm -rf in out want again "$1".*
 }
 
