@@ -1,5 +1,5 @@
 -- Lemmas on identifier octets and length octets at the front of some octets.
-use Rattle.std.proofs.Common.{◌≡◌, inl, inr, ℕ, zero, suc, ◌+◌, ◌/◌, ◌%◌, ◌<◌, ◌≤◌, List, [], ◌∷◌, ◌++◌, Bool, true, false, Bor, length, take, drop, get_or, refl, sym, ◌∙◌, ap, subst, subst₂, arith, append_assoc, append-nil, length-append}
+use Rattle.std.proofs.Common.{◌≡◌, inl, inr, ℕ, zero, suc, ◌+◌, ◌*◌, ◌/◌, ◌%◌, ◌<◌, ◌≤◌, List, [], ◌∷◌, ◌++◌, Bool, true, false, nat_eq, Bor, length, take, drop, get_or, refl, sym, ◌∙◌, ap, subst, subst₂, arith, append_assoc, append-nil, length-append}
 use Rattle.std.specs.Prelude.{slice_range}
 use Rattle.std.proofs.Math.Seq.{take-add, take-append_seam}
 use Rattle.std.proofs.lemmas.List.{take-append-drop, length-take-le, length-drop, take_all}
@@ -67,6 +67,12 @@ triple_identifier tag constructed octets high few there first second third = inr
   number = base_128-pair tag.number high few;
   spelt = let front = three_octets octets there in cc;
 }
+
+-- bit 6 of a leading octet
+pub form_bit-of : (n : ℕ) → n < 2 → form_bit (nat_eq n 1) ≡ n * 32
+form_bit-of zero few = refl
+form_bit-of (suc zero) few = refl
+form_bit-of (suc (suc n)) few = absurd (omega (arith, few))
 
 -- one length octet
 pub short_length : (n i : ℕ) (octets : List ℕ) → i < length octets → get_or octets i 0 < 128 → n ≡ get_or octets i 0 → IsLength n (take 1 (drop i octets))

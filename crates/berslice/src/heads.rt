@@ -1,13 +1,13 @@
 //! Where the contents octets of an encoding under a known tag begin and end (X.690 8.1).
 
-ghost use Rattle.std.specs.Prelude.{◌≡◌, ◌↔◌, ◌<◌, ◌≤◌, length, take, IsTrue, IfSome};
+ghost use Rattle.std.specs.Prelude.{◌≡◌, ◌↔◌, ◌<◌, ◌≤◌, ◌/◌, ◌*◌, length, take, IsTrue, IfSome};
 ghost use Rattle.octets.specs.declared.tag.Tag.{Tag};
-ghost use Rattle.octets.specs.Identifier.{form_bit, IsIdentifier};
+ghost use Rattle.octets.specs.Identifier.{class_bits, form_bit, IsIdentifier};
 ghost use Rattle.octets.specs.Rule.{ber};
 ghost use Rattle.types.specs.Form.{IsConstructed};
 ghost use Rattle.berslice.specs.Heads.{IsIdentifierOf, IsOpened, IsPrimitiveAt, StartsWithEnd};
 
-use octets::{Head, Length, Tag, class_octet, leading_octet, read_identifier, read_length};
+use octets::{Class, Head, Length, Tag, class_octet, leading_octet, read_identifier, read_length};
 
 /// A constructed encoding of which the identifier octets and length octets have been read.
 #[derive(Clone, Copy)]
@@ -36,6 +36,9 @@ pub struct Identifier {
 pub fn identifier_of(octets: &[u8]) -> Option<Identifier>
     ensures { IfSome result (λ found. IsIdentifierOf found octets.now) }
 {
+    if let Some(identifier) = high_identifier_of(octets) {
+        return Some(identifier);
+    }
     match read_identifier(octets) {
         Head::Done {
             tag,
@@ -47,6 +50,47 @@ pub fn identifier_of(octets: &[u8]) -> Option<Identifier>
             octets: used,
         }),
         Head::More | Head::Bad => None,
+    }
+}
+
+// Those of a tag whose number one or two octets behind the leading one say (X.690 8.1.2.4). It does not branch by how
+// many these are: of the next item of a list, a processor cannot guess it.
+#[inline(always)]
+fn high_identifier_of(octets: &[u8]) -> Option<Identifier>
+    ensures { IfSome result (λ found. IsIdentifierOf found octets.now) }
+{
+    if octets.len() < 3 || octets[0] % 32 != 31 {
+        return None;
+    }
+    let (second, third) = (u32::from(octets[1]), u32::from(octets[2]));
+    let (count, number) = if second < 0x80 {
+        (2, second)
+    } else {
+        (3, second % 0x80 * 0x80 + third)
+    };
+    if number < 31 || second == 0x80 || (second > 0x80 && third >= 0x80) {
+        return None;
+    }
+    Some(Identifier {
+        tag: Tag {
+            class: class_of(octets[0]),
+            number,
+        },
+        constructed: octets[0] / 32 % 2 == 1,
+        octets: count,
+    })
+}
+
+// The class that bits 8 and 7 of a leading octet say.
+#[inline(always)]
+fn class_of(first: u8) -> Class
+    ensures { class_bits result ≡ first / 64 * 64 }
+{
+    match first / 64 {
+        0 => Class::Universal,
+        1 => Class::Application,
+        2 => Class::Context,
+        _ => Class::Private,
     }
 }
 
