@@ -9,7 +9,7 @@
  *                                  examples/certificates.asn, and the type Certificate
  *     floor measure RUNS WORD.. [-- WORD..]..
  *                                  runs each command of these words so many times, in turn, its standard output
- *                                  unread, and prints a line for each: the median of its processor time in
+ *                                  unread, and prints a line for each: the least of its processor time in
  *                                  microseconds, and the most memory that was resident, in KiB
  *
  * It reads and writes by buffers. It takes the definite and the indefinite form, lengths in
@@ -1530,12 +1530,6 @@ static const struct work *work_of(const char *name)
 
 /* Measuring. */
 
-static int ascending(const void *a, const void *b)
-{
-    const int64_t *x = a, *y = b;
-    return (*x > *y) - (*x < *y);
-}
-
 static int64_t micros(struct timeval time)
 {
     return (int64_t)time.tv_sec * 1000000 + time.tv_usec;
@@ -1565,31 +1559,37 @@ static int64_t run_once(char **words, int64_t *memory)
     return micros(usage.ru_utime) + micros(usage.ru_stime);
 }
 
-/* The commands are run in turn: what makes the machine slower for a while does so for each of them. */
+/*
+ * The commands are run in turn: what makes the machine slower for a while does so for each of them. Of a time the least
+ * is told, since it is disturbed least: medians of one program were far apart where others shared the machine.
+ */
 static int measure(int runs, char **words)
 {
-    enum { MOST_RUNS = 100, MOST_COMMANDS = 8 };
-    static int64_t processor[MOST_COMMANDS][MOST_RUNS], memory[MOST_COMMANDS];
+    enum { MOST_COMMANDS = 8 };
+    int64_t least[MOST_COMMANDS], memory[MOST_COMMANDS] = {0};
     char **commands[MOST_COMMANDS];
     int count = 0;
-    if (runs < 1 || runs > MOST_RUNS)
-        die("1 to 100 runs");
+    if (runs < 1)
+        die("at least one run");
     for (char **word = words; word[0] != NULL; count++) {
         if (count == MOST_COMMANDS)
             die("1 to 8 commands");
+        least[count] = INT64_MAX;
         commands[count] = word;
         while (word[0] != NULL && strcmp(word[0], "--") != 0)
             word++;
         if (word[0] != NULL)
             *word++ = NULL;
     }
-    for (int run = 0; run < runs; run++)
-        for (int i = 0; i < count; i++)
-            processor[i][run] = run_once(commands[i], &memory[i]);
-    for (int i = 0; i < count; i++) {
-        qsort(processor[i], (size_t)runs, sizeof *processor[i], ascending);
-        printf("%lld %lld\n", (long long)processor[i][runs / 2], (long long)memory[i]);
+    for (int run = 0; run < runs; run++) {
+        for (int i = 0; i < count; i++) {
+            int64_t time = run_once(commands[i], &memory[i]);
+            if (time < least[i])
+                least[i] = time;
+        }
     }
+    for (int i = 0; i < count; i++)
+        printf("%lld %lld\n", (long long)least[i], (long long)memory[i]);
     return 0;
 }
 

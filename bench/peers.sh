@@ -11,13 +11,13 @@
 #     openssl  `openssl asn1parse`, which knows no module                         show as a tree
 #
 # A row has the milliseconds of asn1x, and of each tool how often it takes them, both run in turn: 2.00 is twice as
-# long. A time is processor time, start and all, the median of three runs. `-` stands where a tool is missing, or does
+# long. A time is processor time, start and all, the least of five runs. `-` stands where a tool is missing, or does
 # not take the module or the input, and `*` behind a ratio where what it writes is not the DER encoding that floor
 # writes.
 set -euo pipefail
 shopt -s inherit_errexit
 
-readonly runs=3
+readonly runs=5
 
 # shellcheck source=bench/built.sh
 . "$(dirname "${BASH_SOURCE[0]}")/built.sh"

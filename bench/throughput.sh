@@ -31,6 +31,9 @@
 # A list of a CHOICE of 256 may take 1.5 times what one of two takes. Half of what lists of a CHOICE take is memory: an
 # item is a slot of 48 octets and a box of 64, and in lists of a thousand items one takes half the time.
 #
+# BOOLEANs are not held on every machine: 0.9 to 1.2. One takes 134 instructions, and floor.c's 89: to read it 57, to
+# write it 47, to keep how long it is 9, and the loop.
+#
 # What is written is converted and checked again. From DER to DER, and from CER to CER, records may take 3 times what
 # floor takes and 1.1 times the time that the same octets take from BER, of which most are copied too; so may `check`.
 #
@@ -40,13 +43,13 @@
 # a string, a SEQUENCE OF NULL, a SET OF INTEGER or, from BER and from DER, a SEQUENCE OF a CHOICE of 1 MiB; a list of
 # values that have parts takes more.
 #
-# A time is processor time, the median of five runs, and of a hundred over one NULL. The programs of a row are run in
+# A time is processor time, the least of fifteen runs, and of a hundred over one NULL. The programs of a row are run in
 # turn, so that a machine that gets slower for a while does so for all of them. The last line names the bounds that are
 # not held.
 set -euo pipefail
 shopt -s inherit_errexit
 
-readonly runs=5
+readonly runs=15
 
 # shellcheck source=bench/built.sh
 . "$(dirname "${BASH_SOURCE[0]}")/built.sh"
