@@ -31,8 +31,8 @@
 # A list of a CHOICE of 256 may take 1.5 times what one of two takes. Half of what lists of a CHOICE take is memory: an
 # item is a slot of 48 octets and a box of 64, and in lists of a thousand items one takes half the time.
 #
-# BOOLEANs are not held on every machine: 0.9 to 1.2. One takes 134 instructions, and floor.c's 89: to read it 57, to
-# write it 47, to keep how long it is 9, and the loop.
+# Not held on every machine are lists of a CHOICE, which take 1.8 to 2.6, and BOOLEANs, 0.9 to 1.3. One of these takes 134
+# instructions, and floor.c's 89: to read it 57, to write it 47, to keep how long it is 9, and the loop.
 #
 # What is written is converted and checked again. From DER to DER, and from CER to CER, records may take 3 times what
 # floor takes and 1.1 times the time that the same octets take from BER, of which most are copied too; so may `check`.
