@@ -22,7 +22,6 @@ node_of_parts (Shape.sequence own components) tag parts is = (cc is, refl)
 node_of_parts (Shape.set own components) tag parts is = (cc is, refl)
 node_of_parts (Shape.sequence_of own type) tag parts is = (cc is, refl)
 node_of_parts (Shape.set_of own type) tag parts is = (cc is, refl)
-node_of_parts (Shape.explicit own type) tag parts is = (cc is, refl)
 node_of_parts type tag parts is = absurd parts
 
 pub can_of_parts : (rule : Canonical) (type : Shape) → HasParts type → CanBeConstructed rule type
@@ -30,7 +29,6 @@ can_of_parts rule (Shape.sequence own components) parts = tt
 can_of_parts rule (Shape.set own components) parts = tt
 can_of_parts rule (Shape.sequence_of own type) parts = tt
 can_of_parts rule (Shape.set_of own type) parts = tt
-can_of_parts rule (Shape.explicit own type) parts = tt
 can_of_parts rule type parts = absurd parts
 
 pub whole_of : (rule : Rule) (type : Shape) (tag : Tag) (v : Val) (part : List ℕ) → HasParts type → first_tags type ≡ tag ∷ [] → (h : IsEncoding rule type v part) → IsConstructed rule tag (contents_of rule type v part h) part
@@ -38,7 +36,6 @@ whole_of rule (Shape.sequence own components) tag v part parts is h = let same :
 whole_of rule (Shape.set own components) tag v part parts is h = let same : own ≡ tag = cc is in subst (λ t. IsConstructed rule t (contents_of rule (Shape.set own components) v part h) part) same h.whole
 whole_of rule (Shape.sequence_of own type) tag v part parts is h = let same : own ≡ tag = cc is in subst (λ t. IsConstructed rule t (contents_of rule (Shape.sequence_of own type) v part h) part) same h.whole
 whole_of rule (Shape.set_of own type) tag v part parts is h = let same : own ≡ tag = cc is in subst (λ t. IsConstructed rule t (contents_of rule (Shape.set_of own type) v part h) part) same h.whole
-whole_of rule (Shape.explicit own type) tag v part parts is h = let same : own ≡ tag = cc is in subst (λ t. IsConstructed rule t (contents_of rule (Shape.explicit own type) v part h) part) same h.whole
 whole_of rule type tag v part parts is h = absurd parts
 
 -- the octets begin with a constructed encoding

@@ -1,4 +1,4 @@
--- What stands inside an encoding of a type with parts: its contents octets, up to an end (X.690 8.9 to 8.12 and 8.14).
+-- What stands inside an encoding of a type with parts: its contents octets, up to an end (X.690 8.9 to 8.12).
 use Rattle.std.specs.Prelude.{◌≡◌, ◌-◌, ◌≤◌, ⊤, ℕ, Bool, true, false, List, [], ◌∷◌, ◌++◌, length, take, drop}
 use Rattle.std.specs.List.{concat}
 use Rattle.octets.specs.declared.tag.Tag.{Tag}
@@ -11,10 +11,12 @@ use Rattle.types.specs.Form.{IsConstructed}
 use Rattle.types.specs.Encoding.{IsEncoding, standing}
 use Rattle.strict.specs.Head.{Fills, mark, EndsHere}
 
+-- a type with components or items; inside an explicit tag stands one encoding alone (HasAlone)
 abbrev pub HasParts : Shape → Type 0
 HasParts (Shape.simple tag type) = ⊥
 HasParts (Shape.string tag type) = ⊥
 HasParts (Shape.choice alternatives) = ⊥
+HasParts (Shape.explicit tag type) = ⊥
 HasParts type = ⊤
 
 -- a SET OF, whose items are ordered, or a SEQUENCE OF
@@ -28,7 +30,6 @@ contents_of rule (Shape.sequence tag components) v octets h = concat (standing h
 contents_of rule (Shape.set tag components) v octets h = concat h.order
 contents_of rule (Shape.sequence_of tag type) v octets h = concat h.encodings
 contents_of rule (Shape.set_of tag type) v octets h = concat h.order
-contents_of rule (Shape.explicit tag type) v octets h = h.inner
 contents_of rule type v octets h = []
 
 -- the octets begin with those of an encoding of the type up to an end

@@ -7,6 +7,7 @@
 
 mod components;
 mod ends;
+mod explicit;
 mod filling;
 mod fronts;
 mod head;

@@ -1,19 +1,19 @@
 //! Values of any type, each part by a call that nests in that of what holds it.
 
-ghost use Rattle.std.specs.Prelude.{◌-◌, ◌≤◌, drop, IfOk, IfErr};
+ghost use Rattle.std.specs.Prelude.{◌≤◌, IfOk, IfErr};
 ghost use Rattle.octets.specs.declared.TheConstants.{MAX_ENCODING};
 ghost use Rattle.octets.specs.Rule.{rule_of};
 ghost use Rattle.types.specs.Shape.{Shape};
 ghost use Rattle.types.specs.View.{alternatives_view, ty_view};
 ghost use Rattle.encoding_parts.specs.Parts.{IsGoodType};
 ghost use Rattle.strict.specs.Bars.{RefusesStrictly};
-ghost use Rattle.strict.specs.Head.{EndsHere, AreFewer};
+ghost use Rattle.strict.specs.Head.{AreFewer};
 ghost use Rattle.strict.specs.Inside.{HasParts, HasInside, IsInsideRead};
-ghost use Rattle.strict.specs.Reading.{IsRead, RefusesPart, HasAlone};
+ghost use Rattle.strict.specs.Reading.{IsRead, RefusesPart};
 
 use crate::components::read_components;
+use crate::explicit::read_under_tag;
 use crate::filling::read_shortly;
-use crate::fronts::front_tag;
 use crate::head::{Inside, opened, refusal_inside};
 use crate::items::read_items;
 use crate::leaf::read_leaf;
@@ -71,6 +71,7 @@ pub fn read_wholly(
         Ty::Choice(alternatives) => read_chosen(alloc, rule, alternatives, room, octets, value),
         Ty::Sequence(_, _) => read_sequence(alloc, rule, ty, room, octets, value),
         Ty::SequenceOf(_, _) | Ty::SetOf(_, _) => read_list(alloc, rule, ty, room, octets, value),
+        Ty::Explicit(tag, inner) => read_under_tag(alloc, rule, *tag, inner, room, octets, value),
         _ => read_others(alloc, rule, ty, room, octets, value),
     }
 }
@@ -122,7 +123,7 @@ fn read_list(
     }
 }
 
-// Reads an encoding of any type with parts, but mostly of a SET or under an explicit tag.
+// Reads an encoding of any type with parts, but mostly of a SET.
 #[cycle(reading)]
 #[inline(never)]
 fn read_others(
@@ -190,7 +191,6 @@ fn read_inside(
         Ty::Set(_, fields) => read_members(alloc, rule, fields, inside, octets, value),
         Ty::SequenceOf(_, inner) => read_items(alloc, rule, inner, false, inside, octets, value),
         Ty::SetOf(_, inner) => read_items(alloc, rule, inner, true, inside, octets, value),
-        Ty::Explicit(_, inner) => read_alone(alloc, rule, inner, inside, octets, value),
         _ => unreachable!(),
     }
 }
@@ -222,28 +222,4 @@ fn read_chosen(
         unreachable!()
     };
     read_one(alloc, rule, &alternative.ty, room, octets, boxed)
-}
-
-// Reads the one encoding inside another, up to the end, and returns how many octets it has.
-#[cycle(reading)]
-#[inline(always)]
-fn read_alone(
-    alloc: Global,
-    rule: Canonical,
-    ty: &Ty,
-    inside: &Inside,
-    octets: &[u8],
-    value: &mut Value,
-) -> Result<usize, Refusal>
-    requires good { IsGoodType (ty_view ty.now) }
-    requires room { inside.now.room ≤ MAX_ENCODING }
-    ensures value { IfOk result (λ used. IsRead (rule_of rule) (ty_view ty.now) inside.now.room octets.now value.new used
-        × EndsHere inside.now.definite (inside.now.room - used) (drop used octets.now)) }
-    ensures refused { IfErr result (RefusesStrictly (HasAlone (rule_of rule) (ty_view ty.now) inside.now.definite inside.now.room) (AreFewer inside.now.definite inside.now.room) octets.now) }
-{
-    let used = read_one(alloc, rule, ty, inside.room, octets, value)?;
-    match front_tag(inside.definite, inside.room - used, &octets[used..])? {
-        Some(_) => Err(Refusal::Identifier),
-        None => Ok(used),
-    }
 }

@@ -14,7 +14,7 @@ use Rattle.types.specs.declared.ty.Field as field
 use Rattle.types.specs.declared.ty.Alternative as alternative
 use Rattle.octets.proofs.ResultLemmas.{IfOk-map, IfErr-map}
 use Rattle.types.proofs.LimitLemmas.{alternative_type}
-use Rattle.types.proofs.ViewLemmas.{ty-Sequence, ty-Set, ty-SequenceOf, ty-SetOf, ty-Explicit}
+use Rattle.types.proofs.ViewLemmas.{ty-Sequence, ty-Set, ty-SequenceOf, ty-SetOf}
 use Rattle.encoding_parts.specs.Parts.{IsGoodType, IsSlotOf}
 use Rattle.encoding_parts.specs.Renewed.{new_items}
 use Rattle.encoding_parts.specs.Segments.{BeginsAboveZero}
@@ -35,7 +35,7 @@ use Rattle.strict.proofs.SequenceLemmas.{absent_read, stands_read, present_first
 use Rattle.strict.proofs.ItemLemmas.{item_or_end, item_stands, no_items, item_read, none_out_of_order, list_read, items_inside}
 use Rattle.strict.proofs.ConstructedLemmas.{node_of_parts, can_of_parts, constructed_of, inside_of, constructed_read}
 use Rattle.strict.proofs.ChosenLemmas.{tag_of_part, choice_of_part, this_at, none_there, good_at, place_chosen, chosen_read}
-use Rattle.strict.proofs.AloneLemmas.{alone_inside, ends_alone, explicit_read, part_alone}
+use Rattle.strict.proofs.AloneLemmas.{constructed_under_tag, alone_under_tag, ends_alone, explicit_read, part_alone}
 use Rattle.strict.proofs.EndingLemmas.{fewer_behind, begun_short, begun_constructed, begun_around, begun_chosen}
 use Rattle.strict.proofs.+reading.Goals as goal
 use Rattle.strict.proofs.+reading.Goals.{components::read_each-in-Some, components::read_each-in-None+in_ok-used-in-None, components::read_component-else-may_be_absent-via-then-may_be_absent+in_ok-stands_next+else-not-branch, components::read_component-else-may_be_absent-via-else-may_be_absent, items::read_items-in-Ok, items::read_items-in-Err}
@@ -252,30 +252,6 @@ parts::read_chosen-returns-clause-value t c =
     IfOk-map c.read_one.result (λ used. IsRead rule (ty_view a.ty) room octets v used) (λ used. IsRead rule (Shape.choice (alternatives_view xs)) room octets _ used)
     (λ used h. chosen_read rule xs which a room octets v _ used found.0 found.1 (search (rules, value.the_lemmas) ∙ ap (λ n. Val.chosen n (value_view v)) place) h)
     c.read_one.ensures.value
-
-pub parts::read_alone-returns-in_err-front_tag-clause-refused : goal.parts::read_alone-returns-in_err-front_tag-clause-refused
-parts::read_alone-returns-in_err-front_tag-clause-refused t c =
-    let octets = c.args.octets.now in
-    let rule = rule_of c.args.rule in
-    let type = ty_view c.args.ty.now in
-    let d = c.args.inside.now.definite in
-    let room = c.args.inside.now.room in
-    let used = c.in_ok-used.used in
-    let read = c.in_ok-used.ensures.value in
-    refused_through c.from_residual-in_err-front_tag.result c.from_residual-in_err-front_tag.ensures.1
-    (refused_behind used c.in_err-front_tag.ensures.refused (λ more h. inl (ends_alone rule type d room octets more c.read_one.new.value used c.requires.good read h)) (λ k. fewer_behind d room used octets read.1 read.0 k))
-
-pub parts::read_alone-returns-in-Some-clause-refused : goal.parts::read_alone-returns-in-Some-clause-refused
-parts::read_alone-returns-in-Some-clause-refused t c = refused_for_good (tt, tt) (λ more h.
-    let octets = c.args.octets.now in
-    let rule = rule_of c.args.rule in
-    let type = ty_view c.args.ty.now in
-    let d = c.args.inside.now.definite in
-    let room = c.args.inside.now.room in
-    let used = c.in_ok-used.used in
-    let inner = take (length octets - used) (drop used octets) in
-    let front : IsFront (Some c.in-Some.field-0) d (room - used) inner = subst (λ f. IsFront f d (room - used) inner) c.in-Some.is c.in_ok-front_tag.ensures.value in
-    front.1 more (subst (λ x. EndsHere d (room - used) (x ++ more)) (sym (take_rest octets used)) (ends_alone rule type d room octets more c.read_one.new.value used c.requires.good c.in_ok-used.ensures.value h)))
 
 pub components::read_each-loop-place-init : goal.components::read_each-loop-place-init
 components::read_each-loop-place-init t c =
@@ -725,28 +701,42 @@ parts::read_inside-returns-in-SetOf-clause-refused t c =
     IfErr-map c.read_items-in-SetOf.result _ (RefusesStrictly (HasInside (rule_of rule) (ty_view c.args.ty.now) d room) (AreFewer d room) octets)
     (λ refusal h. refused_by h (λ more k. items_inside rule true c.in-SetOf.field-0 (ty_view c.deref-in-SetOf.result.now) d room (octets ++ more) (subst (λ shape. HasInside (rule_of rule) shape d room (octets ++ more)) same k)) (λ k. k)) c.read_items-in-SetOf.ensures.refused
 
-pub parts::read_inside-returns-in-Explicit-clause-value : goal.parts::read_inside-returns-in-Explicit-clause-value
-parts::read_inside-returns-in-Explicit-clause-value t c =
+pub explicit::read_under_tag-returns-in_err-inside-clause-refused : goal.explicit::read_under_tag-returns-in_err-inside-clause-refused
+explicit::read_under_tag-returns-in_err-inside-clause-refused t c =
     let octets = c.args.octets.now in
     let rule = c.args.rule in
-    let d = c.args.inside.now.definite in
-    let room = c.args.inside.now.room in
-    let same : ty_view c.args.ty.now ≡ Shape.explicit c.in-Explicit.field-0 (ty_view c.deref-in-Explicit.result.now) = ap ty_view c.in-Explicit.is ∙ (ty-Explicit c.in-Explicit.field-0 c.in-Explicit.inner ∙ ap (λ l. Shape.explicit c.in-Explicit.field-0 (ty_view l)) (sym c.deref-in-Explicit.ensures)) in
-    IfOk-map c.read_alone.result _ (λ used. IsInsideRead (rule_of rule) (ty_view c.args.ty.now) d room octets c.read_alone.new.value used)
-    (λ used h. subst (λ shape. IsInsideRead (rule_of rule) shape d room octets c.read_alone.new.value used) (sym same) (explicit_read (rule_of rule) c.in-Explicit.field-0 (ty_view c.deref-in-Explicit.result.now) d room octets c.read_alone.new.value used h.0 h.1)) c.read_alone.ensures.value
+    let tag = c.args.tag in
+    let inner = ty_view c.args.ty.now in
+    let room = c.args.room in
+    refused_through c.from_residual.result c.from_residual.ensures.1
+    (refused_by c.in_err-inside.ensures.refused (λ more h. constructed_under_tag (rule_of rule) tag inner room (octets ++ more) h) (λ k. begun_constructed rule (Shape.explicit tag inner) tag room octets (refl, refl) tt k))
 
-pub parts::read_inside-returns-in-Explicit-clause-refused : goal.parts::read_inside-returns-in-Explicit-clause-refused
-parts::read_inside-returns-in-Explicit-clause-refused t c =
+pub explicit::read_under_tag-returns-in-Ok-clause-value : goal.explicit::read_under_tag-returns-in-Ok-clause-value
+explicit::read_under_tag-returns-in-Ok-clause-value t c =
+    let octets = c.args.octets.now in
+    let rule = rule_of c.args.rule in
+    let inner = ty_view c.args.ty.now in
+    let inside = c.in_ok-inside.inside in
+    let used = c.in-Ok.used in
+    let slot = c.read_alone.new.value in
+    let read = subst (λ x. IsRead rule inner inside.room x slot used × EndsHere inside.definite (inside.room - used) (drop used x)) (take_rest octets inside.start) c.in-Ok.ensures.value in
+    explicit_read rule c.args.tag inner c.args.room octets inside slot used c.close.result c.in_ok-inside.ensures.value read.0 read.1 c.close.ensures
+
+pub explicit::read_under_tag-returns-in-Err-clause-refused : goal.explicit::read_under_tag-returns-in-Err-clause-refused
+explicit::read_under_tag-returns-in-Err-clause-refused t c =
     let octets = c.args.octets.now in
     let rule = c.args.rule in
-    let d = c.args.inside.now.definite in
-    let room = c.args.inside.now.room in
-    let same : ty_view c.args.ty.now ≡ Shape.explicit c.in-Explicit.field-0 (ty_view c.deref-in-Explicit.result.now) = ap ty_view c.in-Explicit.is ∙ (ty-Explicit c.in-Explicit.field-0 c.in-Explicit.inner ∙ ap (λ l. Shape.explicit c.in-Explicit.field-0 (ty_view l)) (sym c.deref-in-Explicit.ensures)) in
-    IfErr-map c.read_alone.result _ (RefusesStrictly (HasInside (rule_of rule) (ty_view c.args.ty.now) d room) (AreFewer d room) octets)
-    (λ refusal h. refused_by h (λ more k. alone_inside (rule_of rule) c.in-Explicit.field-0 (ty_view c.deref-in-Explicit.result.now) d room (octets ++ more) (subst (λ shape. HasInside (rule_of rule) shape d room (octets ++ more)) same k)) (λ k. k)) c.read_alone.ensures.refused
+    let tag = c.args.tag in
+    let inner = ty_view c.args.ty.now in
+    let room = c.args.room in
+    let inside = c.in_ok-inside.inside in
+    let opened = c.in_ok-inside.ensures.value in
+    refused_named c.refusal_inside.ensures
+    (refused_behind inside.start c.in-Err.ensures.refused (λ more h. alone_under_tag (rule_of rule) tag inner room octets more inside opened h)
+    (λ k. begun_around rule (Shape.explicit tag inner) tag room octets inside (refl, refl) tt opened k))
 
-pub parts::read_alone-returns-in_err-used-clause-refused : goal.parts::read_alone-returns-in_err-used-clause-refused
-parts::read_alone-returns-in_err-used-clause-refused t c =
+pub explicit::read_alone-returns-in_err-used-clause-refused : goal.explicit::read_alone-returns-in_err-used-clause-refused
+explicit::read_alone-returns-in_err-used-clause-refused t c =
     let octets = c.args.octets.now in
     let rule = rule_of c.args.rule in
     let type = ty_view c.args.ty.now in
@@ -754,3 +744,27 @@ parts::read_alone-returns-in_err-used-clause-refused t c =
     let room = c.args.inside.now.room in
     refused_through c.from_residual.result c.from_residual.ensures.1
     (refused_by c.in_err-used.ensures.refused (λ more h. part_alone rule type d room (octets ++ more) h) (λ k. let short = begun_short c.args.rule type room octets k in omega (arith, short)))
+
+pub explicit::read_alone-returns-in_err-front_tag-clause-refused : goal.explicit::read_alone-returns-in_err-front_tag-clause-refused
+explicit::read_alone-returns-in_err-front_tag-clause-refused t c =
+    let octets = c.args.octets.now in
+    let rule = rule_of c.args.rule in
+    let type = ty_view c.args.ty.now in
+    let d = c.args.inside.now.definite in
+    let room = c.args.inside.now.room in
+    let used = c.in_ok-used.used in
+    let read = c.in_ok-used.ensures.value in
+    refused_through c.from_residual-in_err-front_tag.result c.from_residual-in_err-front_tag.ensures.1
+    (refused_behind used c.in_err-front_tag.ensures.refused (λ more h. inl (ends_alone rule type d room octets more c.read_one.new.value used c.requires.good read h)) (λ k. fewer_behind d room used octets read.1 read.0 k))
+
+pub explicit::read_alone-returns-in-Some-clause-refused : goal.explicit::read_alone-returns-in-Some-clause-refused
+explicit::read_alone-returns-in-Some-clause-refused t c = refused_for_good (tt, tt) (λ more h.
+    let octets = c.args.octets.now in
+    let rule = rule_of c.args.rule in
+    let type = ty_view c.args.ty.now in
+    let d = c.args.inside.now.definite in
+    let room = c.args.inside.now.room in
+    let used = c.in_ok-used.used in
+    let inner = take (length octets - used) (drop used octets) in
+    let front : IsFront (Some c.in-Some.field-0) d (room - used) inner = subst (λ f. IsFront f d (room - used) inner) c.in-Some.is c.in_ok-front_tag.ensures.value in
+    front.1 more (subst (λ x. EndsHere d (room - used) (x ++ more)) (sym (take_rest octets used)) (ends_alone rule type d room octets more c.read_one.new.value used c.requires.good c.in_ok-used.ensures.value h)))
