@@ -61,9 +61,52 @@ fn read_alone(
         × EndsHere inside.now.definite (inside.now.room - used) (drop used octets.now)) }
     ensures refused { IfErr result (RefusesStrictly (HasAlone (rule_of rule) (ty_view ty.now) inside.now.definite inside.now.room) (AreFewer inside.now.definite inside.now.room) octets.now) }
 {
-    let used = read_one(alloc, rule, ty, inside.room, octets, value)?;
+    let used = read_tagged(alloc, rule, ty, inside.room, octets, value)?;
     match front_tag(inside.definite, inside.room - used, &octets[used..])? {
         Some(_) => Err(Refusal::Identifier),
         None => Ok(used),
     }
+}
+
+// Reads the encoding behind an explicit tag into the value. Whether it is under a further tag is asked first, since tags
+// nest deep.
+#[cycle(reading)]
+#[inline(always)]
+fn read_tagged(
+    alloc: Global,
+    rule: Canonical,
+    ty: &Ty,
+    room: usize,
+    octets: &[u8],
+    value: &mut Value,
+) -> Result<usize, Refusal>
+    requires good { IsGoodType (ty_view ty.now) }
+    requires room { room ≤ MAX_ENCODING }
+    ensures value { IfOk result (λ used. IsRead (rule_of rule) (ty_view ty.now) room octets.now value.new used) }
+    ensures refused { IfErr result (RefusesPart rule (ty_view ty.now) room octets.now) }
+{
+    if let Ty::Explicit(tag, inner) = ty {
+        return read_under_tag(alloc, rule, *tag, inner, room, octets, value);
+    }
+    read_innermost(alloc, rule, ty, room, octets, value)
+}
+
+// Reads the encoding behind the last explicit tag into the value. A call of its own, so that a call for a tag around it
+// has few registers to keep.
+#[cycle(reading)]
+#[inline(never)]
+fn read_innermost(
+    alloc: Global,
+    rule: Canonical,
+    ty: &Ty,
+    room: usize,
+    octets: &[u8],
+    value: &mut Value,
+) -> Result<usize, Refusal>
+    requires good { IsGoodType (ty_view ty.now) }
+    requires room { room ≤ MAX_ENCODING }
+    ensures value { IfOk result (λ used. IsRead (rule_of rule) (ty_view ty.now) room octets.now value.new used) }
+    ensures refused { IfErr result (RefusesPart rule (ty_view ty.now) room octets.now) }
+{
+    read_one(alloc, rule, ty, room, octets, value)
 }

@@ -755,7 +755,7 @@ explicit::read_alone-returns-in_err-front_tag-clause-refused t c =
     let used = c.in_ok-used.used in
     let read = c.in_ok-used.ensures.value in
     refused_through c.from_residual-in_err-front_tag.result c.from_residual-in_err-front_tag.ensures.1
-    (refused_behind used c.in_err-front_tag.ensures.refused (λ more h. inl (ends_alone rule type d room octets more c.read_one.new.value used c.requires.good read h)) (λ k. fewer_behind d room used octets read.1 read.0 k))
+    (refused_behind used c.in_err-front_tag.ensures.refused (λ more h. inl (ends_alone rule type d room octets more c.read_tagged.new.value used c.requires.good read h)) (λ k. fewer_behind d room used octets read.1 read.0 k))
 
 pub explicit::read_alone-returns-in-Some-clause-refused : goal.explicit::read_alone-returns-in-Some-clause-refused
 explicit::read_alone-returns-in-Some-clause-refused t c = refused_for_good (tt, tt) (λ more h.
@@ -767,4 +767,4 @@ explicit::read_alone-returns-in-Some-clause-refused t c = refused_for_good (tt, 
     let used = c.in_ok-used.used in
     let inner = take (length octets - used) (drop used octets) in
     let front : IsFront (Some c.in-Some.field-0) d (room - used) inner = subst (λ f. IsFront f d (room - used) inner) c.in-Some.is c.in_ok-front_tag.ensures.value in
-    front.1 more (subst (λ x. EndsHere d (room - used) (x ++ more)) (sym (take_rest octets used)) (ends_alone rule type d room octets more c.read_one.new.value used c.requires.good c.in_ok-used.ensures.value h)))
+    front.1 more (subst (λ x. EndsHere d (room - used) (x ++ more)) (sym (take_rest octets used)) (ends_alone rule type d room octets more c.read_tagged.new.value used c.requires.good c.in_ok-used.ensures.value h)))
