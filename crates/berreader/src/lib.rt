@@ -19,4 +19,4 @@ mod reading;
 mod stack;
 
 pub use reader::{Reader, Step};
-pub use reading::{read, read_into};
+pub use reading::{read, read_into, read_leaf_into};

@@ -4,6 +4,7 @@ ghost use Rattle.std.specs.Prelude.{◌≡◌, ◌≤◌, ◌++◌, ℕ, List, l
 ghost use Rattle.octets.specs.Front.{HasFront};
 ghost use Rattle.octets.specs.Rule.{ber};
 ghost use Rattle.types.specs.Encoding.{IsAccepted, IsSomeAccepted};
+ghost use Rattle.types.specs.Leaf.{IsLeaf, tag_of};
 ghost use Rattle.types.specs.Refusal.{IsFinal, IsOfReading};
 ghost use Rattle.types.specs.Same.{IsSame};
 ghost use Rattle.types.specs.Shape.{Val};
@@ -15,7 +16,8 @@ ghost use Rattle.berreader.specs.Feeding.{HasBeenFed, shape_of};
 ghost use Rattle.berreader.specs.Weight.{most_weight};
 
 use crate::reader::{Reader, Step};
-use berslice::read_front;
+use berslice::{read_front, read_front_leaf};
+use octets::Tag;
 use std::alloc::Global;
 use types::{Refusal, Value, WellTyped};
 
@@ -65,4 +67,23 @@ pub fn read_into(
         IsAccepted ber (ty_view ty.now) (value_view value) (take used octets.now))) }
 {
     read_front(alloc, ty.as_type(), octets, slot)
+}
+
+/// Reads the encoding at the front of `octets` into the value, as `read_into` does, of a type without parts, whose tag
+/// `leaf_tag` tells: a caller that reads many of them asks the type once.
+#[inline(always)]
+pub fn read_leaf_into(
+    alloc: Global,
+    ty: &WellTyped,
+    tag: Tag,
+    octets: &[u8],
+    value: &mut Value,
+) -> Option<usize>
+    requires leaf { IsLeaf (ty_view ty.now) }
+    requires tag { tag_of (ty_view ty.now) ≡ tag }
+    ensures there { IfSome result (λ used. used ≤ length octets.now) }
+    ensures value { IfSome result (λ used.
+        IsAccepted ber (ty_view ty.now) (value_view value.new) (take used octets.now)) }
+{
+    read_front_leaf(alloc, ty.as_type(), tag, octets, value)
 }

@@ -54,7 +54,7 @@ pub fn identifier_of(octets: &[u8]) -> Option<Identifier>
 }
 
 // Those of a tag whose number one or two octets behind the leading one say (X.690 8.1.2.4). It does not branch by how
-// many these are: of the next item of a list, a processor cannot guess it.
+// many these are, which changes from item to item of a list.
 #[inline(always)]
 fn high_identifier_of(octets: &[u8]) -> Option<Identifier>
     ensures { IfSome result (λ found. IsIdentifierOf found octets.now) }

@@ -1,18 +1,42 @@
 //! Encodings of types without parts: primitive ones, and constructed strings (X.690 8.6.4, 8.7.3 and 8.23).
 
 ghost use Rattle.std.specs.Prelude.{◌≡◌, ◌≤◌, ℕ, [], length, take, IfSome};
+ghost use Rattle.octets.specs.Rule.{ber};
+ghost use Rattle.types.specs.Encoding.{IsAccepted};
 ghost use Rattle.types.specs.Leaf.{tag_of, IsLeaf};
-ghost use Rattle.types.specs.View.{ty_view};
+ghost use Rattle.types.specs.View.{ty_view, value_view};
 ghost use Rattle.encoding_parts.specs.Parts.{IsGoodType};
 ghost use Rattle.encoding_parts.specs.Segments.{IsPassed, IsSound};
 ghost use Rattle.berslice.specs.Heads.{IsIdentifierOf};
 ghost use Rattle.berslice.specs.Reading.{IsRead};
 
+use crate::MAX_NESTED;
 use crate::heads::{Identifier, begun, behind, primitive};
 use encoding_parts::{SegmentKind, Segments, begin_string, fill, is_identifier, short_primitive};
 use octets::{MAX_ENCODING, Tag};
 use std::alloc::Global;
 use types::{Ty, Value};
+
+/// Reads the encoding at the front of `octets` into the value, as `read_front` does, of a type without parts, whose tag is
+/// known: a caller that reads many of them asks the type once.
+#[inline(always)]
+pub fn read_front_leaf(
+    alloc: Global,
+    ty: &Ty,
+    tag: Tag,
+    octets: &[u8],
+    value: &mut Value,
+) -> Option<usize>
+    requires leaf { IsLeaf (ty_view ty.now) }
+    requires tag { tag_of (ty_view ty.now) ≡ tag }
+    requires good { IsGoodType (ty_view ty.now) }
+    ensures there { IfSome result (λ used. used ≤ length octets.now) }
+    ensures value { IfSome result (λ used.
+        IsAccepted ber (ty_view ty.now) (value_view value.new) (take used octets.now)) }
+{
+    let front = &octets[..octets.len().min(MAX_ENCODING)];
+    read_leaf(alloc, ty, tag, MAX_NESTED, front, value)
+}
 
 // Reads the encoding at the front, of a type without parts: mostly a primitive one.
 #[inline(always)]

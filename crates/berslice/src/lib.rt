@@ -17,6 +17,7 @@ mod reading;
 mod renewed_set;
 
 pub use items::read_items;
+pub use leaf::read_front_leaf;
 pub use reading::{read_front, read_whole};
 
 /// How many constructed encodings may nest.
