@@ -7,7 +7,7 @@ use Rattle.octets.specs.Rule.{Rule, ber}
 use Rattle.types.specs.declared.refusal.Refusal.{Refusal}
 use Rattle.types.specs.declared.value.Value.{Value}
 use Rattle.types.specs.Conforms.{Conforms}
-use Rattle.types.specs.Encoding.{Meaning}
+use Rattle.types.specs.Encoding.{Meaning, IsAccepted}
 use Rattle.types.specs.Shape.{Shape}
 use Rattle.types.specs.View.{value_view}
 use Rattle.canon.proofs.PartLemmas.{take_two}
@@ -15,7 +15,7 @@ use Rattle.devices.proofs.DeviceLemmas.{appends_none, appends_more}
 use Rattle.engine.specs.declared.any_reader.AnyReader.{AnyReader}
 use Rattle.engine.specs.AnyReader.{read_rule}
 use Rattle.engine.specs.Feeding.{IsUnfinished}
-use Rattle.engine.specs.Passing.{AreAdded, Awaits, Gathers, HasGathered, HasNotPassed, HasPassed, IsAdded, StopsGathering, Writes}
+use Rattle.engine.specs.Passing.{AreAdded, AreLeavesAdded, Awaits, Gathers, HasGathered, HasNotPassed, HasPassed, IsAdded, StopsGathering, Writes}
 use Rattle.engine.specs.Putting.{IsFirst}
 use Rattle.engine.proofs.FeedingLemmas.{HasCompleted, accepted_conforms, cut_piece}
 use Rattle.engine.proofs.PassingLemmas.{gathers_more, writes_none, writes_on}
@@ -227,3 +227,34 @@ first_conforms shape slot octets used first = accepted_conforms ber shape slot (
 pub first_some : (shape : Shape) (slot : Option Value) (octets : List ℕ) (used : ℕ) → IsFirst shape slot octets used → 1 ≤ used
 first_some shape None octets used first = absurd first.read
 first_some shape (Some value) octets used first = some_taken ber shape (value_view value) used octets first.read
+
+-- a value that is read at the front of what is left, and added
+pub added_next : (shape : Shape) (Stands : Meaning) (stream left behind octets octets_new lengths lengths_new : List ℕ) (value : Value) (used : ℕ) → used ≤ length left → behind ≡ drop used left
+    → IsAccepted ber shape (value_view value) (take used left) → IsAdded (Stands (value_view value)) octets octets_new lengths lengths_new
+    → Gathers ber shape Stands stream left octets lengths → Gathers ber shape Stands stream behind octets_new lengths_new
+added_next shape Stands stream left behind octets octets_new lengths lengths_new value used there behind_is read added g =
+    subst (λ rest. Gathers ber shape Stands stream rest octets_new lengths_new) (sym behind_is)
+    (added_more ber shape Stands stream (drop used left) octets octets_new lengths lengths_new value added
+    (awaits_next shape Stands stream left octets lengths (Some value) used (record { there = there; read = read }) g))
+
+-- what was added of the front, behind which this is left
+pub leaves_added : (shape : Shape) (Stands : Meaning) (front left octets octets_new lengths lengths_new : List ℕ) → left ≡ drop (length front - length left) front → length left ≤ length front → length lengths_new + length left ≤ length lengths + length front
+    → ((stream : List ℕ) → Gathers ber shape Stands stream front octets lengths → Gathers ber shape Stands stream left octets_new lengths_new)
+    → AreLeavesAdded shape Stands front octets octets_new lengths lengths_new (length front - length left)
+leaves_added shape Stands front left octets octets_new lengths lengths_new joined within few added = record {
+  there = omega (arith, within);
+  gathered = λ stream g. subst (λ rest. Gathers ber shape Stands stream rest octets_new lengths_new) joined (added stream g);
+  few = omega (arith, within, few);
+}
+
+-- they are added behind the value in the slot
+pub added_with_leaves : (rule : Rule) (shape : Shape) (Stands : Meaning) (slot : Option Value) (value : Value) (behind octets octets_mid octets_one octets_new lengths lengths_mid lengths_one lengths_new : List ℕ) (used : ℕ) → rule ≡ ber → length lengths_mid ≤ length lengths
+    → ((stream : List ℕ) → Awaits rule shape Stands stream slot behind octets lengths → Awaits rule shape Stands stream (Some value) behind octets_mid lengths_mid)
+    → IsAdded (Stands (value_view value)) octets_mid octets_one lengths_mid lengths_one → AreLeavesAdded shape Stands behind octets_one octets_new lengths_one lengths_new used → AreAdded rule shape Stands slot behind octets octets_new lengths lengths_new used
+added_with_leaves rule shape Stands slot value behind octets octets_mid octets_one octets_new lengths lengths_mid lengths_one lengths_new used by_ber few before added leaves = record {
+  there = leaves.there;
+  gathered = λ stream awaits.
+      let one = added_more rule shape Stands stream behind octets_mid octets_one lengths_mid lengths_one value added (before stream awaits) in
+      subst (λ r. Gathers r shape Stands stream (drop used behind) octets_new lengths_new) (sym by_ber) (leaves.gathered stream (subst (λ r. Gathers r shape Stands stream behind octets_one lengths_one) by_ber one));
+  few = omega (arith, few, leaves.few, ap length added.lengths_are, length_push lengths_mid (length added.part));
+}

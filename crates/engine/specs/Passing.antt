@@ -3,7 +3,7 @@
 use Rattle.std.specs.Prelude.{◌≡◌, ◌≤◌, ◌+◌, ℕ, List, [], ◌∷◌, ◌++◌, length, map, drop, Bool, IsTrue, Option, MatchOption}
 use Rattle.std.specs.Io.KnownBytes.{Appends, Consumes}
 use Rattle.std.specs.List.{AllZip, concat}
-use Rattle.octets.specs.Rule.{Rule}
+use Rattle.octets.specs.Rule.{Rule, ber}
 use Rattle.types.specs.declared.refusal.Refusal.{Refusal}
 use Rattle.types.specs.declared.refusal.Refusal.TheVariants.{OutputTooLong}
 use Rattle.types.specs.declared.value.Value.{Value}
@@ -60,6 +60,12 @@ pub record AreAddedUpTo (rule : Rule) (shape : Shape) (Stands : Meaning) (CanBeT
   pub gathered : (stream : List ℕ) → Awaits rule shape Stands stream slot behind octets lengths → Awaits rule shape Stands stream slot_new rest octets_new lengths_new
   pub few : length lengths_new ≤ length lengths + length behind
   pub refused : MatchOption slot_new ⊥ (λ value. IsNotAdded (Stands (value_view value)) CanBeTooLong refusal)
+
+-- what stands for the values by BER in so many octets at the front is added
+pub record AreLeavesAdded (shape : Shape) (Stands : Meaning) (front octets octets_new lengths lengths_new : List ℕ) (used : ℕ) : Type 0 where
+  pub there : used ≤ length front
+  pub gathered : (stream : List ℕ) → Gathers ber shape Stands stream front octets lengths → Gathers ber shape Stands stream (drop used front) octets_new lengths_new
+  pub few : length lengths_new ≤ length lengths + used
 
 -- the refusal is right, whatever came before the rest and whatever follows it
 pub record StopsAnyway (rule : Rule) (shape : Shape) (Stands : Meaning) (refusal : Refusal) (rest part : List ℕ) : Type 0 where

@@ -3,17 +3,20 @@
 ghost use Rattle.std.specs.Prelude.{◌≡◌, ◌≢◌, ◌≤◌, ℕ, List, [], ◌++◌, length, take, None, IsTrue, OnOk, OnErr, IfOk, IfErr, IfSome, MatchOption, MatchResult};
 ghost use Rattle.types.specs.Conforms.{Conforms};
 ghost use Rattle.types.specs.Encoding.{IsAccepted};
+ghost use Rattle.types.specs.Leaf.{IsLeaf, tag_of};
 ghost use Rattle.types.specs.Shape.{Val};
 ghost use Rattle.types.specs.View.{value_view};
 ghost use Rattle.octets.specs.Front.{Appends};
 ghost use Rattle.engine.specs.AnyReader.{read_rule, StandsBy};
 ghost use Rattle.engine.specs.Feeding.{IsUnfinished};
 ghost use Rattle.engine.specs.Putting.{IsFirst, IsWritten};
-ghost use Rattle.engine.specs.Passing.{IsAdded, IsNotAdded, AreAdded, AreAddedUpTo, HasGathered, StopsGathering};
+ghost use Rattle.engine.specs.Passing.{IsAdded, IsNotAdded, AreAdded, AreAddedUpTo, AreLeavesAdded, HasGathered, StopsGathering};
 ghost use Rattle.engine.specs.Refusal.{IsOfGathering};
 
 use crate::any_reader::AnyReader;
 use crate::putting::Put;
+use berreader::{read_into, read_leaf_into};
+use octets::Tag;
 use std::alloc::Global;
 use types::{Refusal, Value};
 
@@ -23,6 +26,8 @@ const FULL: usize = 131_072;
 /// What stands for some values, one after another, and how long each part is.
 #[derive(Drop)]
 pub struct Batch {
+    /// Memory for the values that are read.
+    alloc: Global,
     /// What stands for the values, one after another.
     pub octets: Vec<u8>,
     /// How many octets stand for each of them.
@@ -41,6 +46,7 @@ impl Batch {
         ensures copies { result.copies ≡ copies }
     {
         Batch {
+            alloc,
             octets: Vec::new(alloc),
             lengths: Vec::new(alloc),
             room: String::new(alloc),
@@ -115,18 +121,51 @@ impl Batch {
                 if !is_whole || !reader.reads_ber() {
                     return Ok(0);
                 }
+                if let Some(tag) = writer.ty().as_type().leaf_tag() {
+                    return Ok(self.add_leaves(writer, tag, behind, value));
+                }
                 as_written = self.octets.ends_with(front);
             }
             if last.len() > rest.len() || self.is_full(writer) {
                 return Ok(behind.len() - rest.len());
             }
-            let Some(used) = read_next(writer, rest, &mut as_written, slot) else {
+            let Some(used) = read_next(self.alloc, writer, rest, &mut as_written, slot) else {
                 return Ok(behind.len() - rest.len());
             };
             let (next, others) = rest.split_at(used);
             last = next;
             rest = others;
         }
+    }
+
+    // Adds what stands for the values in BER that are whole at the front, of a type without parts, and returns how many
+    // octets they have. It ends at one that is cut, refused or cannot be added. Their loop stands apart and asks the type
+    // once, so that what it needs stays in registers.
+    #[inline(never)]
+    fn add_leaves<P: Put>(
+        &mut self,
+        writer: &P,
+        tag: Tag,
+        octets: &[u8],
+        value: &mut Value,
+    ) -> usize
+        requires leaf { IsLeaf (P.shape writer.now) }
+        requires tag { tag_of (P.shape writer.now) ≡ tag }
+        ensures copies { self.new.copies ≡ self.old.copies }
+        ensures added { AreLeavesAdded (P.shape writer.now) (P.stands writer.now)
+            octets.now self.old.octets.items self.new.octets.items self.old.lengths.items self.new.lengths.items result }
+    {
+        let mut rest = octets;
+        while !self.is_full(writer) {
+            let Some(used) = read_leaf_into(self.alloc, writer.ty(), tag, rest, value) else {
+                return octets.len() - rest.len();
+            };
+            match self.add(writer, value, None) {
+                Ok(()) => rest = &rest[used..],
+                Err(_) => return octets.len() - rest.len(),
+            }
+        }
+        octets.len() - rest.len()
     }
 
     /// Gathers what stands for the values that the front of a piece completes, in place of what was gathered, and returns
@@ -183,6 +222,7 @@ impl Batch {
 // as they are written are mostly followed by more of them: such a one is looked for until one has come otherwise.
 #[inline(always)]
 fn read_next<P: Put>(
+    alloc: Global,
     writer: &P,
     octets: &[u8],
     as_written: &mut bool,
@@ -197,7 +237,20 @@ fn read_next<P: Put>(
         }
         *as_written = false;
     }
-    writer.read_first(octets, slot)
+    read_first(alloc, writer, octets, slot)
+}
+
+// Reads the value in BER that is whole at the front into the slot, and returns how many octets it has.
+#[inline(always)]
+fn read_first<P: Put>(
+    alloc: Global,
+    writer: &P,
+    octets: &[u8],
+    slot: &mut Option<Value>,
+) -> Option<usize>
+    ensures { IfSome result (IsFirst (P.shape writer.now) slot.new octets.now) }
+{
+    read_into(alloc, writer.ty(), octets, slot)
 }
 
 // Appends what stands for a value: these octets, if there are any.

@@ -23,13 +23,12 @@ impl Put for Lines<'_> {
 
     ghost can_be_too_long = { ⊥ };
 
-    fn can_outgrow(&self) -> bool {
-        true
+    fn ty(&self) -> &WellTyped {
+        self.ty
     }
 
-    #[inline(always)]
-    fn read_first(&self, octets: &[u8], slot: &mut Option<Value>) -> Option<usize> {
-        berreader::read_into(self.alloc, self.ty, octets, slot)
+    fn can_outgrow(&self) -> bool {
+        true
     }
 
     fn read_written(&self, _octets: &[u8], _slot: &mut Option<Value>) -> Option<usize> {

@@ -7,7 +7,7 @@ ghost use Rattle.types.specs.Refusal.{IsOfWriting};
 ghost use Rattle.types.specs.Shape.{Shape, Val};
 ghost use Rattle.types.specs.View.{ty_view, value_view};
 ghost use Rattle.types.specs.Encoding.{IsAccepted};
-ghost use Rattle.engine.specs.Putting.{IsFirst, IsWritten};
+ghost use Rattle.engine.specs.Putting.{IsWritten};
 ghost use Rattle.engine.specs.Rule.{canonical_rule_of};
 
 use crate::Canonical;
@@ -26,13 +26,12 @@ pub trait Put {
     // There may be a value for which nothing stands.
     ghost can_be_too_long: { Type 0 };
 
+    /// The type.
+    fn ty(&self) -> &WellTyped
+        ensures { ty_view result.now ≡ shape self.now };
+
     /// Whether what stands for a value can be far longer than its encodings, as a text by the names of the type.
     fn can_outgrow(&self) -> bool;
-
-    /// Reads the encoding of a value in BER that is whole at the front into the slot, and returns how many octets it has.
-    /// Returns None where there is none, and the slot may then hold anything.
-    fn read_first(&self, octets: &[u8], slot: &mut Option<Value>) -> Option<usize>
-        ensures { IfSome result (IsFirst (shape self.now) slot.new octets.now) };
 
     /// Reads the octets at the front that stand for a value, and are an encoding of it in BER, into the slot, and returns
     /// how many they are. Returns None where they are not found: the slot may then hold anything.
@@ -66,13 +65,12 @@ impl Put for Encodings<'_> {
 
     ghost can_be_too_long = { ⊤ };
 
-    fn can_outgrow(&self) -> bool {
-        false
+    fn ty(&self) -> &WellTyped {
+        self.ty
     }
 
-    #[inline(always)]
-    fn read_first(&self, octets: &[u8], slot: &mut Option<Value>) -> Option<usize> {
-        berreader::read_into(self.alloc, self.ty, octets, slot)
+    fn can_outgrow(&self) -> bool {
+        false
     }
 
     #[inline(never)]
@@ -95,7 +93,6 @@ impl Put for Encodings<'_> {
 /// Writes nothing for a value.
 #[derive(Drop)]
 pub struct Nothing<'a> {
-    pub alloc: Global,
     pub ty: &'a WellTyped,
 }
 
@@ -106,13 +103,12 @@ impl Put for Nothing<'_> {
 
     ghost can_be_too_long = { ⊥ };
 
-    fn can_outgrow(&self) -> bool {
-        false
+    fn ty(&self) -> &WellTyped {
+        self.ty
     }
 
-    #[inline(always)]
-    fn read_first(&self, octets: &[u8], slot: &mut Option<Value>) -> Option<usize> {
-        berreader::read_into(self.alloc, self.ty, octets, slot)
+    fn can_outgrow(&self) -> bool {
+        false
     }
 
     fn read_written(&self, _octets: &[u8], _slot: &mut Option<Value>) -> Option<usize> {

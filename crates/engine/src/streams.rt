@@ -74,7 +74,7 @@ pub fn check<S: Source>(
     ensures numbers { IfErr result (λ stopped. IsOfChecking (rule_of from) stopped.refusal) }
 {
     let mut reader = AnyReader::new(alloc, from, ty);
-    let writer = Nothing { alloc, ty };
+    let writer = Nothing { ty };
     let mut batch = Batch::new(alloc, false);
     pass_all(&mut reader, &writer, &mut batch, source, &mut Nowhere)
 }

@@ -1,12 +1,12 @@
-use Rattle.std.proofs.Common.{rules, ◌≡◌, ◌-◌, ◌∙◌, ap, arith, length, length-drop, subst}
+use Rattle.std.proofs.Common.{rules, ◌≡◌, ◌-◌, ◌∙◌, Some, ap, arith, drop, length, length-drop, subst}
 use Rattle.std.proofs.lemmas.List.{length_push}
 use Rattle.octets.specs.Rule.{ber}
 use Rattle.octets.proofs.ResultLemmas.{IfErr-from}
 use Rattle.engine.specs.AnyReader.{read_rule}
-use Rattle.engine.specs.Passing.{AreAdded}
-use Rattle.engine.proofs.BatchLemmas.{added_all, added_more, awaits_next, first_conforms, first_some, left_further}
+use Rattle.engine.specs.Passing.{AreAdded, Awaits}
+use Rattle.engine.proofs.BatchLemmas.{added_all, added_more, added_with_leaves, awaits_next, first_conforms, first_some, left_further}
 use Rattle.engine.proofs.batch.Batch.add_read.Goals as goal
-use Rattle.engine.proofs.batch.Batch.add_read.Goals.{then-rest-behind+else-not-is_whole+else-not-reads_ber, else-rest-behind}
+use Rattle.engine.proofs.batch.Batch.add_read.Goals.{then-rest-behind+else-not-is_whole+else-not-reads_ber+in_default-leaf_tag, else-rest-behind}
 
 pub returns-in_err-add-clause-refused : goal.returns-in_err-add-clause-refused
 returns-in_err-add-clause-refused g c = IfErr-from c.from_residual.result _ _ c.from_residual.ensures.1 (λ refusal same.
@@ -24,6 +24,21 @@ returns-then-not-is_whole-clause-added g c =
     let none : length c.args.behind.now - length c.loop-slot.rest.now ≡ 0 = omega (arith, c.if-rest-behind.true) in
     subst (AreAdded (read_rule c.args.reader.now) (g.P.Put.shape c.args.writer.now) (g.P.Put.stands c.args.writer.now) _ c.args.behind.now _ _ _ _) none
     (added_all _ _ _ _ c.in-Some.value c.args.behind.now c.loop-slot.rest.now _ _ _ _ _ _ so_far.joined so_far.within so_far.few (rw c.in-Some.is at so_far.gathered) c.in_ok-add.ensures.added)
+
+pub returns-in-Some-leaf_tag-clause-added : goal.returns-in-Some-leaf_tag-clause-added
+returns-in-Some-leaf_tag-clause-added g c =
+    let rule = read_rule c.args.reader.now in
+    let shape = g.P.Put.shape c.args.writer.now in
+    let Stands = g.P.Put.stands c.args.writer.now in
+    let behind = c.args.behind.now in
+    let before = c.loop-slot.self in
+    let so_far = c.loop-slot.invariant in
+    let by_ber : rule ≡ ber = search rules in
+    let none : length behind - length c.loop-slot.rest.now ≡ 0 = omega (arith, c.if-rest-behind.true) in
+    let whole : c.loop-slot.rest.now ≡ behind = so_far.joined ∙ ap (λ n. drop n behind) none in
+    added_with_leaves rule shape Stands _ c.in-Some.value behind _ before.octets.items _ _ _ before.lengths.items _ _ _ by_ber (omega (arith, so_far.few, ap length whole))
+    (λ stream awaits. subst (λ left. Awaits rule shape Stands stream (Some c.in-Some.value) left before.octets.items before.lengths.items) whole ((rw c.in-Some.is at so_far.gathered) stream awaits))
+    c.in_ok-add.ensures.added c.add_leaves.ensures.added
 
 pub returns-then-last-rest-clause-added : goal.returns-then-last-rest-clause-added
 returns-then-last-rest-clause-added g c =
@@ -54,7 +69,7 @@ loop-slot-preserved g c =
     let some = first_some shape _ left used first in
     let back = c.split_at.ensures.back in
     let by_ber : rule ≡ ber = elim c.if-rest-behind.branch [
-      | then-rest-behind+else-not-is_whole+else-not-reads_ber w ↦ search rules
+      | then-rest-behind+else-not-is_whole+else-not-reads_ber+in_default-leaf_tag w ↦ search rules
       | else-rest-behind w ↦ so_far.by_ber (omega (arith, so_far.within, w.if-rest-behind.false))
     ] in
     record {
