@@ -31,9 +31,10 @@
 # A list of a CHOICE of 256 may take 1.5 times what one of two takes. Half of what lists of a CHOICE take is memory: an
 # item is a slot of 48 octets and a box of 64, and in lists of a thousand items one takes half the time.
 #
-# Not held on every machine are BOOLEANs (a median of five runs of this script: 1.28 on one), lists of a CHOICE (2.1),
-# members (1.44), fronts (0.63), and chains to CER over to DER (1.83). A BOOLEAN takes 134 instructions where floor.c
-# takes 89; of 128 in a build without proof, 57 read it, 47 write it, 9 keep how long it is, and the rest is the loop.
+# Not held on every machine are lists of a CHOICE (a median of five runs of this script: 2.1 on one), members (1.44) and
+# fronts (0.63). A BOOLEAN takes 123 instructions where floor.c takes 89, 63 of them in `Canon::put`, which is a call
+# there. By the least of fifteen runs beside floor.c, three times, it took 0.92 to 1.28 of its time, and chains to CER
+# once 1.07 of the time that they take to DER (least of nine).
 #
 # What is written is converted and checked again. From DER to DER, and from CER to CER, records may take 3 times what
 # floor takes and 1.1 times the time that the same octets take from BER, of which most are copied too; so may `check`.
